@@ -1,0 +1,35 @@
+-- Dates and times.
+use mathlib.Core.Bool.{Bool, true, false, _&&_, _||_}
+use mathlib.Core.List.{List}
+use Prim.Native.Nat.{ℕ, _%_}
+use lib.Dec.{eqb, leb, ltb}
+use lib.ListN.{length, take, drop}
+use Rattle.classes.specs.Lists.{every}
+use Rattle.classes.specs.Bytes.{between, isDigit}
+use Rattle.numbers.specs.Decimal.{numberOf}
+
+-- "February has 29 days in each year that four divides."
+unfoldable pub leap : ℕ → Bool
+leap year = eqb (year % 4) 0
+
+unfoldable pub daysOf : ℕ → ℕ → ℕ
+daysOf year month = elim (eqb month 2) [
+  | true ↦ elim (leap year) [ true ↦ 29 | false ↦ 28 ]
+  | false ↦ elim (eqb month 4 || (eqb month 6 || (eqb month 9 || eqb month 11))) [ true ↦ 30 | false ↦ 31 ]
+]
+
+-- "Date: eight digits, year 0001 to 9999, month, day"
+unfoldable pub isDate : List ℕ → Bool
+isDate w =
+    let year = numberOf (take 4 w) in
+    let month = numberOf (take 2 (drop 4 w)) in
+    let day = numberOf (drop 6 w) in
+    eqb (length w) 8 && (every isDigit w && (leb 1 year && (between 1 12 month && between 1 (daysOf year month) day)))
+
+-- "Time: six digits, 00 to 23, 00 to 59, 00 to 59."
+unfoldable pub isTime : List ℕ → Bool
+isTime w =
+    let hour = numberOf (take 2 w) in
+    let minute = numberOf (take 2 (drop 2 w)) in
+    let second = numberOf (drop 4 w) in
+    eqb (length w) 6 && (every isDigit w && (leb hour 23 && (leb minute 59 && leb second 59)))

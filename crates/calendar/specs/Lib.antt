@@ -1,0 +1,2 @@
+-- Dates and times.
+pub mod Calendar

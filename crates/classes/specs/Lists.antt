@@ -1,0 +1,36 @@
+-- Questions about a row of bytes.
+use mathlib.Core.Bool.{Bool, true, false, _&&_, _||_}
+use mathlib.Core.List.{List, [], _∷_}
+use Prim.Native.Nat.{ℕ, suc}
+use lib.Dec.{eqb}
+
+-- one of two, by a test
+unfoldable pub pick : {A : Type 0} → Bool → A → A → A
+pick true a b = a
+pick false a b = b
+
+-- all bytes are of the class
+unfoldable pub every : (ℕ → Bool) → List ℕ → Bool
+every f [] = true
+every f (b ∷ l) = f b && every f l
+
+-- some byte is of the class
+unfoldable pub some : (ℕ → Bool) → List ℕ → Bool
+some f [] = false
+some f (b ∷ w) = f b || some f w
+
+unfoldable pub notEmpty : List ℕ → Bool
+notEmpty [] = false
+notEmpty (b ∷ w) = true
+
+-- how many bytes in front are of the class: the length of the "longest row"
+unfoldable pub runOf : (ℕ → Bool) → List ℕ → ℕ
+runOf f [] = 0
+runOf f (b ∷ l) = elim (f b) [ true ↦ suc (runOf f l) | false ↦ 0 ]
+
+-- the same bytes; "Letters' case counts."
+unfoldable pub sameBytes : List ℕ → List ℕ → Bool
+sameBytes [] [] = true
+sameBytes [] (b ∷ l) = false
+sameBytes (a ∷ k) [] = false
+sameBytes (a ∷ k) (b ∷ l) = eqb a b && sameBytes k l

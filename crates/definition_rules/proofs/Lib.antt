@@ -1,0 +1,14 @@
+-- T2, T3
+pub mod FormComplete
+pub mod FormSound
+pub mod FormUnique
+pub mod Stuck
+-- T4, T5, T7
+pub mod TableLaws
+pub mod FirstFault
+-- the steps of number 10
+pub mod FiniteLaws
+-- laws of the scan for code
+pub mod ScanLaws
+-- the index
+pub mod Theorems

@@ -1,0 +1,119 @@
+-- The forms of a definition: what is written, as trees, and the row of tokens that each prints to.
+use mathlib.Core.Path.{_≡_}
+use mathlib.Core.Bool.{Bool, true, false}
+use mathlib.Core.List.{List, [], _∷_, _++_}
+use Prim.Native.Nat.{ℕ, zero, suc, _+_}
+use Rattle.definition_rules.specs.Words.{kwAs, kwPlugin, takesRange, isCompound, isReference}
+use Rattle.definition_rules.specs.Scan.{Token, run, mark}
+
+-- ---- a parameter's heading: type, range, name, cardinality, tag, plugin
+
+pub data MaybeRun : Type 0 where
+  absent : MaybeRun
+  given : List ℕ → MaybeRun
+
+-- "optional `as` followed by a tag run or `?`"
+pub data Tag : Type 0 where
+  ownName tagless : Tag
+  explicit : List ℕ → Tag
+
+-- "field: type, name, optional `[` range `]`, optional `as` .., optional `plugin`";
+-- "int, ascii and unquoted-ascii may have `<` range `>` after the type"
+pub data Heading : Type 0 where
+  heading : List ℕ → MaybeRun → List ℕ → MaybeRun → Tag → Bool → Heading
+
+unfoldable pub typeRun : Heading → List ℕ
+typeRun (heading w g n c t p) = w
+
+unfoldable pub rangeRun : Heading → MaybeRun
+rangeRun (heading w g n c t p) = g
+
+unfoldable pub nameRun : Heading → List ℕ
+nameRun (heading w g n c t p) = n
+
+unfoldable pub cardRun : Heading → MaybeRun
+cardRun (heading w g n c t p) = c
+
+unfoldable pub tagOf : Heading → Tag
+tagOf (heading w g n c t p) = t
+
+unfoldable pub pluginOf : Heading → Bool
+pluginOf (heading w g n c t p) = p
+
+-- its tokens, in front of what follows
+unfoldable pub putRange : MaybeRun → List Token → List Token
+putRange absent r = r
+putRange (given v) r = mark 60 ∷ run v ∷ mark 62 ∷ r
+
+unfoldable pub putCard : MaybeRun → List Token → List Token
+putCard absent r = r
+putCard (given v) r = mark 91 ∷ run v ∷ mark 93 ∷ r
+
+unfoldable pub putTag : Tag → List Token → List Token
+putTag ownName r = r
+putTag tagless r = run kwAs ∷ mark 63 ∷ r
+putTag (explicit v) r = run kwAs ∷ run v ∷ r
+
+unfoldable pub putPlugin : Bool → List Token → List Token
+putPlugin false r = r
+putPlugin true r = run kwPlugin ∷ r
+
+unfoldable pub putHead : Heading → List Token → List Token
+putHead (heading w g n c t p) r = run w ∷ putRange g (run n ∷ putCard c (putTag t (putPlugin p r)))
+
+-- ---- the trees
+
+pub data Sort : Type 0 where
+  parameter fields groups tops : Sort
+
+pub data Form : Sort → Type 0 where
+  plain : Heading → Form parameter
+  compound : Heading → Form fields → Form groups → Form parameter
+  noField : Form fields
+  field : Form parameter → Form fields → Form fields
+  noGroup : Form groups
+  group : Form parameter → Form fields → Form groups → Form groups
+  lastTop : Form parameter → Form tops
+  moreTops : Form parameter → Form tops → Form tops
+
+-- "for struct and union then `{` body `}`, then `;`"
+-- "body: any number of fields, none included, then extension groups, each `[` one or more fields `]`"
+unfoldable pub printForm : {s : Sort} → Form s → List Token → List Token
+printForm (plain h) r = putHead h (mark 59 ∷ r)
+printForm (compound h f g) r = putHead h (mark 123 ∷ printForm f (printForm g (mark 125 ∷ mark 59 ∷ r)))
+printForm noField r = r
+printForm (field x f) r = printForm x (printForm f r)
+printForm noGroup r = r
+printForm (group x f g) r = mark 91 ∷ printForm x (printForm f (mark 93 ∷ printForm g r))
+printForm (lastTop x) r = printForm x r
+printForm (moreTops x t) r = printForm x (printForm t r)
+
+pub data Level : Type 0 where
+  topLevel fieldLevel : Level
+
+unfoldable pub RangeAllowed : List ℕ → MaybeRun → Type 0
+RangeAllowed w absent = Unit {0}
+RangeAllowed w (given v) = takesRange w ≡ true
+
+-- "top: a simple type, a name, `;` or `struct`/`union`, a name, `{` body `}` `;`"
+unfoldable pub HeadAllowed : Level → Heading → Type 0
+HeadAllowed topLevel (heading w g n c t p) = (isReference w ≡ false) × RangeAllowed w g × (c ≡ absent) × (t ≡ ownName) × (p ≡ false)
+HeadAllowed fieldLevel (heading w g n c t p) = RangeAllowed w g
+
+unfoldable pub Allowed : {s : Sort} → Level → Form s → Type 0
+Allowed l (plain h) = HeadAllowed l h × (isCompound (typeRun h) ≡ false)
+Allowed l (compound h f g) = HeadAllowed l h × (isCompound (typeRun h) ≡ true) × Allowed fieldLevel f × Allowed fieldLevel g
+Allowed l noField = Unit {0}
+Allowed l (field x f) = Allowed l x × Allowed l f
+Allowed l noGroup = Unit {0}
+Allowed l (group x f g) = Allowed l x × Allowed l f × Allowed l g
+Allowed l (lastTop x) = Allowed l x
+Allowed l (moreTops x t) = Allowed l x × Allowed l t
+
+-- "A definition is one or more top parameters": a row of tokens fits when some tree prints to it
+abbrev pub Fits : List Token → Type 0
+Fits ts = (d : Form tops) × Allowed topLevel d × (printForm d [] ≡ ts)
+
+-- the beginning of some row that fits
+abbrev pub Viable : List Token → Type 0
+Viable ts = (more : List Token) × Fits (ts ++ more)

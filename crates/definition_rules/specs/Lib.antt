@@ -1,0 +1,12 @@
+-- The definition's text
+pub mod Words
+pub mod Scan
+pub mod Forms
+pub mod Declarations
+-- The compiled table
+pub mod Records
+pub mod Table
+-- Refusals of a definition
+pub mod Finite
+pub mod Faults
+pub mod Compile

@@ -1,0 +1,18 @@
+-- T11, T13: what is read is lawful, what is lawful is read, one reading
+pub mod Inverse
+pub mod Sound
+pub mod Complete
+pub mod Depth
+pub mod Readings
+pub mod Fuel
+-- T16: places
+pub mod Places
+-- T10: tokens
+pub mod Spelling
+pub mod CutLaws
+-- T18: rows
+pub mod RowLaws
+pub mod Spans
+-- the index
+pub mod Promises
+pub mod Compiled

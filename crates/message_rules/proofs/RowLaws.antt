@@ -1,0 +1,89 @@
+-- Laws of the rows: how many, and that parents stand before their children.
+use mathlib.Core.Path.{_≡_, refl, ap, sym, _∙_}
+use mathlib.Core.List.{List, [], _∷_, _++_}
+use Prim.Native.Nat.{ℕ, zero, suc, _+_, _-_, _*_, _≤_, _<_}
+use native.Mathlib.Omega.{arith}
+use lib.ListN.{length, length-append}
+use Rattle.numbers.specs.Limits.{noRow, rowWidth}
+use Rattle.schema.specs.Token.{Token}
+use Rattle.schema.specs.Reading.{Sort, unknownValue, unknownList, value, list, body, items, Tree, unknownWord, unknownString, unknownBraces, unknownPair, unknownLast, unknownMore, leaf, braced, chosenVoid, chosen, chosenInt, last, more, listed, stopped, itemized, noItem, voidItem, listItem, unknownItem, unknownListItem, leavesThen, balancedFrom, count, fieldsOf, InRange, Full, For, Law}
+use Rattle.message_rules.specs.Scan.{Lexeme}
+use Rattle.message_rules.specs.Rows.{Row, width, rowCount, placeOf, rowOver, rowsOf, messageRows, cells}
+
+-- a tree has as many rows as are counted
+pub rows-counted : {s : Sort} (ls : List Lexeme) (t : Tree s) (i n p up : ℕ) → length (rowsOf ls t i n p up) ≡ rowCount t
+unfolding rowsOf rowCount
+rows-counted ls (unknownWord w) i n p up = refl
+rows-counted ls (unknownString w) i n p up = refl
+rows-counted ls (unknownBraces ts) i n p up = refl
+rows-counted ls (unknownPair w v) i n p up = refl
+rows-counted ls (unknownLast v) i n p up = refl
+rows-counted ls (unknownMore v l) i n p up = refl
+rows-counted ls (leaf t) i n p up = refl
+rows-counted ls (braced b) i n p up = ap suc (rows-counted ls b (suc i) (suc n) p n)
+rows-counted ls (chosenVoid q w) i n p up = refl
+rows-counted ls (chosen q w v) i n p up = ap suc (rows-counted ls v (2 + i) (suc n) q n)
+rows-counted ls (chosenInt q w) i n p up = refl
+rows-counted ls (last v) i n p up = rows-counted ls v i n p up
+rows-counted ls (more v l) i n p up = length-append (rowsOf ls v i n p up) (rowsOf ls l (i + suc (width v)) (n + rowCount v) p up) ∙ omega (arith, rows-counted ls v i n p up, rows-counted ls l (i + suc (width v)) (n + rowCount v) p up)
+rows-counted ls (listed q l b) i n p up = length-append (rowsOf ls l i n q up) (rowsOf ls b (i + width l) (n + rowCount l) p up) ∙ omega (arith, rows-counted ls l i n q up, rows-counted ls b (i + width l) (n + rowCount l) p up)
+rows-counted ls stopped i n p up = refl
+rows-counted ls (itemized t) i n p up = rows-counted ls t i n p up
+rows-counted ls noItem i n p up = refl
+rows-counted ls (voidItem q w t) i n p up = ap suc (rows-counted ls t (suc i) (suc n) p up)
+rows-counted ls (listItem q w l t) i n p up = length-append (rowsOf ls l (2 + i) n q up) (rowsOf ls t (2 + i + width l) (n + rowCount l) p up) ∙ omega (arith, rows-counted ls l (2 + i) n q up, rows-counted ls t (2 + i + width l) (n + rowCount l) p up)
+rows-counted ls (unknownItem w t) i n p up = rows-counted ls t (suc i) n p up
+rows-counted ls (unknownListItem w l t) i n p up = rows-counted ls t (2 + i + width l) n p up
+
+-- the row count of a message's reading: one for the root, and the body's
+pub message-counted : (message : List ℕ) (ls : List Lexeme) (t : Tree body) → length (messageRows message ls t) ≡ suc (rowCount t)
+unfolding messageRows
+message-counted message ls t = ap suc (rows-counted ls t 0 1 0 0)
+
+pub cells-counted : (rs : List Row) → length (cells rs) ≡ rowWidth * length rs
+unfolding cells
+cells-counted [] = omega arith
+cells-counted (r ∷ rs) = omega (arith, cells-counted rs)
+
+-- "parents first": rows from the n-th on, each with a parent row before it
+unfoldable pub ParentsFirst : ℕ → List Row → Type 0
+ParentsFirst n [] = Unit {0}
+ParentsFirst n (r ∷ rs) = (r .parent < n) × ParentsFirst (suc n) rs
+
+parents-append : (n : ℕ) (a b : List Row) → ParentsFirst n a → ParentsFirst (n + length a) b → ParentsFirst n (a ++ b)
+unfolding ParentsFirst
+parents-append n [] b h k = let e : n + 0 ≡ n = omega arith in rw e at k
+parents-append n (r ∷ a) b h k = let e : n + suc (length a) ≡ suc n + length a = omega arith in (h .0, parents-append (suc n) a b (h .1) (rw e at k))
+
+pub parents-first : {s : Sort} (ls : List Lexeme) (t : Tree s) (i n p up : ℕ) → up < n → ParentsFirst n (rowsOf ls t i n p up)
+unfolding rowsOf ParentsFirst rowOver
+parents-first ls (unknownWord w) i n p up h = tt
+parents-first ls (unknownString w) i n p up h = tt
+parents-first ls (unknownBraces ts) i n p up h = tt
+parents-first ls (unknownPair w v) i n p up h = tt
+parents-first ls (unknownLast v) i n p up h = tt
+parents-first ls (unknownMore v l) i n p up h = tt
+parents-first ls (leaf t) i n p up h = (h, tt)
+parents-first ls (braced b) i n p up h = (h, parents-first ls b (suc i) (suc n) p n (omega arith))
+parents-first ls (chosenVoid q w) i n p up h = (h, (omega arith, tt))
+parents-first ls (chosen q w v) i n p up h = (h, parents-first ls v (2 + i) (suc n) q n (omega arith))
+parents-first ls (chosenInt q w) i n p up h = (h, (omega arith, tt))
+parents-first ls (last v) i n p up h = parents-first ls v i n p up h
+parents-first ls (more v l) i n p up h =
+    let e = rows-counted ls v i n p up in
+    parents-append n (rowsOf ls v i n p up) (rowsOf ls l (i + suc (width v)) (n + rowCount v) p up) (parents-first ls v i n p up h)
+    (rw e (parents-first ls l (i + suc (width v)) (n + rowCount v) p up (omega arith)))
+parents-first ls (listed q l b) i n p up h =
+    let e = rows-counted ls l i n q up in
+    parents-append n (rowsOf ls l i n q up) (rowsOf ls b (i + width l) (n + rowCount l) p up) (parents-first ls l i n q up h)
+    (rw e (parents-first ls b (i + width l) (n + rowCount l) p up (omega arith)))
+parents-first ls stopped i n p up h = tt
+parents-first ls (itemized t) i n p up h = parents-first ls t i n p up h
+parents-first ls noItem i n p up h = tt
+parents-first ls (voidItem q w t) i n p up h = (h, parents-first ls t (suc i) (suc n) p up (omega arith))
+parents-first ls (listItem q w l t) i n p up h =
+    let e = rows-counted ls l (2 + i) n q up in
+    parents-append n (rowsOf ls l (2 + i) n q up) (rowsOf ls t (2 + i + width l) (n + rowCount l) p up) (parents-first ls l (2 + i) n q up h)
+    (rw e (parents-first ls t (2 + i + width l) (n + rowCount l) p up (omega arith)))
+parents-first ls (unknownItem w t) i n p up h = parents-first ls t (suc i) n p up h
+parents-first ls (unknownListItem w l t) i n p up h = parents-first ls t (2 + i + width l) n p up h

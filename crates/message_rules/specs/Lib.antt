@@ -1,0 +1,7 @@
+-- A message and its lawful reading
+pub mod Scan
+pub mod Rows
+pub mod RowBytes
+-- Refusals of a message
+pub mod Parse
+pub mod Verdict

@@ -1,0 +1,108 @@
+-- The rows of a reading: a function of the tree and of the places of its leaves.
+use mathlib.Core.List.{List, [], _∷_, _++_}
+use Prim.Native.Nat.{ℕ, zero, suc, _+_, _-_}
+use lib.ListN.{length, getD}
+use Rattle.numbers.specs.Limits.{noRow}
+use Rattle.schema.specs.Token.{Token, word, string, equals, comma, opening, closing}
+use Rattle.schema.specs.Reading.{Sort, unknownValue, unknownList, value, list, body, items, Tree, unknownWord, unknownString, unknownBraces, unknownPair, unknownLast, unknownMore, leaf, braced, chosenVoid, chosen, chosenInt, last, more, listed, stopped, itemized, noItem, voidItem, listItem, unknownItem, unknownListItem}
+use Rattle.message_rules.specs.Scan.{Lexeme, lexeme}
+
+-- "Rows, four u32 each ..: parameter, parent row, start, end (end not included)."
+pub record Row : Type 0 where
+  pub parameter : ℕ
+  pub parent : ℕ
+  pub start : ℕ
+  pub end : ℕ
+
+-- how many leaves a tree has
+unfoldable pub width : {s : Sort} → Tree s → ℕ
+width (unknownWord w) = 1
+width (unknownString w) = 1
+width (unknownBraces ts) = length ts + 2
+width (unknownPair w v) = 2 + width v
+width (unknownLast v) = width v
+width (unknownMore v l) = width v + suc (width l)
+width (leaf t) = 1
+width (braced b) = width b + 2
+width (chosenVoid q w) = 1
+width (chosen q w v) = 2 + width v
+width (chosenInt q w) = 1
+width (last v) = width v
+width (more v l) = width v + suc (width l)
+width (listed q l b) = width l + width b
+width stopped = 0
+width (itemized i) = width i
+width noItem = 0
+width (voidItem q w i) = suc (width i)
+width (listItem q w l i) = 2 + (width l + width i)
+width (unknownItem w i) = suc (width i)
+width (unknownListItem w l i) = 2 + (width l + width i)
+
+-- how many rows a tree has
+unfoldable pub rowCount : {s : Sort} → Tree s → ℕ
+rowCount (unknownWord w) = 0
+rowCount (unknownString w) = 0
+rowCount (unknownBraces ts) = 0
+rowCount (unknownPair w v) = 0
+rowCount (unknownLast v) = 0
+rowCount (unknownMore v l) = 0
+rowCount (leaf t) = 1
+rowCount (braced b) = suc (rowCount b)
+rowCount (chosenVoid q w) = 2
+rowCount (chosen q w v) = suc (rowCount v)
+rowCount (chosenInt q w) = 2
+rowCount (last v) = rowCount v
+rowCount (more v l) = rowCount v + rowCount l
+rowCount (listed q l b) = rowCount l + rowCount b
+rowCount stopped = 0
+rowCount (itemized i) = rowCount i
+rowCount noItem = 0
+rowCount (voidItem q w i) = suc (rowCount i)
+rowCount (listItem q w l i) = rowCount l + rowCount i
+rowCount (unknownItem w i) = rowCount i
+rowCount (unknownListItem w l i) = rowCount i
+
+-- where the i-th token starts and ends
+unfoldable pub placeOf : List Lexeme → ℕ → Lexeme
+placeOf ls i = getD ls i (lexeme equals 0 0)
+
+-- a row over n tokens from the i-th on
+unfoldable pub rowOver : List Lexeme → ℕ → ℕ → ℕ → ℕ → Row
+unfolding placeOf
+rowOver ls i n p up = record { parameter = p; parent = up; start = placeOf ls i .start; end = placeOf ls (i + n - 1) .end }
+
+-- "in order of place, parents first": the rows of a tree whose first leaf is the i-th token and whose first row is the n-th;
+-- p is the parameter that a value or list is of, up the row above
+-- "a row for .. each value in a known field's list, each void field's item and each chosen alternative, and no other"
+-- "A struct's span has its braces, .. a union's is its whole choice with a row for the alternative after it."
+unfoldable pub rowsOf : {s : Sort} → List Lexeme → Tree s → ℕ → ℕ → ℕ → ℕ → List Row
+rowsOf ls (unknownWord w) i n p up = []
+rowsOf ls (unknownString w) i n p up = []
+rowsOf ls (unknownBraces ts) i n p up = []
+rowsOf ls (unknownPair w v) i n p up = []
+rowsOf ls (unknownLast v) i n p up = []
+rowsOf ls (unknownMore v l) i n p up = []
+rowsOf ls (leaf t) i n p up = rowOver ls i 1 p up ∷ []
+rowsOf ls (braced b) i n p up = rowOver ls i (width b + 2) p up ∷ rowsOf ls b (suc i) (suc n) p n
+rowsOf ls (chosenVoid q w) i n p up = rowOver ls i 1 p up ∷ rowOver ls i 1 q n ∷ []
+rowsOf ls (chosen q w v) i n p up = rowOver ls i (2 + width v) p up ∷ rowsOf ls v (2 + i) (suc n) q n
+rowsOf ls (chosenInt q w) i n p up = rowOver ls i 1 p up ∷ rowOver ls i 1 q n ∷ []
+rowsOf ls (last v) i n p up = rowsOf ls v i n p up
+rowsOf ls (more v l) i n p up = rowsOf ls v i n p up ++ rowsOf ls l (i + suc (width v)) (n + rowCount v) p up
+rowsOf ls (listed q l b) i n p up = rowsOf ls l i n q up ++ rowsOf ls b (i + width l) (n + rowCount l) p up
+rowsOf ls stopped i n p up = []
+rowsOf ls (itemized t) i n p up = rowsOf ls t i n p up
+rowsOf ls noItem i n p up = []
+rowsOf ls (voidItem q w t) i n p up = rowOver ls i 1 q up ∷ rowsOf ls t (suc i) (suc n) p up
+rowsOf ls (listItem q w l t) i n p up = rowsOf ls l (2 + i) n q up ++ rowsOf ls t (2 + i + width l) (n + rowCount l) p up
+rowsOf ls (unknownItem w t) i n p up = rowsOf ls t (suc i) n p up
+rowsOf ls (unknownListItem w l t) i n p up = rowsOf ls t (2 + i + width l) n p up
+
+-- "The root's row is 0, 4,294,967,295, 0, length."
+unfoldable pub messageRows : List ℕ → List Lexeme → Tree body → List Row
+messageRows message ls t = record { parameter = 0; parent = noRow; start = 0; end = length message } ∷ rowsOf ls t 0 1 0 0
+
+-- the numbers of the rows, one after the other
+unfoldable pub cells : List Row → List ℕ
+cells [] = []
+cells (r ∷ rs) = r .parameter ∷ r .parent ∷ r .start ∷ r .end ∷ cells rs

@@ -1,0 +1,79 @@
+-- What reading a message answers.
+use mathlib.Core.Path.{_≡_}
+use mathlib.Core.Bool.{Bool, true, false, not}
+use mathlib.Core.List.{List, [], _∷_, _++_}
+use Prim.Native.Nat.{ℕ, zero, suc, _+_, _-_, _*_, _≤_}
+use lib.Dec.{eqb, leb}
+use lib.ListN.{length, drop, getD}
+use Rattle.numbers.specs.Limits.{messageLimit, openLimit, rowWidth}
+use Rattle.schema.specs.Token.{Token}
+use Rattle.schema.specs.Record.{Record}
+use Rattle.schema.specs.Schema.{Schema, schemaOf, Found, nowhere, found}
+use Rattle.schema.specs.Reading.{Sort, body, Tree, Lawful, leaves}
+use Rattle.message_rules.specs.Scan.{Lexeme, Spelled, Cut, cut, tokensOf, scanFault, shallow}
+use Rattle.message_rules.specs.Rows.{Row, messageRows, cells}
+use Rattle.message_rules.specs.Parse.{Result, refused, got, parse}
+
+-- "A lawful reading" of a message, without limit of length or depth: the tokens ls that its bytes spell, and a lawful tree
+-- "From left to right its leaves are all the message's tokens, each once. A message with a byte neither blank nor in a token has none."
+pub record LawfulReading (table : List Record) (message : List ℕ) (ls : List Lexeme) (t : Tree body) : Type 0 where
+  pub spelled : Spelled 0 message ls
+  pub lawful : Lawful (schemaOf table) t
+  pub all : leaves t ≡ tokensOf ls
+
+-- the message keeps the two limits: "At most 16,384 bytes", "Braces are at most sixteen deep"
+pub record Within (message : List ℕ) (ls : List Lexeme) : Type 0 where
+  pub short : length message ≤ messageLimit
+  pub flat : shallow openLimit 0 (tokensOf ls) ≡ true
+
+-- before any room is lent: a number and a place, or the rows
+pub data RoomFree : Type 0 where
+  fault : ℕ → ℕ → RoomFree
+  rows : List Row → RoomFree
+
+-- "it, or the length": the place of the first of these tokens
+unfoldable pub startOr : ℕ → List Lexeme → ℕ
+startOr n [] = n
+startOr n (l ∷ ls) = l .start
+
+-- the place where the tokens left begin
+unfoldable pub placeAt : List ℕ → List Lexeme → List Token → ℕ
+placeAt message ls left = startOr (length message) (drop (length ls - length left) ls)
+
+unfoldable pub outcome : List ℕ → List Lexeme → Result (Tree body) → RoomFree
+outcome message ls (refused n left) = fault n (placeAt message ls left)
+outcome message ls (got t left) = rows (messageRows message ls t)
+
+unfoldable pub afterScan : Schema → List ℕ → List Lexeme → Found → RoomFree
+afterScan S message ls (found place) = fault 22 place
+afterScan S message ls nowhere = outcome message ls (parse S openLimit (tokensOf ls))
+
+-- "21, 22 in that order, .., then the leftmost of 23 to 28"
+unfoldable pub roomFree : List Record → List ℕ → RoomFree
+roomFree table message =
+    elim (leb (length message) messageLimit) [
+      | true ↦ afterScan (schemaOf table) message (cut message .lexemes) (scanFault (cut message))
+      | false ↦ fault 21 messageLimit
+    ]
+
+-- "Success gives the row count"; a refusal its number and place
+pub data Answer : Type 0 where
+  accepted : ℕ → Answer
+  refusal : ℕ → ℕ → Answer
+
+-- "29: rows don't fit, rows needed": room is how many numbers are lent
+unfoldable pub withRoom : ℕ → RoomFree → Answer
+withRoom room (fault n place) = refusal n place
+withRoom room (rows rs) = elim (leb (rowWidth * length rs) room) [ true ↦ accepted (length rs) | false ↦ refusal 29 (length rs) ]
+
+-- "First 20, 21, 22 in that order": tableOk says that some definition compiles to the table
+unfoldable pub readAnswer : Bool → List Record → List ℕ → ℕ → Answer
+readAnswer tableOk table message room = elim tableOk [ true ↦ withRoom room (roomFree table message) | false ↦ refusal 20 0 ]
+
+-- "lent numbers beyond those rows stay", "Nothing lent is changed.": the lent numbers afterwards
+unfoldable pub written : List ℕ → RoomFree → List ℕ
+written lent (fault n place) = lent
+written lent (rows rs) = elim (leb (rowWidth * length rs) (length lent)) [ true ↦ cells rs ++ drop (rowWidth * length rs) lent | false ↦ lent ]
+
+unfoldable pub rowsAfter : Bool → List Record → List ℕ → List ℕ → List ℕ
+rowsAfter tableOk table message lent = elim tableOk [ true ↦ written lent (roomFree table message) | false ↦ lent ]

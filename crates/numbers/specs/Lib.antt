@@ -1,0 +1,5 @@
+-- The limits of 01, decimal numbers, ranges, and numbers in bytes.
+pub mod Limits
+pub mod Decimal
+pub mod Range
+pub mod LittleEndian
