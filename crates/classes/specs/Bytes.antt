@@ -1,7 +1,13 @@
 -- The classes of bytes that 01 names.
 use mathlib.Core.Bool.{Bool, not, _&&_, _||_}
-use Prim.Native.Nat.{ℕ}
+use mathlib.Core.List.{List}
+use Prim.Native.Nat.{ℕ, _<_}
 use lib.Dec.{eqb, leb}
+use lib.ListN.{getD}
+
+-- a row of bytes: each number in it is under 256
+abbrev pub IsBytes : List ℕ → Type 0
+IsBytes l = (i : ℕ) → getD l i 0 < 256
 
 -- from low to high, both included
 abbrev pub between : ℕ → ℕ → ℕ → Bool

@@ -78,7 +78,7 @@ Named σ k i ph us h ts = (j : ℕ) × (s : Spots) × (parse σ k i ph us ≡ pa
 
 read-range : (σ : List Frame) (k i y : ℕ) (w : List ℕ) (g : MaybeRun) (n : List ℕ) (ts : List Token) → RangeAllowed w g → Named σ k i (afterType y w) (putRange g (run n ∷ ts)) (heading w g n absent ownName false) ts
 unfolding putRange RangeAllowed parse step allow pick
-read-range σ k i y w absent n ts h = (suc i, spotsOf y 0 i, refl)
+read-range σ k i y w absent n ts h = (suc i, spotsOf y y i, refl)
 read-range σ k i y w (given v) n ts h = (suc (suc (suc (suc i))), spotsOf y (suc i) (suc (suc (suc i))), rw (h, parse))
 
 -- where a parameter may stand

@@ -89,7 +89,7 @@ pub completion : (σ : List Frame) (k i : ℕ) (p : Phase) → (ts : List Token)
 unfolding parse step allow
 completion σ k i atStart = (closing σ, close-start σ k i)
 completion σ k i dueSemicolon = (mark 59 ∷ closing σ, close-start σ k (suc i))
-completion σ k i (afterType y w) = (run anyRun ∷ ending σ k (bareHeading w absent), close-heading σ k (suc i) afterName (spotsOf y 0 i) (bareHeading w absent))
+completion σ k i (afterType y w) = (run anyRun ∷ ending σ k (bareHeading w absent), close-heading σ k (suc i) afterName (spotsOf y y i) (bareHeading w absent))
 completion σ k i (dueRange y w) = (run anyRun ∷ mark 62 ∷ run anyRun ∷ ending σ k (bareHeading w (given anyRun)), close-name σ k (suc (suc i)) y i w (given anyRun))
 completion σ k i (dueRangeEnd y g w v) = (mark 62 ∷ run anyRun ∷ ending σ k (bareHeading w (given v)), close-name σ k (suc i) y g w (given v))
 completion σ k i (dueName y g w x) = (run anyRun ∷ ending σ k (bareHeading w x), close-name σ k i y g w x)

@@ -43,8 +43,8 @@ treeDeclarations d = declare d top false 0 []
 
 -- ---- read off the tokens
 
--- where a declaration's runs stand: numbers of tokens, from 0 at the start.
--- Without a tag run tagAt is the name's: "the later name or tag".
+-- where a declaration's runs stand: numbers of tokens, from 0 at the start. Without a tag run tagAt is the name's,
+-- "the later name or tag"; without a range rangeAt is the type's, and without a cardinality cardAt the name's: no fault has them.
 pub record Spots : Type 0 where
   pub typeAt : ℕ
   pub rangeAt : ℕ
@@ -53,7 +53,7 @@ pub record Spots : Type 0 where
   pub tagAt : ℕ
 
 abbrev pub spotsOf : ℕ → ℕ → ℕ → Spots
-spotsOf y g n = record { typeAt = y; rangeAt = g; nameAt = n; cardAt = 0; tagAt = n }
+spotsOf y g n = record { typeAt = y; rangeAt = g; nameAt = n; cardAt = n; tagAt = n }
 
 abbrev pub cardSpot : ℕ → Spots → Spots
 cardSpot i s = record { typeAt = s .typeAt; rangeAt = s .rangeAt; nameAt = s .nameAt; cardAt = i; tagAt = s .tagAt }
@@ -183,7 +183,7 @@ step σ k i atStart (run w) = startRun σ i w
 step σ k i atStart (mark n) = startMark σ n
 step σ k i dueSemicolon (run w) = stop
 step σ k i dueSemicolon (mark n) = allow (eqb n 59) (move σ atStart)
-step σ k i (afterType y w) (run v) = move σ (inHeading afterName (spotsOf y 0 i) (heading w absent v absent ownName false))
+step σ k i (afterType y w) (run v) = move σ (inHeading afterName (spotsOf y y i) (heading w absent v absent ownName false))
 step σ k i (afterType y w) (mark n) = allow (eqb n 60 && takesRange w) (move σ (dueRange y w))
 step σ k i (dueRange y w) (run v) = move σ (dueRangeEnd y i w v)
 step σ k i (dueRange y w) (mark n) = stop

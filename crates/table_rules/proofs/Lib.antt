@@ -12,6 +12,7 @@ pub mod FaultLaws
 pub mod RuleFacts
 pub mod Made
 pub mod MadeOrder
+pub mod TextBytes
 pub mod RulesText
 -- T8: what a text compiles to obeys the rules
 pub mod TreeOrder

@@ -7,6 +7,8 @@ use native.Mathlib.Omega.{arith}
 use lib.Dec.{leb, eqb}
 use lib.ListN.{length, drop-of-length-le}
 use borrow.Author.Tests.{leb-true, le-ltb}
+use Rattle.classes.specs.Bytes.{IsBytes}
+use Rattle.table_rules.proofs.TextBytes.{all-bytes, printed-bytes}
 use Rattle.numbers.specs.Limits.{textLimit}
 use Rattle.classes.specs.Lists.{every, pick}
 use Rattle.definition_rules.specs.Scan.{itemsOf, tokensOf, placeIf, Token, Item}
@@ -228,9 +230,9 @@ module _ (rs : List Record) (z : Ruled rs) where
       checks-are : checks (printTokens ts) ≡ checksOf (printTokens ts) (spelled 0 ts) (complete ns) ns rs
       checks-are = unfold checks checksFrom checksAfter in (rw (items, spelled-tokens ts 0, e) (unfold notedOf in (rw (d, made-records))))
 
-  pub text-of : (text : List ℕ) × (verdict text ≡ table (encode rs))
-  text-of = (printTokens ts, told-complete (parseTokens ts) ds read (λ ns e d. text-verdict ns e d))
+  pub text-of : (text : List ℕ) × IsBytes text × (verdict text ≡ table (encode rs))
+  text-of = (printTokens ts, all-bytes (printTokens ts) (printed-bytes ts good), told-complete (parseTokens ts) ds read (λ ns e d. text-verdict ns e d))
 
 -- T8, one way: records that the rules allow have a text
-pub rules-text : (limit : ℕ) (rs : List Record) → limit ≤ 256 → recordRules limit rs ≡ true → (text : List ℕ) × (verdict text ≡ table (encode rs))
+pub rules-text : (limit : ℕ) (rs : List Record) → limit ≤ 256 → recordRules limit rs ≡ true → (text : List ℕ) × IsBytes text × (verdict text ≡ table (encode rs))
 rules-text limit rs h e = text-of rs (ruled-of limit rs h e)

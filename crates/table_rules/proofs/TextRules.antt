@@ -7,6 +7,7 @@ use native.Mathlib.Omega.{arith}
 use lib.Dec.{leb, eqb, ltb}
 use lib.ListN.{length, drop, length-drop}
 use borrow.Author.Tests.{eq-eqb, le-leb, leb-true, lt-ltb, not-true}
+use Rattle.classes.specs.Bytes.{IsBytes}
 use Rattle.numbers.specs.Limits.{depthLimit, parameterLimit, countLimit, noLimit, none16}
 use Rattle.classes.specs.Lists.{sameBytes, every, pick, some, notEmpty}
 use Rattle.definition_rules.specs.Words.{numberIf, numberIn, kindOfRun, kindIsCompound, isCompound, isReference, isKeyword, startsWithLetter, nameForm, tagForm, other}
@@ -557,9 +558,9 @@ text-ten text p v = by (outcomeOf text) refl
             (g .0, g .1, g .2, λ z. t (none-spots (isEndless (finites (recordsFor (topNames (declarationsOf ns)) (declarationsOf ns)))) (λ s. s .nameAt) 0 (recordsFor (topNames (declarationsOf ns)) (declarationsOf ns)) ns z))
 
 -- T8, over bytes: a table obeys the rules exactly when some text compiles to it
-pub table-text : (bytes : List ℕ) → All Byte bytes → tableRules parameterLimit bytes ≡ true → (text : List ℕ) × (verdict text ≡ table bytes)
+pub table-text : (bytes : List ℕ) → All Byte bytes → tableRules parameterLimit bytes ≡ true → (text : List ℕ) × IsBytes text × (verdict text ≡ table bytes)
 table-text bytes h e = by (decode bytes) refl (unfold tableRules in e)
   where
-    by : (m : Maybe (List Record)) → decode bytes ≡ m → rulesOf parameterLimit m ≡ true → (text : List ℕ) × (verdict text ≡ table bytes)
+    by : (m : Maybe (List Record)) → decode bytes ≡ m → rulesOf parameterLimit m ≡ true → (text : List ℕ) × IsBytes text × (verdict text ≡ table bytes)
     by none q e = unfold rulesOf in (bool-no e)
-    by (just l) q e = let x = rules-text parameterLimit l (omega arith) (unfold rulesOf in e) in (x .0, x .1 ∙ ap table (encode-decode bytes l h q))
+    by (just l) q e = let x = rules-text parameterLimit l (omega arith) (unfold rulesOf in e) in (x .0, x .1, x .2 ∙ ap table (encode-decode bytes l h q))

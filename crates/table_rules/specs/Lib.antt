@@ -1,1 +1,4 @@
+-- the meaning of number 20
+pub mod Compilable
+-- the rules that are proved to be just that
 pub mod RecordRules
