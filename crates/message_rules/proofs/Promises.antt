@@ -17,7 +17,7 @@ use Rattle.schema.specs.Reading.{Sort, body, Tree, Lawful, leaves}
 use Rattle.message_rules.specs.Scan.{Lexeme, Spelled, Cut, cut, tokensOf, openAfter, isOpening, tooDeep, shallow, either, scanFault}
 use Rattle.message_rules.specs.Rows.{Row, messageRows, cells}
 use Rattle.message_rules.specs.Parse.{Result, refused, got, parse}
-use Rattle.message_rules.specs.Verdict.{LawfulReading, Within, RoomFree, fault, rows, placeAt, outcome, afterScan, roomFree, Answer, accepted, refusal, withRoom, readAnswer, written, rowsAfter}
+use Rattle.message_rules.specs.Verdict.{LawfulReading, Within, RoomFree, fault, rows, placeAt, outcome, afterScan, roomFree, Answer, accepted, refusal, withRoom, written, readWith, rowsWith}
 use Rattle.message_rules.proofs.Readings.{parse-sound, parse-complete, unique}
 use Rattle.message_rules.proofs.Complete.{deep}
 use Rattle.message_rules.proofs.Depth.{tree-shallow}
@@ -105,11 +105,6 @@ fault-stays : (lent : List ℕ) (n place : ℕ) → written lent (fault n place)
 unfolding written
 fault-stays lent n place = refl
 
--- "First 20": a table that no definition compiles to, whatever the message
-pub wrong-table : (table : List Record) (message : List ℕ) (room : ℕ) → readAnswer false table message room ≡ refusal 20 0
-unfolding readAnswer
-wrong-table table message room = refl
-
 module _ (table : List Record) (R : ReadingRules table) where
   long-fault : (message : List ℕ) → messageLimit < length message → roomFree table message ≡ fault 21 messageLimit
   unfolding roomFree
@@ -156,6 +151,10 @@ module _ (table : List Record) (R : ReadingRules table) where
   unfolding scanFault either
   flat-scans ls f = rw (flat-lexemes 0 ls f)
 
+  -- tokens that keep the limits leave the scan no fault
+  pub spelled-clean : (message : List ℕ) (ls : List Lexeme) → Spelled 0 message ls → Within message ls → scanFault (cut message) ≡ nowhere
+  spelled-clean message ls h w = ap scanFault (spelled-is message ls h) ∙ flat-scans ls (w .flat)
+
   scanned-parses : (message : List ℕ) (ls : List Lexeme) (t : Tree body) (r : List Token) → parse (schemaOf table) openLimit (tokensOf ls) ≡ got t r → afterScan (schemaOf table) message ls nowhere ≡ rows (messageRows message ls t)
   unfolding afterScan outcome
   scanned-parses message ls t r e = ap (outcome message ls) e
@@ -199,26 +198,26 @@ module _ (table : List Record) (R : ReadingRules table) where
       go false o = let q : 21 ≡ n = cc in (omega arith, omega arith)
 
   -- T12. A lawful reading within the limits whose rows fit is accepted, with its row count
-  pub lawful-accepted : (message : List ℕ) (ls : List Lexeme) (t : Tree body) → LawfulReading table message ls t → Within message ls → (room : ℕ) → rowWidth * length (messageRows message ls t) ≤ room → readAnswer true table message room ≡ accepted (length (messageRows message ls t))
-  unfolding readAnswer
+  pub lawful-accepted : (message : List ℕ) (ls : List Lexeme) (t : Tree body) → LawfulReading table message ls t → Within message ls → (room : ℕ) → rowWidth * length (messageRows message ls t) ≤ room → readWith table message room ≡ accepted (length (messageRows message ls t))
+  unfolding readWith
   lawful-accepted message ls t l w room m = ap (withRoom room) (lawful-rows message ls t l w) ∙ room-fits room (messageRows message ls t) m
 
   -- T14, one way. A lawful reading within the limits whose rows don't fit is 29 at their count
-  pub lawful-29 : (message : List ℕ) (ls : List Lexeme) (t : Tree body) → LawfulReading table message ls t → Within message ls → (room : ℕ) → room < rowWidth * length (messageRows message ls t) → readAnswer true table message room ≡ refusal 29 (length (messageRows message ls t))
-  unfolding readAnswer
+  pub lawful-29 : (message : List ℕ) (ls : List Lexeme) (t : Tree body) → LawfulReading table message ls t → Within message ls → (room : ℕ) → room < rowWidth * length (messageRows message ls t) → readWith table message room ≡ refusal 29 (length (messageRows message ls t))
+  unfolding readWith
   lawful-29 message ls t l w room m = ap (withRoom room) (lawful-rows message ls t l w) ∙ room-lacks room (messageRows message ls t) m
 
   -- T11. Accepted: there is a lawful reading within the limits, its rows are counted, and they fit
-  pub accepted-lawful : (message : List ℕ) (room k : ℕ) → readAnswer true table message room ≡ accepted k → (ls : List Lexeme) × (t : Tree body) × LawfulReading table message ls t × Within message ls × (k ≡ length (messageRows message ls t)) × (rowWidth * k ≤ room)
-  unfolding readAnswer
+  pub accepted-lawful : (message : List ℕ) (room k : ℕ) → readWith table message room ≡ accepted k → (ls : List Lexeme) × (t : Tree body) × LawfulReading table message ls t × Within message ls × (k ≡ length (messageRows message ls t)) × (rowWidth * k ≤ room)
+  unfolding readWith
   accepted-lawful message room k e = room-accepts room k (roomFree table message) e (λ rs f q m.
       let g = rows-lawful message rs f in
       let n : k ≡ length (messageRows message (g .0) (g .1)) = sym q ∙ ap length (g .4) in
       (g .0, g .1, g .2, g .3, n, omega arith))
 
   -- T14, the other way. 29 at k: there is a lawful reading within the limits with k rows, and they don't fit
-  pub refused-29 : (message : List ℕ) (room k : ℕ) → readAnswer true table message room ≡ refusal 29 k → (ls : List Lexeme) × (t : Tree body) × LawfulReading table message ls t × Within message ls × (k ≡ length (messageRows message ls t)) × (room < rowWidth * k)
-  unfolding readAnswer
+  pub refused-29 : (message : List ℕ) (room k : ℕ) → readWith table message room ≡ refusal 29 k → (ls : List Lexeme) × (t : Tree body) × LawfulReading table message ls t × Within message ls × (k ≡ length (messageRows message ls t)) × (room < rowWidth * k)
+  unfolding readWith
   refused-29 message room k e = room-refuses room 29 k (roomFree table message) e
       (λ f. let g = fault-number message 29 k f in absurd (omega arith))
       (λ rs f q c m.
@@ -227,36 +226,36 @@ module _ (table : List Record) (R : ReadingRules table) where
       (g .0, g .1, g .2, g .3, n, omega arith))
 
   -- any other refusal: no lawful reading of the message keeps the limits, whatever the room
-  pub refused-unlawful : (message : List ℕ) (room n place : ℕ) → readAnswer true table message room ≡ refusal n place → n < 29 → (ls : List Lexeme) (t : Tree body) → LawfulReading table message ls t → Within message ls → ⊥
-  unfolding readAnswer
+  pub refused-unlawful : (message : List ℕ) (room n place : ℕ) → readWith table message room ≡ refusal n place → n < 29 → (ls : List Lexeme) (t : Tree body) → LawfulReading table message ls t → Within message ls → ⊥
+  unfolding readWith
   refused-unlawful message room n place e m ls t l w = room-refuses room n place (roomFree table message) e
       (λ f. fault-unlawful message n place f ls t l w)
       (λ rs f q c k. omega arith)
 
   -- T16. A refusal's number is one of 21 to 29
-  pub refusal-number : (message : List ℕ) (room n place : ℕ) → readAnswer true table message room ≡ refusal n place → (21 ≤ n) × (n ≤ 29)
-  unfolding readAnswer
+  pub refusal-number : (message : List ℕ) (room n place : ℕ) → readWith table message room ≡ refusal n place → (21 ≤ n) × (n ≤ 29)
+  unfolding readWith
   refusal-number message room n place e = room-refuses room n place (roomFree table message) e
       (λ f. let g = fault-number message n place f in (omega arith, omega arith))
       (λ rs f q c k. (omega arith, omega arith))
 
   -- 21 exactly when the message is over 16,384 bytes
-  pub long-21 : (message : List ℕ) (room : ℕ) → messageLimit < length message → readAnswer true table message room ≡ refusal 21 messageLimit
-  unfolding readAnswer
+  pub long-21 : (message : List ℕ) (room : ℕ) → messageLimit < length message → readWith table message room ≡ refusal 21 messageLimit
+  unfolding readWith
   long-21 message room m = ap (withRoom room) (long-fault message m) ∙ fault-shown room 21 messageLimit
 
   -- 22 exactly where the scan of a message of lawful length finds a fault
-  pub fault-22 : (message : List ℕ) (room place : ℕ) → length message ≤ messageLimit → scanFault (cut message) ≡ found place → readAnswer true table message room ≡ refusal 22 place
-  unfolding readAnswer
+  pub fault-22 : (message : List ℕ) (room place : ℕ) → length message ≤ messageLimit → scanFault (cut message) ≡ found place → readWith table message room ≡ refusal 22 place
+  unfolding readWith
   fault-22 message room place m f = ap (withRoom room) (short-scans message m ∙ (ap (afterScan (schemaOf table) message (cut message .lexemes)) f ∙ scan-shown message place)) ∙ fault-shown room 22 place
 
   -- T17. Accepted: the rows' numbers, then what lay beyond them; refused: what was lent
-  pub accepted-written : (message : List ℕ) (ls : List Lexeme) (t : Tree body) → LawfulReading table message ls t → Within message ls → (lent : List ℕ) → rowWidth * length (messageRows message ls t) ≤ length lent → rowsAfter true table message lent ≡ cells (messageRows message ls t) ++ drop (rowWidth * length (messageRows message ls t)) lent
-  unfolding rowsAfter
+  pub accepted-written : (message : List ℕ) (ls : List Lexeme) (t : Tree body) → LawfulReading table message ls t → Within message ls → (lent : List ℕ) → rowWidth * length (messageRows message ls t) ≤ length lent → rowsWith table message lent ≡ cells (messageRows message ls t) ++ drop (rowWidth * length (messageRows message ls t)) lent
+  unfolding rowsWith
   accepted-written message ls t l w lent m = ap (written lent) (lawful-rows message ls t l w) ∙ room-written lent (messageRows message ls t) m
 
-  pub refused-unchanged : (message lent : List ℕ) (n place : ℕ) → readAnswer true table message (length lent) ≡ refusal n place → rowsAfter true table message lent ≡ lent
-  unfolding readAnswer rowsAfter
+  pub refused-unchanged : (message lent : List ℕ) (n place : ℕ) → readWith table message (length lent) ≡ refusal n place → rowsWith table message lent ≡ lent
+  unfolding readWith rowsWith
   refused-unchanged message lent n place e = room-refuses (length lent) n place (roomFree table message) e
       (λ f. ap (written lent) f ∙ fault-stays lent n place)
       (λ rs f q c k. ap (written lent) f ∙ room-stays lent rs k)
@@ -297,8 +296,8 @@ module _ (table : List Record) (R : ReadingRules table) where
       let s = either-none (tooDeep 0 (cut message .lexemes)) (cut message .bad) f in
       fine-number (body-fine (schemaOf table) (well-formed table R) openLimit (suc openLimit) 0 false 0 (tokensOf (cut message .lexemes)) (omega arith) (omega arith) (flat-tokens 0 (cut message .lexemes) (s .0))) n left e
 
-  pub refused-21 : (message : List ℕ) (room place : ℕ) → readAnswer true table message room ≡ refusal 21 place → (messageLimit < length message) × (place ≡ messageLimit)
-  unfolding readAnswer
+  pub refused-21 : (message : List ℕ) (room place : ℕ) → readWith table message room ≡ refusal 21 place → (messageLimit < length message) × (place ≡ messageLimit)
+  unfolding readWith
   refused-21 message room place e = room-refuses room 21 place (roomFree table message) e
       (λ f. fault-cases message 21 place f
       (λ m a b. (m, b))
@@ -306,8 +305,8 @@ module _ (table : List Record) (R : ReadingRules table) where
       (λ m a left b c. let g = parsed-number message 21 left a b in absurd (omega arith)))
       (λ rs f q c k. absurd (omega arith))
 
-  pub refused-22 : (message : List ℕ) (room place : ℕ) → readAnswer true table message room ≡ refusal 22 place → (length message ≤ messageLimit) × (scanFault (cut message) ≡ found place)
-  unfolding readAnswer
+  pub refused-22 : (message : List ℕ) (room place : ℕ) → readWith table message room ≡ refusal 22 place → (length message ≤ messageLimit) × (scanFault (cut message) ≡ found place)
+  unfolding readWith
   refused-22 message room place e = room-refuses room 22 place (roomFree table message) e
       (λ f. fault-cases message 22 place f
       (λ m a b. absurd (omega arith))

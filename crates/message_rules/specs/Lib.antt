@@ -5,3 +5,4 @@ pub mod RowBytes
 -- Refusals of a message
 pub mod Parse
 pub mod Verdict
+pub mod Promise

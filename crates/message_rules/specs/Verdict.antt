@@ -5,11 +5,13 @@ use mathlib.Core.List.{List, [], _∷_, _++_}
 use Prim.Native.Nat.{ℕ, zero, suc, _+_, _-_, _*_, _≤_}
 use lib.Dec.{eqb, leb}
 use lib.ListN.{length, drop, getD}
-use Rattle.numbers.specs.Limits.{messageLimit, openLimit, rowWidth}
+use Rattle.numbers.specs.Limits.{parameterLimit, messageLimit, openLimit, rowWidth}
 use Rattle.schema.specs.Token.{Token}
 use Rattle.schema.specs.Record.{Record}
 use Rattle.schema.specs.Schema.{Schema, schemaOf, Found, nowhere, found}
 use Rattle.schema.specs.Reading.{Sort, body, Tree, Lawful, leaves}
+use Rattle.definition_rules.specs.Table.{Maybe, none, just, decode}
+use Rattle.table_rules.specs.RecordRules.{tableRules}
 use Rattle.message_rules.specs.Scan.{Lexeme, Spelled, Cut, cut, tokensOf, scanFault, shallow}
 use Rattle.message_rules.specs.Rows.{Row, messageRows, cells}
 use Rattle.message_rules.specs.Parse.{Result, refused, got, parse}
@@ -66,14 +68,29 @@ unfoldable pub withRoom : ℕ → RoomFree → Answer
 withRoom room (fault n place) = refusal n place
 withRoom room (rows rs) = elim (leb (rowWidth * length rs) room) [ true ↦ accepted (length rs) | false ↦ refusal 29 (length rs) ]
 
--- "First 20, 21, 22 in that order": tableOk says that some definition compiles to the table
-unfoldable pub readAnswer : Bool → List Record → List ℕ → ℕ → Answer
-readAnswer tableOk table message room = elim tableOk [ true ↦ withRoom room (roomFree table message) | false ↦ refusal 20 0 ]
-
 -- "lent numbers beyond those rows stay", "Nothing lent is changed.": the lent numbers afterwards
 unfoldable pub written : List ℕ → RoomFree → List ℕ
 written lent (fault n place) = lent
 written lent (rows rs) = elim (leb (rowWidth * length rs) (length lent)) [ true ↦ cells rs ++ drop (rowWidth * length rs) lent | false ↦ lent ]
 
-unfoldable pub rowsAfter : Bool → List Record → List ℕ → List ℕ → List ℕ
-rowsAfter tableOk table message lent = elim tableOk [ true ↦ written lent (roomFree table message) | false ↦ lent ]
+-- reading with the records of a table, number 20 apart
+unfoldable pub readWith : List Record → List ℕ → ℕ → Answer
+readWith records message room = withRoom room (roomFree records message)
+
+unfoldable pub rowsWith : List Record → List ℕ → List ℕ → List ℕ
+rowsWith records message lent = written lent (roomFree records message)
+
+-- the records of a table's bytes
+unfoldable pub orNone : Maybe (List Record) → List Record
+orNone none = []
+orNone (just rs) = rs
+
+unfoldable pub recordsIn : List ℕ → List Record
+recordsIn table = orNone (decode table)
+
+-- "First 20, 21, 22 in that order". The record rules hold exactly when some definition compiles to the table (`rules-iff`).
+unfoldable pub readAnswer : List ℕ → List ℕ → ℕ → Answer
+readAnswer table message room = elim (tableRules parameterLimit table) [ true ↦ readWith (recordsIn table) message room | false ↦ refusal 20 0 ]
+
+unfoldable pub rowsAfter : List ℕ → List ℕ → List ℕ → List ℕ
+rowsAfter table message lent = elim (tableRules parameterLimit table) [ true ↦ rowsWith (recordsIn table) message lent | false ↦ lent ]
