@@ -19,16 +19,13 @@ use Rattle.schema.proofs.Rules.{tag-found}
 use Rattle.schema.specs.Reading.{Sort, value, list, body, items, Tree, leaf, braced, chosenVoid, chosen, chosenInt, last, more, listed, stopped, itemized, noItem, voidItem, listItem, leavesThen, leaves, count, fieldsOf, InRange, Law}
 use Rattle.definition_rules.specs.Words.{tagForm, hasDot}
 use Rattle.definition_rules.specs.Faults.{voidTop, pluginUndotted}
+use Rattle.table_rules.specs.Values.{areTokens}
 use Rattle.table_rules.specs.RecordRules.{showsName, labelFine}
 use Rattle.table_rules.proofs.RuleFacts.{Fine, flag-of}
 use Rattle.table_rules.proofs.Facts.{Formed, and-off, or-none, fine-at, seven-at, apart, untagged-is, tagged-is, bare-at, kind-union}
 use Rattle.table_rules.proofs.Steps.{where-in, in-where, where-once, put, cut, requiredOf, required, needs, Step, ClosedSet, field-at}
 use Rattle.table_rules.proofs.Needed.{required-le, required-is, is-required, first-in, kind-is, target-at}
 use Rattle.table_rules.proofs.Words.{tag-token, int-value, simple-value}
-
-unfoldable pub areTokens : List Token → Bool
-areTokens [] = true
-areTokens (t ∷ r) = isToken t && areTokens r
 
 -- the leaves are tokens, before tokens
 abbrev pub Real : {s : Sort} → Tree s → Type 0

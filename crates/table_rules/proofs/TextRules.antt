@@ -229,7 +229,7 @@ unfolding kindsOfRecords recordsFor kindsOf recordFor kindOf
 kinds-records T [] = refl
 kinds-records T (declaration u e (heading w g n c t p) ∷ ds) = ap (λ q. kindOfRun w ∷ q) (kinds-records T ds)
 
-length-records : (T : List MaybeRun) (ds : List Declaration) → length (recordsFor T ds) ≡ length ds
+pub length-records : (T : List MaybeRun) (ds : List Declaration) → length (recordsFor T ds) ≡ length ds
 unfolding recordsFor
 length-records T [] = refl
 length-records T (d ∷ ds) = ap suc (length-records T ds)
@@ -376,7 +376,7 @@ stand-items items ns e two =
     let t = stand-tree (f .0 .0) [] 0 (unfold Desc in tt) (unfold closedTo in refl) (f .0 .1) s in
     (subst (λ q. Stand [] 0 q) (f .1) t, subst (λ q. 1 ≤ length q) (f .1) (some-tops (f .0 .0)))
 
-noted-length : (ns : List Noted) → length ns ≡ length (declarationsOf ns)
+pub noted-length : (ns : List Noted) → length ns ≡ length (declarationsOf ns)
 unfolding declarationsOf
 noted-length [] = refl
 noted-length (noted s d ∷ ns) = ap suc (noted-length ns)
@@ -461,7 +461,7 @@ module _ (items : List Item) (ns : List Noted) (e : parseTokens (tokensOf items)
 
 -- ---- number 10 is given: what the other checks leave
 
-pass : (n m p : ℕ) (ps : List ℕ) (cs : List Check) → firstFault (check n ps ∷ cs) ≡ fault m p → (n ≡ m → ⊥) → (ps ≡ []) × (firstFault cs ≡ fault m p)
+pub pass : (n m p : ℕ) (ps : List ℕ) (cs : List Check) → firstFault (check n ps ∷ cs) ≡ fault m p → (n ≡ m → ⊥) → (ps ≡ []) × (firstFault cs ≡ fault m p)
 unfolding firstFault findingOf
 pass n m p [] cs e f = (refl, e)
 pass n m p (q ∷ r) cs e f = let x : n ≡ m = cc in absurd (f x)
@@ -526,6 +526,25 @@ unfolding noneBroken recordSpots placeIf
 none-spots f at i [] ns e = refl
 none-spots f at i (r ∷ rs) [] e = refl
 none-spots f at i (r ∷ rs) (noted s d ∷ ns) e = let x = and-both (not (f i r)) (noneBroken f (suc i) rs) e in rw (not-true (f i r) (x .0)) (none-spots f at (suc i) rs ns (x .1))
+
+-- the records of a text that compiles keep the rules
+pub text-rules-records : (text bytes : List ℕ) → verdict text ≡ table bytes → recordRules parameterLimit (recordsOfText text) ≡ true
+text-rules-records text bytes v = by (outcomeOf text) refl
+  where
+    emptied : (o : Outcome (List Noted)) → outcomeOf text ≡ o → AllEmpty (checksOf text (itemsOf text) o (notedOf o) (recordsOf (declarationsOf (notedOf o))))
+    emptied o e = subst (λ q. AllEmpty (checksOf text (itemsOf text) q (notedOf q) (recordsOf (declarationsOf (notedOf q))))) e (unfold checks checksFrom checksAfter in (table-clean text bytes v .0))
+
+    by : (o : Outcome (List Noted)) → outcomeOf text ≡ o → recordRules parameterLimit (recordsOfText text) ≡ true
+    by (stuckAt i) e = absurd (stuck-some i (cleared text (itemsOf text) (stuckAt i) (notedOf (stuckAt i)) (recordsOf (declarationsOf (notedOf (stuckAt i)))) (emptied (stuckAt i) e) .1))
+    by (complete ns) e = finish (cleared text (itemsOf text) (complete ns) ns (recordsOf (declarationsOf ns)) (unfold notedOf in (emptied (complete ns) e)))
+      where
+        records-are : recordsOfText text ≡ recordsFor (topNames (declarationsOf ns)) (declarationsOf ns)
+        records-are = rw e (unfold notedOf recordsOf in refl)
+
+        finish : Cleared (itemsOf text) ns (recordsOf (declarationsOf ns)) × (faults3 (complete ns) ≡ []) × (faults10 (recordsOf (declarationsOf ns)) ns ≡ []) → recordRules parameterLimit (recordsOfText text) ≡ true
+        finish c =
+            let t : faults10 (recordsFor (topNames (declarationsOf ns)) (declarationsOf ns)) ns ≡ [] = unfold recordsOf in (c .2) in
+            rw records-are (rules-hold (itemsOf text) ns e (c .0) t)
 
 -- a text refused with 10: its records keep the rules that values rest on, and some struct or union is endless
 abbrev pub TenLeft : List Record → Type 0

@@ -16,6 +16,7 @@ use Rattle.schema.specs.Reading.{value, body, Tree, leaf, braced, chosenVoid, c
 use Rattle.definition_rules.specs.Words.{kindIsCompound}
 use Rattle.definition_rules.specs.Faults.{isUnionAt, voidMany, rule7Broken, tagRepeated, rootNoStruct}
 use Rattle.definition_rules.specs.Finite.{finites, isEndless}
+use Rattle.table_rules.specs.Values.{areTokens, LawfulValue}
 use Rattle.table_rules.specs.RecordRules.{ordered, kindsOfRecords, recordFine, everyRecord, noneBroken, shownNames, allNew, recordChecks, recordRules}
 use Rattle.definition_rules.specs.Table.{Maybe, just, decode}
 use Rattle.definition_rules.specs.Compile.{table, verdict}
@@ -23,11 +24,7 @@ use Rattle.table_rules.proofs.Facts.{Formed, rules-formed, none-of, and
 use Rattle.table_rules.proofs.Theorems.{text-records}
 use Rattle.table_rules.proofs.Steps.{finite-closed, finite-least}
 use Rattle.table_rules.proofs.Read.{value-in}
-use Rattle.table_rules.proofs.Make.{areTokens, Real, Have, none, some, have-closed}
-
--- a lawful value of parameter p whose leaves are tokens
-abbrev pub Value : List Record → ℕ → Type 0
-Value rs p = (t : Tree value) × Law (schemaOf rs) p t × (areTokens (leaves t) ≡ true)
+use Rattle.table_rules.proofs.Make.{Real, Have, none, some, have-closed}
 
 no-void : (rs : List Record) (p : ℕ) → isVoid (schemaOf rs .kind p) ≡ true → recordAt rs p .kind ≡ 1
 unfolding schemaOf isVoid kindOf
@@ -40,13 +37,13 @@ no-void rs p e = go (eqb (recordAt rs p .kind) 1) (eqb (recordAt rs p .kind) 8) 
     go false false false true x y = clash-bool y
     go false false false false x y = clash-bool y
 
-made : (rs : List Record) (p : ℕ) → (recordAt rs p .kind ≡ 1 → ⊥) → Have rs p → Value rs p
+made : (rs : List Record) (p : ℕ) → (recordAt rs p .kind ≡ 1 → ⊥) → Have rs p → LawfulValue rs p
 unfolding areTokens
 made rs p n (none v) = absurd (n (no-void rs p v))
 made rs p n (some t v l a) = (t, l, a [] refl)
 
 -- T6. Every parameter but a void one
-pub finite-value : (rs : List Record) → Formed rs → (p : ℕ) → p < length rs → (recordAt rs p .kind ≡ 1 → ⊥) → (getD (finites rs) p false ≡ true) ↔ Value rs p
+pub finite-value : (rs : List Record) → Formed rs → (p : ℕ) → p < length rs → (recordAt rs p .kind ≡ 1 → ⊥) → (getD (finites rs) p false ≡ true) ↔ LawfulValue rs p
 finite-value rs F p h n = ((λ e. made rs p n (finite-least rs F (Have rs) (have-closed rs F) p e)), (λ v. value-in rs F (λ q. getD (finites rs) q false ≡ true) (finite-closed rs F) p (v .0) h (v .1)))
 
 compound-some : (k : ℕ) → kindIsCompound k ≡ true → k ≡ 1 → ⊥
@@ -54,7 +51,7 @@ unfolding kindIsCompound
 compound-some k e o = and-both (leb 8 k) (leb k 9) e (λ a b. let z = leb-true 8 k a in omega arith)
 
 -- .. each struct and union
-pub compound-value : (rs : List Record) → Formed rs → (p : ℕ) → p < length rs → kindIsCompound (recordAt rs p .kind) ≡ true → (getD (finites rs) p false ≡ true) ↔ Value rs p
+pub compound-value : (rs : List Record) → Formed rs → (p : ℕ) → p < length rs → kindIsCompound (recordAt rs p .kind) ≡ true → (getD (finites rs) p false ≡ true) ↔ LawfulValue rs p
 compound-value rs F p h e = finite-value rs F p h (compound-some (recordAt rs p .kind) e)
 
 -- a lawful value needs no look at its leaves
@@ -62,14 +59,14 @@ pub value-finite : (rs : List Record) → Formed rs → (p : ℕ) → p < length
 value-finite rs F p h t l = value-in rs F (λ q. getD (finites rs) q false ≡ true) (finite-closed rs F) p t h l
 
 -- "a struct or union with no finite value"
-pub endless-iff : (rs : List Record) → Formed rs → (p : ℕ) → p < length rs → (isEndless (finites rs) p (recordAt rs p) ≡ true) ↔ ((kindIsCompound (recordAt rs p .kind) ≡ true) × (Value rs p → ⊥))
+pub endless-iff : (rs : List Record) → Formed rs → (p : ℕ) → p < length rs → (isEndless (finites rs) p (recordAt rs p) ≡ true) ↔ ((kindIsCompound (recordAt rs p .kind) ≡ true) × (LawfulValue rs p → ⊥))
 unfolding isEndless
 endless-iff rs F p h = (
   (λ e. and-both (kindIsCompound (recordAt rs p .kind)) (not (getD (finites rs) p false)) e (λ a b. (a, λ v. clash-bool (sym (not-true (getD (finites rs) p false) b) ∙ compound-value rs F p h a .1 v)))),
   λ x. rw (x .0) (by (getD (finites rs) p false) refl (x .0) (x .1)),
 )
   where
-    by : (b : Bool) → getD (finites rs) p false ≡ b → kindIsCompound (recordAt rs p .kind) ≡ true → (Value rs p → ⊥) → not b ≡ true
+    by : (b : Bool) → getD (finites rs) p false ≡ b → kindIsCompound (recordAt rs p .kind) ≡ true → (LawfulValue rs p → ⊥) → not b ≡ true
     by true e a f = absurd (f (compound-value rs F p h a .0 e))
     by false e a f = refl
 
@@ -127,7 +124,7 @@ rules-last limit rs e =
     and-both (noneBroken rootNoStruct 0 rs) _ e8 (λ a9 e9. (leb-true 1 (length rs) a1, a9, e9))))))))))
 
 -- each of its structs and unions has a value
-pub rules-values : (limit : ℕ) (rs : List Record) → recordRules limit rs ≡ true → (p : ℕ) → p < length rs → kindIsCompound (recordAt rs p .kind) ≡ true → Value rs p
+pub rules-values : (limit : ℕ) (rs : List Record) → recordRules limit rs ≡ true → (p : ℕ) → p < length rs → kindIsCompound (recordAt rs p .kind) ≡ true → LawfulValue rs p
 unfolding isEndless
 rules-values limit rs e p h k =
     let x = none-of (isEndless (finites rs)) rs (rules-last limit rs e .2) p h in
@@ -155,5 +152,5 @@ rules-root limit rs e =
     let s = root-struct rs k in
     root-body (schemaOf rs) (s .0) (s .1) (v .0) (v .1) (v .2)
 
-pub text-values : (text bytes : List ℕ) → verdict text ≡ table bytes → (rs : List Record) × (decode bytes ≡ just rs) × ((p : ℕ) → p < length rs → kindIsCompound (recordAt rs p .kind) ≡ true → Value rs p)
+pub text-values : (text bytes : List ℕ) → verdict text ≡ table bytes → (rs : List Record) × (decode bytes ≡ just rs) × ((p : ℕ) → p < length rs → kindIsCompound (recordAt rs p .kind) ≡ true → LawfulValue rs p)
 text-values text bytes v = let x = text-records text bytes v in (x .0, x .1, rules-values parameterLimit (x .0) (x .2))

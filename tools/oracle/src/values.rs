@@ -1,0 +1,72 @@
+//! Whether a token is a value of a simple type.
+
+use crate::record::{Record, ASCII, BOOL, DATE, INT, TIME, UNQUOTED_ASCII};
+use crate::text::number;
+use crate::tokens::Shape;
+
+/// Whether the token, its bytes with any quotes, is a value of the record's simple type.
+pub fn fits(record: &Record, shape: Shape, bytes: &[u8]) -> bool {
+    match (record.kind, shape) {
+        // "Ascii: a string, length without quotes."
+        (ASCII, Shape::String) => length_fits(record, bytes.len() - 2),
+        // "Unquoted-ascii: a word."
+        (UNQUOTED_ASCII, Shape::Word) => length_fits(record, bytes.len()),
+        // "Int: a word, digits without leading zero, `-` before all but 0."
+        (INT, Shape::Word) => number(bytes).is_some_and(|value| in_range(record, value)),
+        // "Bool: `true`, `false`."
+        (BOOL, Shape::Word) => matches!(bytes, b"true" | b"false"),
+        (DATE, Shape::Word) => is_date(bytes),
+        (TIME, Shape::Word) => is_time(bytes),
+        _ => false,
+    }
+}
+
+/// "Ints and lengths lie in the type's range."
+fn in_range(record: &Record, value: i64) -> bool {
+    (i64::from(record.lo)..=i64::from(record.hi)).contains(&value)
+}
+
+fn length_fits(record: &Record, length: usize) -> bool {
+    i64::try_from(length).is_ok_and(|length| in_range(record, length))
+}
+
+/// The number that these digits write, leading zeros included.
+fn digits(bytes: &[u8]) -> u32 {
+    bytes
+        .iter()
+        .fold(0, |value, digit| value * 10 + u32::from(digit - b'0'))
+}
+
+/// "Date: eight digits, year 0001 to 9999, month, day".
+fn is_date(bytes: &[u8]) -> bool {
+    if bytes.len() != 8 || !bytes.iter().all(u8::is_ascii_digit) {
+        return false;
+    }
+    let (year, month, day) = (
+        digits(&bytes[..4]),
+        digits(&bytes[4..6]),
+        digits(&bytes[6..]),
+    );
+    year >= 1 && (1..=days(year, month)).contains(&day)
+}
+
+/// The days of a month, none for a month that isn't. "February has 29 days in each year that
+/// four divides."
+fn days(year: u32, month: u32) -> u32 {
+    match month {
+        2 if year.is_multiple_of(4) => 29,
+        2 => 28,
+        4 | 6 | 9 | 11 => 30,
+        1..=12 => 31,
+        _ => 0,
+    }
+}
+
+/// "Time: six digits, 00 to 23, 00 to 59, 00 to 59."
+fn is_time(bytes: &[u8]) -> bool {
+    bytes.len() == 6
+        && bytes.iter().all(u8::is_ascii_digit)
+        && digits(&bytes[..2]) <= 23
+        && digits(&bytes[2..4]) <= 59
+        && digits(&bytes[4..]) <= 59
+}
