@@ -13,6 +13,7 @@ pub mod CutLaws
 -- T18: rows
 pub mod RowLaws
 pub mod Spans
+pub mod Nest
 -- the index
 pub mod Promises
 pub mod Compiled

@@ -70,10 +70,10 @@ module _ (ls : List Lexeme) (at end : ℕ) (o : Ordered at ls end) (s e : ℕ) w
     pub above : (j : ℕ) → i ≤ j → j < i + n → s ≤ placeOf ls j .start
     pub below : (j : ℕ) → i ≤ j → j < i + n → placeOf ls j .end ≤ e
 
-  part : (i n k m : ℕ) → Covers i n → i ≤ k → k + m ≤ i + n → Covers k m
+  pub part : (i n k m : ℕ) → Covers i n → i ≤ k → k + m ≤ i + n → Covers k m
   part i n k m c a b = record { there = omega (arith, c .there); above = λ j x y. c .above j (omega arith) (omega arith); below = λ j x y. c .below j (omega arith) (omega arith) }
 
-  row-inside : (i n p up : ℕ) → 1 ≤ n → Covers i n → (s ≤ rowOver ls i n p up .start) × (rowOver ls i n p up .start ≤ rowOver ls i n p up .end) × (rowOver ls i n p up .end ≤ e)
+  pub row-inside : (i n p up : ℕ) → 1 ≤ n → Covers i n → (s ≤ rowOver ls i n p up .start) × (rowOver ls i n p up .start ≤ rowOver ls i n p up .end) × (rowOver ls i n p up .end ≤ e)
   unfolding rowOver placeOf
   row-inside i n p up m c =
       let there : i + n ≤ length ls = c .there in
@@ -118,7 +118,7 @@ module _ (ls : List Lexeme) (at end : ℕ) (o : Ordered at ls end) (s e : ℕ) w
   rows-inside (unknownItem w t) i n p up c = rows-inside t (suc i) n p up (part i (suc (width t)) (suc i) (width t) c (omega arith) (omega arith))
   rows-inside (unknownListItem w l t) i n p up c = rows-inside t (2 + i + width l) n p up (part i (2 + (width l + width t)) (2 + i + width l) (width t) c (omega arith) (omega arith))
 
-tokens-length : (ls : List Lexeme) → length (tokensOf ls) ≡ length ls
+pub tokens-length : (ls : List Lexeme) → length (tokensOf ls) ≡ length ls
 unfolding tokensOf
 tokens-length [] = refl
 tokens-length (l ∷ ls) = ap suc (tokens-length ls)
