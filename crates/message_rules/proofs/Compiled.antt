@@ -26,7 +26,7 @@ use Rattle.message_rules.proofs.Spelling.{spelled-once}
 use Rattle.message_rules.proofs.Promises.{one-reading, lawful-accepted, lawful-29, accepted-lawful, refused-29, refused-unlawful, refusal-number, accepted-written, refused-unchanged, refused-21, refused-22, spelled-clean}
 
 -- the records of a table that keeps the rules keep what a reading rests on
-table-reading : (table : List ℕ) → tableRules parameterLimit table ≡ true → ReadingRules (recordsIn table)
+pub table-reading : (table : List ℕ) → tableRules parameterLimit table ≡ true → ReadingRules (recordsIn table)
 unfolding recordsIn orNone
 table-reading table e =
     let x = bytes-records table e in
@@ -34,7 +34,7 @@ table-reading table e =
     rw q (reading-rules (x .0) (rules-formed parameterLimit (x .0) (x .2)))
 
 -- the two sides of number 20
-good-answer : (table message : List ℕ) (room : ℕ) → tableRules parameterLimit table ≡ true → readAnswer table message room ≡ readWith (recordsIn table) message room
+pub good-answer : (table message : List ℕ) (room : ℕ) → tableRules parameterLimit table ≡ true → readAnswer table message room ≡ readWith (recordsIn table) message room
 unfolding readAnswer
 good-answer table message room e = rw (e, readAnswer)
 

@@ -14,6 +14,8 @@ pub mod CutLaws
 pub mod RowLaws
 pub mod Spans
 pub mod Nest
--- the index
+-- T9, T11 to T14, T17
 pub mod Promises
 pub mod Compiled
+-- the index
+pub mod Theorems

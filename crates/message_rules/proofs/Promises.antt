@@ -313,3 +313,21 @@ module _ (table : List Record) (R : ReadingRules table) where
       (λ m a b. (m, a))
       (λ m a left b c. let g = parsed-number message 22 left a b in absurd (omega arith)))
       (λ rs f q c k. absurd (omega arith))
+
+  -- 23 to 28 exactly where the parser refuses, at the first token that it leaves
+  pub refused-parse : (message : List ℕ) (room n place : ℕ) → 23 ≤ n → n ≤ 28 → readWith table message room ≡ refusal n place → (length message ≤ messageLimit) × (scanFault (cut message) ≡ nowhere) × ((left : List Token) × (parse (schemaOf table) openLimit (tokensOf (cut message .lexemes)) ≡ refused n left) × (place ≡ placeAt message (cut message .lexemes) left))
+  unfolding readWith
+  refused-parse message room n place l h e = room-refuses room n place (roomFree table message) e
+      (λ f. fault-cases message n place f
+      (λ m a b. absurd (omega arith))
+      (λ m a b. absurd (omega arith))
+      (λ m a left b c. (m, a, (left, b, c))))
+      (λ rs f q c k. absurd (omega arith))
+
+  pub parse-refused : (message : List ℕ) (room n place : ℕ) → length message ≤ messageLimit → scanFault (cut message) ≡ nowhere → (left : List Token) → parse (schemaOf table) openLimit (tokensOf (cut message .lexemes)) ≡ refused n left → place ≡ placeAt message (cut message .lexemes) left → readWith table message room ≡ refusal n place
+  unfolding readWith
+  parse-refused message room n place m f left e p =
+      ap (withRoom room) (short-scans message m ∙ (ap (afterScan (schemaOf table) message (cut message .lexemes)) f ∙ parse-fault message n left e)) ∙ (fault-shown room n (placeAt message (cut message .lexemes) left) ∙ ap (refusal n) (sym p))
+    where
+      parse-fault : (message : List ℕ) (n : ℕ) (left : List Token) → parse (schemaOf table) openLimit (tokensOf (cut message .lexemes)) ≡ refused n left → afterScan (schemaOf table) message (cut message .lexemes) nowhere ≡ fault n (placeAt message (cut message .lexemes) left)
+      parse-fault message n left e = unfold afterScan outcome in (ap (outcome message (cut message .lexemes)) e)
