@@ -11,7 +11,7 @@ use Rattle.schema.specs.Schema.{Schema, WellFormed}
 use Rattle.schema.proofs.CountLaws.{clash-bool, and-both}
 use Rattle.schema.specs.Reading.{Sort, unknownValue, unknownList, value, list, body, items, Tree, unknownWord, unknownString, unknownBraces, unknownPair, unknownLast, unknownMore, leaf, braced, chosenVoid, chosen, chosenInt, last, more, listed, stopped, itemized, noItem, voidItem, listItem, unknownItem, unknownListItem, leavesThen, balancedFrom, count, fieldsOf, InRange, Full, For, Law}
 use Rattle.message_rules.specs.Scan.{openAfter, isOpening, shallow}
-use Rattle.message_rules.proofs.Complete.{deep}
+use Rattle.schema.proofs.Complete.{deep}
 
 abbrev pub Shallow : ℕ → ℕ → List Token → Type 0
 Shallow limit n x = shallow limit n x ≡ true

@@ -1,9 +1,5 @@
--- T11, T13: what is read is lawful, what is lawful is read, one reading
-pub mod Inverse
-pub mod Sound
-pub mod Complete
+-- depth and fuel
 pub mod Depth
-pub mod Readings
 pub mod Fuel
 -- T16: places
 pub mod Places

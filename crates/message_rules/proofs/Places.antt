@@ -13,9 +13,9 @@ use Rattle.schema.specs.Schema.{Kind, void, simple, struct, union, reference, i
 use Rattle.schema.specs.Count.{Once, has, allIn}
 use Rattle.schema.proofs.CountLaws.{hasnt-in, once-more, once-nil}
 use Rattle.schema.specs.Reading.{Sort, unknownValue, unknownList, value, list, body, items, Tree, unknownWord, unknownString, unknownBraces, unknownPair, unknownLast, unknownMore, leaf, braced, chosenVoid, chosen, chosenInt, last, more, listed, stopped, itemized, noItem, voidItem, listItem, unknownItem, unknownListItem, leavesThen, balancedFrom, count, fieldsOf, InRange, Full, For, Law}
-use Rattle.message_rules.specs.Parse.{Result, refused, got, then, need, whether, onEquals, afterToken, pairWith, bracesAt, unknownAt, afterUnknown, unknownsAt, judged, simpleAt, shut, structAt, alternative, bareFor, choose, unionAt, noneAt, byKind, valueAt, mayGrow, listEnds, afterValue, listAt, wholeList, requiredOf, endNumber, bodyEnds, unknownAfter, itemAt, itemsAt, listThen, listsAt, wholeValue, bodyAt, parse}
+use Rattle.schema.specs.Parse.{Result, refused, got, then, need, whether, onEquals, afterToken, pairWith, bracesAt, unknownAt, afterUnknown, unknownsAt, judged, simpleAt, shut, structAt, alternative, bareFor, choose, unionAt, noneAt, byKind, valueAt, mayGrow, listEnds, afterValue, listAt, wholeList, requiredOf, endNumber, bodyEnds, unknownAfter, itemAt, itemsAt, listThen, listsAt, wholeValue, bodyAt, parse}
 use Rattle.message_rules.specs.Scan.{Lexeme, tokensOf}
-use Rattle.message_rules.proofs.Sound.{braces-sound, unknown-sound, unknowns-sound, ValueSound, value-sound, whole-sound, body-sound}
+use Rattle.schema.proofs.Sound.{braces-sound, unknown-sound, unknowns-sound, ValueSound, value-sound, whole-sound, body-sound}
 
 -- an end part of the tokens
 pub data EndPart : List Token → List Token → Type 0 where

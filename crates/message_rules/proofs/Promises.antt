@@ -16,10 +16,10 @@ use Rattle.schema.proofs.Rules.{ReadingRules, well-formed}
 use Rattle.schema.specs.Reading.{Sort, body, Tree, Lawful, leaves}
 use Rattle.message_rules.specs.Scan.{Lexeme, Spelled, Cut, cut, tokensOf, openAfter, isOpening, tooDeep, shallow, either, scanFault}
 use Rattle.message_rules.specs.Rows.{Row, messageRows, cells}
-use Rattle.message_rules.specs.Parse.{Result, refused, got, parse}
+use Rattle.schema.specs.Parse.{Result, refused, got, parse}
 use Rattle.message_rules.specs.Verdict.{LawfulReading, Within, RoomFree, fault, rows, placeAt, outcome, afterScan, roomFree, Answer, accepted, refusal, withRoom, written, readWith, rowsWith}
-use Rattle.message_rules.proofs.Readings.{parse-sound, parse-complete, unique}
-use Rattle.message_rules.proofs.Complete.{deep}
+use Rattle.schema.proofs.Readings.{parse-sound, parse-complete, unique}
+use Rattle.schema.proofs.Complete.{deep}
 use Rattle.message_rules.proofs.Depth.{tree-shallow}
 use Rattle.message_rules.proofs.Spelling.{spelled-cut, message-spelled, spelled-once}
 use Rattle.message_rules.proofs.Fuel.{Fine, fine-number, body-fine}

@@ -19,7 +19,7 @@ use Rattle.table_rules.proofs.Theorems.{rules-iff}
 use Rattle.message_rules.specs.Scan.{Lexeme, Spelled, Faulty, Cut, cut, tokensOf, scanFault}
 use Rattle.message_rules.specs.Rows.{Row, messageRows, rowsOf}
 use Rattle.message_rules.specs.RowBytes.{rowBytes}
-use Rattle.message_rules.specs.Parse.{refused, parse}
+use Rattle.schema.specs.Parse.{refused, parse}
 use Rattle.message_rules.specs.Verdict.{LawfulReading, placeAt, refusal, recordsIn, readWith, readAnswer}
 use Rattle.message_rules.proofs.Spelling.{message-spelled, spelled-once, message-bad, message-faulty, bad-unspelled}
 use Rattle.message_rules.proofs.RowLaws.{ParentsFirst, parents-first}

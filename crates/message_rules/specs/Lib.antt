@@ -3,6 +3,5 @@ pub mod Scan
 pub mod Rows
 pub mod RowBytes
 -- Refusals of a message
-pub mod Parse
 pub mod Verdict
 pub mod Promise

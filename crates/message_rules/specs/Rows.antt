@@ -4,7 +4,7 @@ use Prim.Native.Nat.{ℕ, zero, suc, _+_, _-_}
 use lib.ListN.{length, getD}
 use Rattle.numbers.specs.Limits.{noRow}
 use Rattle.schema.specs.Token.{Token, word, string, equals, comma, opening, closing}
-use Rattle.schema.specs.Reading.{Sort, unknownValue, unknownList, value, list, body, items, Tree, unknownWord, unknownString, unknownBraces, unknownPair, unknownLast, unknownMore, leaf, braced, chosenVoid, chosen, chosenInt, last, more, listed, stopped, itemized, noItem, voidItem, listItem, unknownItem, unknownListItem}
+use Rattle.schema.specs.Reading.{width, Sort, unknownValue, unknownList, value, list, body, items, Tree, unknownWord, unknownString, unknownBraces, unknownPair, unknownLast, unknownMore, leaf, braced, chosenVoid, chosen, chosenInt, last, more, listed, stopped, itemized, noItem, voidItem, listItem, unknownItem, unknownListItem}
 use Rattle.message_rules.specs.Scan.{Lexeme, lexeme}
 
 -- "Rows, four u32 each ..: parameter, parent row, start, end (end not included)."
@@ -13,30 +13,6 @@ pub record Row : Type 0 where
   pub parent : ℕ
   pub start : ℕ
   pub end : ℕ
-
--- how many leaves a tree has
-unfoldable pub width : {s : Sort} → Tree s → ℕ
-width (unknownWord w) = 1
-width (unknownString w) = 1
-width (unknownBraces ts) = length ts + 2
-width (unknownPair w v) = 2 + width v
-width (unknownLast v) = width v
-width (unknownMore v l) = width v + suc (width l)
-width (leaf t) = 1
-width (braced b) = width b + 2
-width (chosenVoid q w) = 1
-width (chosen q w v) = 2 + width v
-width (chosenInt q w) = 1
-width (last v) = width v
-width (more v l) = width v + suc (width l)
-width (listed q l b) = width l + width b
-width stopped = 0
-width (itemized i) = width i
-width noItem = 0
-width (voidItem q w i) = suc (width i)
-width (listItem q w l i) = 2 + (width l + width i)
-width (unknownItem w i) = suc (width i)
-width (unknownListItem w l i) = 2 + (width l + width i)
 
 -- how many rows a tree has
 unfoldable pub rowCount : {s : Sort} → Tree s → ℕ

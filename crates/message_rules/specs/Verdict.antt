@@ -14,7 +14,7 @@ use Rattle.definition_rules.specs.Table.{Maybe, none, just, decode}
 use Rattle.table_rules.specs.RecordRules.{tableRules}
 use Rattle.message_rules.specs.Scan.{Lexeme, Spelled, Cut, cut, tokensOf, scanFault, shallow}
 use Rattle.message_rules.specs.Rows.{Row, messageRows, cells}
-use Rattle.message_rules.specs.Parse.{Result, refused, got, parse}
+use Rattle.schema.specs.Parse.{Result, refused, got, parse}
 
 -- "A lawful reading" of a message, without limit of length or depth: the tokens ls that its bytes spell, and a lawful tree
 -- "From left to right its leaves are all the message's tokens, each once. A message with a byte neither blank nor in a token has none."

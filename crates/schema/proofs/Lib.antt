@@ -2,3 +2,8 @@
 pub mod CountLaws
 pub mod Balance
 pub mod Rules
+-- what is read is lawful, what is lawful is read, one reading
+pub mod Inverse
+pub mod Complete
+pub mod Sound
+pub mod Readings

@@ -7,3 +7,5 @@ pub mod Schema
 -- the lawful reading
 pub mod Count
 pub mod Reading
+-- the parser, as the rows of the decision table
+pub mod Parse

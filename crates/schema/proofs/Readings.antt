@@ -4,13 +4,13 @@ use mathlib.Core.Bool.{Bool, true, false}
 use mathlib.Core.List.{List, [], _∷_}
 use Prim.Native.Nat.{ℕ, zero, suc, _+_, _≤_, _<_, max}
 use native.Mathlib.Omega.{arith}
 use Rattle.schema.specs.Token.{Token}
 use Rattle.schema.specs.Schema.{Schema, WellFormed}
 use Rattle.schema.specs.Reading.{Sort, body, Tree, leavesThen, leaves, Law, Lawful}
-use Rattle.message_rules.specs.Parse.{Result, refused, got, parse}
-use Rattle.message_rules.proofs.Inverse.{Ends}
-use Rattle.message_rules.proofs.Sound.{body-sound}
-use Rattle.message_rules.proofs.Complete.{deep, body-complete}
+use Rattle.schema.specs.Parse.{Result, refused, got, parse}
+use Rattle.schema.proofs.Inverse.{Ends}
+use Rattle.schema.proofs.Sound.{body-sound}
+use Rattle.schema.proofs.Complete.{deep, body-complete}
 
 -- what is read is lawful, and all the tokens are its leaves
 pub parse-sound : (S : Schema) → WellFormed S → (depth : ℕ) (x : List Token) (t : Tree body) (r : List Token) → parse S depth x ≡ got t r → Lawful S t × (leaves t ≡ x) × (r ≡ [])

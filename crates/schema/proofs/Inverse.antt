@@ -7,12 +7,12 @@ use native.Mathlib.Omega.{arith}
 use lib.Dec.{eqb, leb, ltb}
 use borrow.Author.Tests.{leb-true, ltb-true, eqb-true, eqb-false, not-true}
 use Rattle.numbers.specs.Limits.{noLimit}
 use Rattle.schema.specs.Token.{Token, word, string, equals, comma, opening, closing}
 use Rattle.schema.specs.Schema.{Schema, atMost}
 use Rattle.schema.specs.Count.{times, In}
 use Rattle.schema.proofs.CountLaws.{clash-bool, in-head, in-tail, in-cons, in-nil}
 use Rattle.schema.specs.Reading.{Sort, unknownValue, Tree, unknownPair}
-use Rattle.message_rules.specs.Parse.{Result, refused, got, then, need, whether, onEquals, afterToken, pairWith, judged, mayGrow, requiredOf, endNumber, bodyEnds}
+use Rattle.schema.specs.Parse.{Result, refused, got, then, need, whether, onEquals, afterToken, pairWith, judged, mayGrow, requiredOf, endNumber, bodyEnds}
 
 pub clash : {A X : Type 0} {n : ℕ} {x : List Token} {a : A} {r : List Token} → _≡_ {A = Result A} (refused n x) (got a r) → X
 clash e = let z : _≡_ {A = ℕ} 0 1 = cc in absurd (omega arith)
@@ -106,3 +106,19 @@ or-left false b e = clash-bool e
 pub or-right : (a b : Bool) → b ≡ true → a || b ≡ true
 or-right true b e = refl
 or-right false b e = e
+
+pub or-off : {X : Type 0} (a b : Bool) → a || b ≡ false → (a ≡ false → b ≡ false → X) → X
+or-off true b e f = clash-bool (sym e)
+or-off false b e f = f refl e
+
+-- a field that must appear is a field of the body, not optional, with lo over 0
+pub required-is : (S : Schema) (k : ℕ) (l : List ℕ) → In k (requiredOf S l) → In k l × (S .optional k ≡ false) × (1 ≤ S .lo k)
+unfolding requiredOf
+required-is S k [] h = in-nil k h
+required-is S k (q ∷ l) h = go (S .optional q || eqb (S .lo q) 0) refl h (required-is S k l)
+  where
+    go : (b : Bool) → S .optional q || eqb (S .lo q) 0 ≡ b → In k (elim b [ true ↦ requiredOf S l | false ↦ q ∷ requiredOf S l ]) → (In k (requiredOf S l) → In k l × (S .optional k ≡ false) × (1 ≤ S .lo k)) → In k (q ∷ l) × (S .optional k ≡ false) × (1 ≤ S .lo k)
+    go true e i f = let g = f i in (in-tail k q l (g .0), g .1, g .2)
+    go false e i f = in-cons k q (requiredOf S l) i
+        (λ d. or-off (S .optional q) (eqb (S .lo q) 0) e (λ a c. let z = eqb-false (S .lo q) 0 c in rw (← d) (in-head q l, a, omega arith)))
+        (λ j. let g = f j in (in-tail k q l (g .0), g .1, g .2))

@@ -9,19 +9,15 @@ use lib.ListN.{length}
 use borrow.Author.Tests.{leb-true, ltb-true, eqb-true, eqb-false, not-true, le-leb, ne-eqb}
 use Rattle.numbers.specs.Limits.{noLimit}
 use Rattle.numbers.specs.Decimal.{isIntLike}
 use Rattle.schema.specs.Token.{Token, word, string, equals, comma, opening, closing}
 use Rattle.schema.specs.Schema.{Kind, void, simple, struct, union, reference, isVoid, Found, nowhere, found, Schema, atMost, WellFormed}
 use Rattle.schema.specs.Count.{same, times, In, Once, has, allIn}
 use Rattle.schema.proofs.CountLaws.{clash-bool, all-in, hasnt-in, once-more, once-nil, in-head, in-tail, in-cons, in-nil}
 use Rattle.schema.specs.Reading.{Sort, unknownValue, unknownList, value, list, body, items, Tree, unknownWord, unknownString, unknownBraces, unknownPair, unknownLast, unknownMore, leaf, braced, chosenVoid, chosen, chosenInt, last, more, listed, stopped, itemized, noItem, voidItem, listItem, unknownItem, unknownListItem, leavesThen, balancedFrom, count, fieldsOf, InRange, Full, For, Law}
-use Rattle.message_rules.specs.Parse.{Result, refused, got, then, need, whether, onEquals, bracesAt, unknownAt, afterUnknown, unknownsAt, judged, simpleAt, shut, structAt, alternative, bareFor, choose, unionAt, noneAt, byKind, valueAt, mayGrow, listEnds, afterValue, listAt, wholeList, requiredOf, endNumber, bodyEnds, unknownAfter, itemAt, itemsAt, listThen, listsAt, wholeValue, bodyAt}
-use Rattle.message_rules.proofs.Inverse.{clash, got-to, then-got, need-got, whether-got, equals-got, after-got, pair-got, judged-got, Ends, end-nil, end-closing, ends-got, or-case, or-left, or-right}
+use Rattle.schema.specs.Parse.{Result, refused, got, then, need, whether, onEquals, bracesAt, unknownAt, afterUnknown, unknownsAt, judged, simpleAt, shut, structAt, alternative, bareFor, choose, unionAt, noneAt, byKind, valueAt, mayGrow, listEnds, afterValue, listAt, wholeList, requiredOf, endNumber, bodyEnds, unknownAfter, itemAt, itemsAt, listThen, listsAt, wholeValue, bodyAt}
+use Rattle.schema.proofs.Inverse.{required-is, clash, got-to, then-got, need-got, whether-got, equals-got, after-got, pair-got, judged-got, Ends, end-nil, end-closing, ends-got, or-case, or-left, or-right}
 
 -- the required ones, as the parser lists them, are those that must appear
-or-off : {X : Type 0} (a b : Bool) → a || b ≡ false → (a ≡ false → b ≡ false → X) → X
-or-off true b e f = clash-bool (sym e)
-or-off false b e f = f refl e
-
 pub required-in : (S : Schema) (k : ℕ) (l : List ℕ) → In k l → S .optional k ≡ false → 1 ≤ S .lo k → In k (requiredOf S l)
 unfolding requiredOf
 required-in S k [] h x y = in-nil k h
@@ -34,17 +30,6 @@ required-in S k (q ∷ l) h x y = go (S .optional q || eqb (S .lo q) 0) refl (λ
         clash-bool (sym c ∙ e))
         f
     go false e f = in-cons k q l h (λ d. rw d (in-head k (requiredOf S l))) (λ i. in-tail k q (requiredOf S l) (f i))
-
-pub required-is : (S : Schema) (k : ℕ) (l : List ℕ) → In k (requiredOf S l) → In k l × (S .optional k ≡ false) × (1 ≤ S .lo k)
-unfolding requiredOf
-required-is S k [] h = in-nil k h
-required-is S k (q ∷ l) h = go (S .optional q || eqb (S .lo q) 0) refl h (required-is S k l)
-  where
-    go : (b : Bool) → S .optional q || eqb (S .lo q) 0 ≡ b → In k (elim b [ true ↦ requiredOf S l | false ↦ q ∷ requiredOf S l ]) → (In k (requiredOf S l) → In k l × (S .optional k ≡ false) × (1 ≤ S .lo k)) → In k (q ∷ l) × (S .optional k ≡ false) × (1 ≤ S .lo k)
-    go true e i f = let g = f i in (in-tail k q l (g .0), g .1, g .2)
-    go false e i f = in-cons k q (requiredOf S l) i
-        (λ d. or-off (S .optional q) (eqb (S .lo q) 0) e (λ a c. let z = eqb-false (S .lo q) 0 c in rw (← d) (in-head q l, a, omega arith)))
-        (λ j. let g = f j in (in-tail k q l (g .0), g .1, g .2))
 
 -- the answer is right: a lawful tree whose leaves, and what is left, are the tokens
 abbrev pub Right : {s : Sort} → Schema → For s → List Token → Tree s → List Token → Type 0

@@ -9,15 +9,14 @@ use lib.ListN.{length}
 use borrow.Author.Tests.{leb-true, eqb-true, le-leb, lt-ltb}
 use Rattle.numbers.specs.Limits.{noLimit}
 use Rattle.numbers.specs.Decimal.{isIntLike}
 use Rattle.schema.specs.Token.{Token, word, string, equals, comma, opening, closing, isText}
 use Rattle.schema.specs.Schema.{Kind, void, simple, struct, union, reference, isVoid, Found, nowhere, found, Schema, atMost, WellFormed}
 use Rattle.schema.specs.Count.{same, times, In, Once, has, allIn}
 use Rattle.schema.proofs.CountLaws.{clash-bool, in-all, out-hasnt, was-new, once-nil}
 use Rattle.schema.specs.Reading.{Sort, unknownValue, unknownList, value, list, body, items, Tree, unknownWord, unknownString, unknownBraces, unknownPair, unknownLast, unknownMore, leaf, braced, chosenVoid, chosen, chosenInt, last, more, listed, stopped, itemized, noItem, voidItem, listItem, unknownItem, unknownListItem, leavesThen, balancedFrom, count, fieldsOf, InRange, Full, For, Law}
-use Rattle.message_rules.specs.Parse.{Result, refused, got, then, need, whether, onEquals, afterToken, pairWith, bracesAt, unknownAt, afterUnknown, unknownsAt, judged, simpleAt, shut, structAt, alternative, bareFor, choose, unionAt, noneAt, byKind, valueAt, mayGrow, listEnds, afterValue, listAt, wholeList, requiredOf, endNumber, bodyEnds, unknownAfter, itemAt, itemsAt, listThen, listsAt, wholeValue, bodyAt}
-use Rattle.message_rules.proofs.Inverse.{Ends, or-case, or-left, or-right}
-use Rattle.message_rules.specs.Rows.{width}
-use Rattle.message_rules.proofs.Sound.{required-is}
+use Rattle.schema.specs.Parse.{Result, refused, got, then, need, whether, onEquals, afterToken, pairWith, bracesAt, unknownAt, afterUnknown, unknownsAt, judged, simpleAt, shut, structAt, alternative, bareFor, choose, unionAt, noneAt, byKind, valueAt, mayGrow, listEnds, afterValue, listAt, wholeList, requiredOf, endNumber, bodyEnds, unknownAfter, itemAt, itemsAt, listThen, listsAt, wholeValue, bodyAt}
+use Rattle.schema.proofs.Inverse.{required-is, Ends, or-case, or-left, or-right}
+use Rattle.schema.specs.Reading.{width}
 
 -- how many braces of structs stand open at once
 unfoldable pub deep : {s : Sort} → Tree s → ℕ
