@@ -15,3 +15,5 @@ pub mod Promises
 pub mod Compiled
 -- the index
 pub mod Theorems
+-- T20: the cases of 01 that are marked
+pub mod Starred
