@@ -153,6 +153,9 @@ starredCases =
     -- * `struct a { a b; };`: 10 at 7.
     refusedText "struct a { a b; };" 10 7
     ∷
+    -- With `b[0..1]` it compiles.
+    tabled "struct a { a b[0..1]; };" 2 50 1 (0x19 ∷ 0x00 ∷ 0x0A ∷ 0x00 ∷ 0x00 ∷ 0x00 ∷ 0x00 ∷ 0x00 ∷ 0x00 ∷ 0x00 ∷ 0x01 ∷ 0x00 ∷ 0x00 ∷ 0x00 ∷ 0x00 ∷ 0x00 ∷ 0x00 ∷ 0x00 ∷ 0x00 ∷ 0x00 ∷ 0x00 ∷ 0x00 ∷ 0x01 ∷ 0x00 ∷ 0x62 ∷ [])
+    ∷
     -- * `struct s { int x; bool y as x; };`: 8 at 28.
     refusedText "struct s { int x; bool y as x; };" 8 28
     ∷

@@ -1,4 +1,4 @@
--- The rules that a table's records obey exactly when some definition compiles to them (semantics.md, 2).
+-- The rules that a table's records obey exactly when some definition compiles to them (docs/FORMAT.md, 3.2).
 use mathlib.Core.Bool.{Bool, true, false, not, _&&_, _||_}
 use mathlib.Core.List.{List, [], _∷_, _++_}
 use Prim.Native.Nat.{ℕ, zero, suc, _+_}
