@@ -1,9 +1,9 @@
 -- Dates and times.
 use mathlib.Core.Bool.{Bool, true, false, _&&_, _||_}
 use mathlib.Core.List.{List}
-use Prim.Native.Nat.{ℕ, _%_}
+use Prim.Native.Nat.{ℕ, _+_, _-_, _*_, _%_}
 use lib.Dec.{eqb, leb, ltb}
-use lib.ListN.{length, take, drop}
+use lib.ListN.{length, getD, take, drop}
 use Rattle.classes.specs.Lists.{every}
 use Rattle.classes.specs.Bytes.{between, isDigit}
 use Rattle.numbers.specs.Decimal.{numberOf}
@@ -33,3 +33,7 @@ isTime w =
     let minute = numberOf (take 2 (drop 2 w)) in
     let second = numberOf (drop 4 w) in
     eqb (length w) 6 && (every isDigit w && (leb hour 23 && (leb minute 59 && leb second 59)))
+
+-- the number of the two digits at a place
+abbrev pub pairAt : List ℕ → ℕ → ℕ
+pairAt w at = (getD w at 0 - 48) * 10 + (getD w (at + 1) 0 - 48)

@@ -73,12 +73,13 @@ module _ (table message lent : List ℕ) (ok : tableRules parameterLimit table �
       let R = table-reading table ok in
       let g = accepted-lawful records R message room k (answer-is (accepted k) e) in
       let rs = messageRows message (g .0) (g .1) in
-      let fit : rowWidth * length rs ≤ room = rw (← (g .4)) (g .5) in
-      (rs,
-      record { tokens = g .0; tree = g .1; lawful = g .2; within = g .3; rows = refl },
-      g .4,
-      g .5,
-      good-after table message lent ok ∙ (accepted-written records R message (g .0) (g .1) (g .2) (g .3) lent fit ∙ ap (λ n. cells rs ++ drop (rowWidth * n) lent) (sym (g .4))))
+      let fit : rowWidth * length rs ≤ room = rw (← (g .4)) (g .5) in (
+        rs,
+        record { tokens = g .0; tree = g .1; lawful = g .2; within = g .3; rows = refl },
+        g .4,
+        g .5,
+        good-after table message lent ok ∙ (accepted-written records R message (g .0) (g .1) (g .2) (g .3) lent fit ∙ ap (λ n. cells rs ++ drop (rowWidth * n) lent) (sym (g .4))),
+      )
 
   lawful-accepts : (rs : List Row) → Reading table message rs → rowWidth * length rs ≤ room → readAnswer table message room ≡ accepted (length rs)
   lawful-accepts rs r h =

@@ -60,22 +60,25 @@ module _ (table message : List ℕ) (room : ℕ) (bytes : IsBytes table) (some :
 
   pub is-21 : (place : ℕ) → (readAnswer table message room ≡ refusal 21 place) ↔ ((messageLimit < length message) × (place ≡ messageLimit))
   is-21 place =
-      let R = table-reading table (rules-iff table bytes .1 some) in
-      ((λ e. refused-21 (recordsIn table) R message room place (sym ok-answer ∙ e)),
-      λ x. ok-answer ∙ (long-21 (recordsIn table) R message room (x .0) ∙ ap (refusal 21) (sym (x .1))))
+      let R = table-reading table (rules-iff table bytes .1 some) in (
+        (λ e. refused-21 (recordsIn table) R message room place (sym ok-answer ∙ e)),
+        λ x. ok-answer ∙ (long-21 (recordsIn table) R message room (x .0) ∙ ap (refusal 21) (sym (x .1))),
+      )
 
   pub is-22 : (place : ℕ) → (readAnswer table message room ≡ refusal 22 place) ↔ ((length message ≤ messageLimit) × (scanFault (cut message) ≡ found place))
   is-22 place =
-      let R = table-reading table (rules-iff table bytes .1 some) in
-      ((λ e. refused-22 (recordsIn table) R message room place (sym ok-answer ∙ e)),
-      λ x. ok-answer ∙ fault-22 (recordsIn table) R message room place (x .0) (x .1))
+      let R = table-reading table (rules-iff table bytes .1 some) in (
+        (λ e. refused-22 (recordsIn table) R message room place (sym ok-answer ∙ e)),
+        λ x. ok-answer ∙ fault-22 (recordsIn table) R message room place (x .0) (x .1),
+      )
 
   -- 23 to 28: the one that the rows of the decision table give, at the first token that is left, or the length
   pub is-leftmost : (n place : ℕ) → 23 ≤ n → n ≤ 28 → (readAnswer table message room ≡ refusal n place) ↔ ((length message ≤ messageLimit) × (scanFault (cut message) ≡ nowhere) × ((left : List Token) × (parse (schemaOf (recordsIn table)) openLimit (tokensOf (cut message .lexemes)) ≡ refused n left) × (place ≡ placeAt message (cut message .lexemes) left)))
   is-leftmost n place l h =
-      let R = table-reading table (rules-iff table bytes .1 some) in
-      ((λ e. refused-parse (recordsIn table) R message room n place l h (sym ok-answer ∙ e)),
-      λ x. ok-answer ∙ parse-refused (recordsIn table) R message room n place (x .0) (x .1) (x .2 .0) (x .2 .1) (x .2 .2))
+      let R = table-reading table (rules-iff table bytes .1 some) in (
+        (λ e. refused-parse (recordsIn table) R message room n place l h (sym ok-answer ∙ e)),
+        λ x. ok-answer ∙ parse-refused (recordsIn table) R message room n place (x .0) (x .1) (x .2 .0) (x .2 .1) (x .2 .2),
+      )
 
 -- ---- T18. Row 0 is the root's; parents come first; a row lies in its parent's span, all in the message
 

@@ -51,3 +51,7 @@ intWithin least most (b ∷ l) = elim (isMinus b) [
 unfoldable pub biasedInt : List ℕ → ℕ
 biasedInt [] = 0
 biasedInt (b ∷ l) = elim (isMinus b) [ true ↦ bias - numberOf l | false ↦ bias + numberOf (b ∷ l) ]
+
+-- where the code's sums stop: above every u32
+abbrev pub cap : ℕ
+cap = 0x1_0000_0000

@@ -3,3 +3,5 @@ pub mod Limits
 pub mod Decimal
 pub mod Range
 pub mod LittleEndian
+pub mod Bits
+pub mod Answers

@@ -1,5 +1,5 @@
 -- "A range is `lo..hi`, one run, lo ≤ hi, each number without leading zero or `-0`."
-use mathlib.Core.Bool.{Bool, true, false, _&&_}
+use mathlib.Core.Bool.{Bool, true, false, not, _&&_}
 use mathlib.Core.List.{List, [], _∷_}
 use Prim.Native.Nat.{ℕ}
 use lib.Dec.{leb, eqb}
@@ -76,3 +76,7 @@ readIntRange w = onSides (cutRange w) noRange (λ u v. bothRead (readInt u) (rea
 -- "Cardinality: lo 0 to 65,534; hi 1 to 65,534, or `*` for no limit"
 unfoldable pub readCountRange : List ℕ → MaybeRange
 readCountRange w = onSides (cutRange w) noRange (λ u v. bothRead (readCount u) (readUpper v))
+
+-- any byte but a dot
+abbrev pub notDot : ℕ → Bool
+notDot b = not (eqb b 46)

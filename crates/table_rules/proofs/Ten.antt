@@ -149,6 +149,7 @@ endless-promise text room free place = by (verdict text) refl free
       where
         given : n ≡ 10 → (refusal n p ≡ refusal 10 place) ↔ FirstEndless text place
         given q =
-            let w : verdict text ≡ refused 10 p = v ∙ ap (λ m. refused m p) q in
-            ((λ e. let z : p ≡ place = cc in rw (← z) (first-endless text p w)),
-            λ f. rw (q, only-first text p w place f) refl)
+            let w : verdict text ≡ refused 10 p = v ∙ ap (λ m. refused m p) q in (
+              (λ e. let z : p ≡ place = cc in rw (← z) (first-endless text p w)),
+              λ f. rw (q, only-first text p w place f) refl,
+            )

@@ -56,9 +56,10 @@ compiles-back text bytes room c = compiled-table text bytes room (c .answer) (λ
 
 -- T8. The rules hold of a table exactly when some text compiles to it
 pub rules-iff : (bytes : List ℕ) → IsBytes bytes → (tableRules parameterLimit bytes ≡ true) ↔ Compilable bytes
-rules-iff bytes h =
-    ((λ e. let x = table-text bytes (bytes-all bytes h) e in (x .0, x .1, length bytes, compiles (x .0) bytes (x .2))),
-    λ x. text-rules (x .0) bytes (compiles-back (x .0) bytes (x .2) (x .3)))
+rules-iff bytes h = (
+  (λ e. let x = table-text bytes (bytes-all bytes h) e in (x .0, x .1, length bytes, compiles (x .0) bytes (x .2))),
+  λ x. text-rules (x .0) bytes (compiles-back (x .0) bytes (x .2) (x .3)),
+)
 
 -- 20: "no definition compiles to this table"
 pub no-text-iff : (bytes : List ℕ) → IsBytes bytes → (tableRules parameterLimit bytes ≡ false) ↔ (Compilable bytes → ⊥)
@@ -81,4 +82,3 @@ bytes-records bytes e = by (decode bytes) refl (unfold tableRules in e)
 
 pub text-records : (text bytes : List ℕ) → verdict text ≡ table bytes → (rs : List Record) × (decode bytes ≡ just rs) × (recordRules parameterLimit rs ≡ true)
 text-records text bytes v = bytes-records bytes (text-rules text bytes v)
-

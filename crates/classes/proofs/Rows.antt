@@ -1,0 +1,71 @@
+-- Rows of bytes from a place on: one byte more, the byte that decides, and the end.
+use Prim.Native.Nat.{ℕ, suc, _+_, _-_, _≤_, _<_}
+use mathlib.Core.Bool.{Bool, true, false, and-false}
+use mathlib.Core.List.{List, [], _∷_}
+use mathlib.Core.Path.{_≡_, refl, ap}
+use native.Mathlib.Numerals.{add-one}
+use native.Mathlib.Omega.{arith}
+use borrow.Author.Tests.{eq-eqb, ne-eqb}
+use lib.Dec.{eqb}
+use lib.ListN.{length, getD, take, drop, length-drop, drop-of-length-le}
+use lib.Seq.{drop-cons, take-all}
+use Rattle.classes.specs.Lists.{every, runOf, sameBytes}
+
+module _ (f : ℕ → Bool) (s : List ℕ) (i : ℕ) where
+  pub every-more : i < length s → f (getD s i 0) ≡ true → every f (drop i s) ≡ every f (drop (i + 1) s)
+  unfolding every
+  every-more h t = rw (add-one, drop-cons s i 0, t)
+
+  pub every-stop : i < length s → f (getD s i 0) ≡ false → every f (drop i s) ≡ false
+  unfolding every
+  every-stop h t = rw (drop-cons s i 0, t)
+
+  pub every-end : length s ≤ i → every f (drop i s) ≡ true
+  unfolding every
+  every-end h = rw (drop-of-length-le s h)
+
+module _ (f : ℕ → Bool) (s : List ℕ) (i : ℕ) where
+  pub run-more : i < length s → f (getD s i 0) ≡ true → i + runOf f (drop i s) ≡ i + 1 + runOf f (drop (i + 1) s)
+  unfolding runOf
+  run-more h t = rw (add-one, drop-cons s i 0, runOf, t) (omega arith)
+
+  pub run-stop : i < length s → f (getD s i 0) ≡ false → i + runOf f (drop i s) ≡ i
+  unfolding runOf
+  run-stop h t = rw (drop-cons s i 0, runOf, t) (omega arith)
+
+  pub run-end : length s ≤ i → i + runOf f (drop i s) ≡ i
+  unfolding runOf
+  run-end h = rw (drop-of-length-le s h) (omega arith)
+
+one-more : (t : Bool) (n k : ℕ) → n ≤ k → elim t [ true ↦ suc n | false ↦ 0 ] ≤ suc k
+one-more true n k h = omega arith
+one-more false n k h = omega arith
+
+pub run-within : (f : ℕ → Bool) (s : List ℕ) → runOf f s ≤ length s
+unfolding runOf
+run-within f [] = omega arith
+run-within f (b ∷ s) = one-more (f b) (runOf f s) (length s) (run-within f s)
+
+module _ (a b : List ℕ) (i : ℕ) where
+  pub same-more : i < length a → i < length b → getD a i 0 ≡ getD b i 0 → sameBytes (drop i a) (drop i b) ≡ sameBytes (drop (i + 1) a) (drop (i + 1) b)
+  unfolding sameBytes
+  same-more h k e = rw (add-one, drop-cons a i 0, drop-cons b i 0, eq-eqb (getD a i 0) (getD b i 0) e)
+
+  pub same-stop : i < length a → i < length b → (getD a i 0 ≡ getD b i 0 → ⊥) → sameBytes (drop i a) (drop i b) ≡ false
+  unfolding sameBytes
+  same-stop h k e = rw (drop-cons a i 0, drop-cons b i 0, ne-eqb (getD a i 0) (getD b i 0) e)
+
+  pub same-end : length a ≤ i → length b ≤ i → sameBytes (drop i a) (drop i b) ≡ true
+  unfolding sameBytes
+  same-end h k = rw (drop-of-length-le a h, drop-of-length-le b k)
+
+pub same-length : (a b : List ℕ) → (length a ≡ length b → ⊥) → sameBytes a b ≡ false
+unfolding sameBytes
+same-length [] [] h = absurd (h refl)
+same-length [] (b ∷ l) h = refl
+same-length (a ∷ k) [] h = refl
+same-length (a ∷ k) (b ∷ l) h = rw (same-length k l (λ e. h (ap suc e))) (and-false (eqb a b))
+
+-- the part of a slice from a place to its end
+pub rest-all : (s : List ℕ) (i : ℕ) → take (length s - i) (drop i s) ≡ drop i s
+rest-all s i = take-all (length s - i) (drop i s) (rw length-drop (omega arith))
