@@ -12,6 +12,14 @@ storedAt t o =
     recordOf (le16 t (o + 2)) (le16 t (o + 4)) (le16 t (o + 6)) (le16 t (o + 8)) (le16 t (o + 10)) (le32 t (o + 12)) (le32 t (o + 16)) (le16 t (o + 20))
     (take (le16 t (o + 22)) (drop (o + 24) t))
 
+-- its flags, as one number
+abbrev pub flagsAt : List ℕ → ℕ → ℕ
+flagsAt t o = le16 t (o + 6)
+
+-- the i-th record, found by the offsets
+abbrev pub recordIn : List ℕ → List ℕ → ℕ → Record
+recordIn t offs i = storedAt t (getD offs i 0)
+
 -- n records, from the i-th offset on
 unfoldable pub recordsFrom : List ℕ → List ℕ → ℕ → ℕ → List Record
 recordsFrom t offs zero i = []

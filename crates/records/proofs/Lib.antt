@@ -1,0 +1,4 @@
+-- laws that other crates cite
+pub mod Laws
+-- the numbers in a record
+mod Fields

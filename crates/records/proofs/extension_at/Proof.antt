@@ -1,0 +1,15 @@
+use Rattle.definition_rules.specs.Table.{flag2}
+use Rattle.records.specs.Stored.{storedAt}
+use borrow.Author.Needs.{needs}
+use Rattle.records.proofs.extension_at.Statement.{statement}
+use Rattle.records.proofs.extension_at.Tie as tie
+
+flags-at-requires : tie.Need-flags-at-requires
+flags-at-requires c κs = search needs
+
+returns : tie.Need-returns
+unfolding storedAt flag2
+returns c = rw (c .flags-at .ensures)
+
+pub extension-at-spec : {M : Type 1} → statement M
+extension-at-spec = tie.close (tie.spec flags-at-requires returns)

@@ -1,0 +1,15 @@
+use Rattle.definition_rules.specs.Table.{flag4}
+use Rattle.records.specs.Stored.{storedAt}
+use borrow.Author.Needs.{needs}
+use Rattle.records.proofs.plugin_at.Statement.{statement}
+use Rattle.records.proofs.plugin_at.Tie as tie
+
+flags-at-requires : tie.Need-flags-at-requires
+flags-at-requires c κs = search needs
+
+returns : tie.Need-returns
+unfolding storedAt flag4
+returns c = rw (c .flags-at .ensures)
+
+pub plugin-at-spec : {M : Type 1} → statement M
+plugin-at-spec = tie.close (tie.spec flags-at-requires returns)

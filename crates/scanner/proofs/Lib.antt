@@ -1,0 +1,5 @@
+-- Laws that other crates' proofs may cite.
+pub mod LiveLaws
+pub mod FaultLaws
+-- steps of the cursor
+pub mod Steps

@@ -1,0 +1,4 @@
+-- Laws that other crates' proofs may cite.
+pub mod CutAt
+pub mod Steps
+pub mod Heads

@@ -1,0 +1,5 @@
+-- What a cursor over a message's bytes reads.
+pub mod Cursor
+pub mod Head
+pub mod Scanned
+pub mod Turn

@@ -1,0 +1,20 @@
+-- One turn of the scan.
+use mathlib.Core.Path.{_≡_}
+use mathlib.Core.List.{List}
+use Prim.Native.Nat.{ℕ, _≤_, _<_}
+use lib.ListN.{length}
+use Rattle.numbers.specs.Limits.{openLimit}
+use Rattle.tokens.specs.Cursor.{cutAt}
+use Rattle.tokens.specs.Scanned.{foundOf, faultFrom}
+use Rattle.tokens.specs.declared.Turn.{Turn}
+use Rattle.tokens.specs.declared.Turn.the-variants.{On, Out}
+
+pub record ScanOn (s : List ℕ) (i n j m : ℕ) : Type 0 where
+  pub is : faultFrom n (cutAt 0 s i) ≡ faultFrom m (cutAt 0 s j)
+  pub less : i < j
+  pub within : j ≤ length s
+  pub few : m ≤ openLimit
+
+abbrev pub ScanTurn : List ℕ → ℕ → ℕ → Turn → Type 0
+ScanTurn s i n (On u m) = ScanOn s i n (u .at) m
+ScanTurn s i n (Out f) = foundOf f ≡ faultFrom n (cutAt 0 s i)

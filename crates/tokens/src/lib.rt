@@ -1,0 +1,213 @@
+// The tokens of a message, read by a cursor over its bytes, and number 22.
+ghost use mathlib.Core.Path.{_≡_};
+ghost use Prim.Native.Nat.{ℕ, _≤_};
+ghost use Rattle.numbers.specs.Limits.{openLimit};
+ghost use Rattle.classes.specs.Bytes.{isBlank, isWordByte, isStringByte};
+ghost use Rattle.message_rules.specs.Scan.{cut, scanFault};
+ghost use Rattle.tokens.specs.Cursor.{rowEnd, cutAt, restAt, Reads};
+ghost use Rattle.tokens.specs.Head.{HeadAt};
+ghost use Rattle.tokens.specs.Scanned.{foundOf};
+ghost use Rattle.tokens.specs.Turn.{ScanTurn};
+
+// How many braces may be open.
+const OPEN_LIMIT: usize = 16;
+
+// A place in a message or in a part of one.
+pub struct Cursor {
+    pub at: usize,
+}
+
+// What stands next: a token's start and the cursor past it.
+pub enum Lexeme {
+    Word(usize, Cursor),
+    Text(usize, Cursor),
+    Equals(usize, Cursor),
+    Comma(usize, Cursor),
+    Opening(usize, Cursor),
+    Closing(usize, Cursor),
+    End,
+    Bad(usize),
+}
+
+fn skip_blank(s: &[u8], at: usize) -> usize
+    ensures { λ r. ⌜ r ≡ rowEnd isBlank (now (s .entry)) at ⌝ }
+{
+    let mut i = at;
+    while i < s.len() {
+        let b = s[i];
+        if classes::is_blank(b) {
+            i += 1;
+        } else {
+            return i;
+        }
+    }
+    i
+}
+
+fn word_end(s: &[u8], at: usize) -> usize
+    ensures { λ r. ⌜ r ≡ rowEnd isWordByte (now (s .entry)) at ⌝ }
+{
+    let mut i = at;
+    while i < s.len() {
+        let b = s[i];
+        if classes::is_word_byte(b) {
+            i += 1;
+        } else {
+            return i;
+        }
+    }
+    i
+}
+
+fn string_end(s: &[u8], at: usize) -> usize
+    ensures { λ r. ⌜ r ≡ rowEnd isStringByte (now (s .entry)) at ⌝ }
+{
+    let mut i = at;
+    while i < s.len() {
+        let b = s[i];
+        if classes::is_string_byte(b) {
+            i += 1;
+        } else {
+            return i;
+        }
+    }
+    i
+}
+
+// What stands at from, where no blank is.
+fn token(s: &[u8], from: usize) -> Lexeme
+    ensures { λ r. ⌜ ((base : ℕ) → Reads (restAt base (now (s .entry)) from) base (now (s .entry)) from r) ⌝ }
+{
+    if s.len() <= from {
+        return Lexeme::End;
+    }
+    let b = s[from];
+    if b == b'=' {
+        return Lexeme::Equals(from, Cursor { at: from + 1 });
+    }
+    if b == b',' {
+        return Lexeme::Comma(from, Cursor { at: from + 1 });
+    }
+    if b == b'{' {
+        return Lexeme::Opening(from, Cursor { at: from + 1 });
+    }
+    if b == b'}' {
+        return Lexeme::Closing(from, Cursor { at: from + 1 });
+    }
+    if b == b'"' {
+        let to = string_end(s, from + 1);
+        if s.len() <= to {
+            return Lexeme::Bad(from);
+        }
+        let c = s[to];
+        if c == b'"' {
+            return Lexeme::Text(from, Cursor { at: to + 1 });
+        }
+        return Lexeme::Bad(from);
+    }
+    if classes::is_word_byte(b) {
+        let to = word_end(s, from);
+        return Lexeme::Word(from, Cursor { at: to });
+    }
+    Lexeme::Bad(from)
+}
+
+impl Cursor {
+    // The token that stands next. A word is the longest row.
+    pub fn next(self, s: &[u8]) -> Lexeme
+        ensures { λ r. ⌜ ((base : ℕ) → Reads (cutAt base (now (s .entry)) (self .at)) base (now (s .entry)) (self .at) r) ⌝ }
+    {
+        let from = skip_blank(s, self.at);
+        token(s, from)
+    }
+}
+
+// The kinds of a head.
+pub const NONE: u8 = 0;
+pub const WORD: u8 = 1;
+pub const STRING: u8 = 2;
+pub const EQUALS: u8 = 3;
+pub const COMMA: u8 = 4;
+pub const OPENING: u8 = 5;
+pub const CLOSING: u8 = 6;
+
+// What stands next, by a number: where it starts, and the cursor past it. Without a token it starts at the end.
+pub struct Head {
+    pub kind: u8,
+    pub start: usize,
+    pub past: Cursor,
+}
+
+impl Cursor {
+    pub fn head(self, s: &[u8]) -> Head
+        ensures { λ r. ⌜ ((base : ℕ) → HeadAt base (now (s .entry)) (self .at) r) ⌝ }
+    {
+        match self.next(s) {
+            Lexeme::Word(a, v) => Head { kind: WORD, start: a, past: v },
+            Lexeme::Text(a, v) => Head { kind: STRING, start: a, past: v },
+            Lexeme::Equals(a, v) => Head { kind: EQUALS, start: a, past: v },
+            Lexeme::Comma(a, v) => Head { kind: COMMA, start: a, past: v },
+            Lexeme::Opening(a, v) => Head { kind: OPENING, start: a, past: v },
+            Lexeme::Closing(a, v) => Head { kind: CLOSING, start: a, past: v },
+            Lexeme::End => Head { kind: NONE, start: s.len(), past: self },
+            Lexeme::Bad(_) => Head { kind: NONE, start: s.len(), past: self },
+        }
+    }
+}
+
+// Whether number 22 is due, and where.
+pub enum Scanned {
+    Clean,
+    Fault(usize),
+}
+
+enum Turn {
+    On(Cursor, usize),
+    Out(Scanned),
+}
+
+// One token, with deep braces open before it.
+fn scan_turn(s: &[u8], u: Cursor, deep: usize) -> Turn
+    requires { ⌜ deep ≤ openLimit ⌝ }
+    ensures { λ r. ⌜ ScanTurn (now (s .entry)) (u .at) deep r ⌝ }
+{
+    match u.next(s) {
+        Lexeme::Word(_, v) => Turn::On(v, deep),
+        Lexeme::Text(_, v) => Turn::On(v, deep),
+        Lexeme::Equals(_, v) => Turn::On(v, deep),
+        Lexeme::Comma(_, v) => Turn::On(v, deep),
+        Lexeme::Opening(a, v) => {
+            if OPEN_LIMIT <= deep {
+                return Turn::Out(Scanned::Fault(a));
+            }
+            Turn::On(v, deep + 1)
+        }
+        Lexeme::Closing(_, v) => {
+            if deep == 0 {
+                return Turn::On(v, 0);
+            }
+            Turn::On(v, deep - 1)
+        }
+        Lexeme::End => Turn::Out(Scanned::Clean),
+        Lexeme::Bad(a) => Turn::Out(Scanned::Fault(a)),
+    }
+}
+
+// 22: a byte in no token and no blank, or a brace that opens with 16 open, whichever is first.
+pub fn scan_fault(message: &[u8]) -> Scanned
+    ensures { λ r. ⌜ foundOf r ≡ scanFault (cut (now (message .entry))) ⌝ }
+{
+    let mut u = Cursor { at: 0 };
+    let mut deep: usize = 0;
+    loop {
+        match scan_turn(message, u, deep) {
+            Turn::On(v, n) => {
+                u = v;
+                deep = n;
+            }
+            Turn::Out(f) => {
+                return f;
+            }
+        }
+    }
+}
