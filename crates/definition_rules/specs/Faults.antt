@@ -82,7 +82,7 @@ unfoldable pub kindsOf : List Declaration → List ℕ
 kindsOf [] = []
 kindsOf (d ∷ ds) = kindOf d ∷ kindsOf ds
 
--- the number of a union
+-- p is the number of a union, by the kinds of all parameters
 unfoldable pub isUnionAt : List ℕ → ℕ → Bool
 isUnionAt [] p = false
 isUnionAt (k ∷ ks) zero = eqb k 9

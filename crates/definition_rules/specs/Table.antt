@@ -42,7 +42,7 @@ flag4 f = leb 4 f
 
 -- ---- to bytes
 
--- "length u16 (whole record), kind u16, parent u16, flags u16, lo count u16, hi count u16, lo i32, hi i32, target u16, n u16, n bytes"
+-- "length u16 (whole record), kind u16, parent u16, flags u16, lo count u16, hi count u16 (65,535 is `*`), lo i32, hi i32, target u16, n u16, n bytes"
 unfoldable pub encodeRecord : Record → List ℕ → List ℕ
 encodeRecord r rest =
     put16 (24 + length (r .label))

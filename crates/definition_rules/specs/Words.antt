@@ -99,6 +99,6 @@ nameForm w = startsWithLetter w && every isNameByte w && leb (length w) labelLim
 unfoldable pub tagForm : List ℕ → Bool
 tagForm w = notEmpty w && every isTagByte w && leb (length w) labelLimit
 
--- "a tag with a dot in it"
+-- "an explicit tag with a dot in it"
 unfoldable pub hasDot : List ℕ → Bool
 hasDot w = some (λ b. eqb b 46) w

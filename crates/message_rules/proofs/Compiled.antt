@@ -20,17 +20,17 @@ use Rattle.table_rules.proofs.Theorems.{rules-iff, no-text-iff, bytes-records}
 use Rattle.table_rules.proofs.Facts.{rules-formed, reading-rules}
 use Rattle.message_rules.specs.Scan.{Lexeme, Spelled, cut, scanFault}
 use Rattle.message_rules.specs.Rows.{Row, messageRows, cells}
-use Rattle.message_rules.specs.Verdict.{LawfulReading, Within, Answer, accepted, refusal, orNone, recordsIn, readWith, rowsWith, readAnswer, rowsAfter}
+use Rattle.message_rules.specs.Verdict.{LawfulReading, Within, Answer, accepted, refusal, orEmpty, recordsIn, readWith, rowsWith, readAnswer, rowsAfter}
 use Rattle.message_rules.specs.Promise.{Reading, ReadPromise}
 use Rattle.message_rules.proofs.Spelling.{spelled-once}
 use Rattle.message_rules.proofs.Promises.{one-reading, lawful-accepted, lawful-29, accepted-lawful, refused-29, refused-unlawful, refusal-number, accepted-written, refused-unchanged, refused-21, refused-22, spelled-clean}
 
 -- the records of a table that keeps the rules keep what a reading rests on
 pub table-reading : (table : List ℕ) → tableRules parameterLimit table ≡ true → ReadingRules (recordsIn table)
-unfolding recordsIn orNone
+unfolding recordsIn orEmpty
 table-reading table e =
     let x = bytes-records table e in
-    let q : recordsIn table ≡ x .0 = ap orNone (x .1) in
+    let q : recordsIn table ≡ x .0 = ap orEmpty (x .1) in
     rw q (reading-rules (x .0) (rules-formed parameterLimit (x .0) (x .2)))
 
 -- the two sides of number 20

@@ -31,7 +31,7 @@ use Rattle.message_rules.specs.Scan.{beginsOf, cutToken, cutRest, cutFro
 use Rattle.schema.specs.Reading.{width}
 use Rattle.message_rules.specs.Rows.{rowCount, placeOf, rowOver, rowsOf, messageRows, cells}
 use Rattle.schema.specs.Parse.{then, need, whether, onEquals, afterToken, bracesAt, pairWith, unknownAt, afterUnknown, unknownsAt, judged, simpleAt, shut, structAt, alternative, bareFor, choose, unionAt, noneAt, byKind, valueAt, mayGrow, listEnds, afterValue, listAt, requiredOf, endNumber, bodyEnds, unknownAfter, itemAt, itemsAt, listThen, listsAt, bodyAt}
-use Rattle.message_rules.specs.Verdict.{Answer as ReadAnswer, accepted, refusal as refusedAt, startOr, placeAt as placeIn, outcome, afterScan, roomFree, withRoom, written, readWith, rowsWith, orNone as noRecords, recordsIn, readAnswer, rowsAfter}
+use Rattle.message_rules.specs.Verdict.{Answer as ReadAnswer, accepted, refusal as refusedAt, startOr, placeAt as placeIn, outcome, afterScan, roomFree, withRoom, written, readWith, rowsWith, orEmpty as noRecords, recordsIn, readAnswer, rowsAfter}
 
 -- the bytes of an ASCII text
 unfoldable pub bytesOf : String → List ℕ

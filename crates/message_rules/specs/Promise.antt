@@ -1,4 +1,4 @@
--- Demand 3 in the paper's words: what an answer of the reader means, over lawful readings and the limits alone.
+-- Demand 3: what an answer of the reader means, over lawful readings and the limits alone.
 use mathlib.Core.Path.{_≡_}
 use mathlib.Core.List.{List, _++_}
 use mathlib.Core.Logic.{_↔_}
@@ -23,12 +23,12 @@ pub record Reading (table message : List ℕ) (rs : List Row) : Type 0 where
 pub record ReadPromise (table message lent : List ℕ) (answer : Answer) (after : List ℕ) : Type 0 where
   -- "20: no definition compiles to this table"
   pub wrongTable : (answer ≡ refusal 20 0) ↔ (Compilable table → ⊥)
-  -- "The reader accepts exactly when a lawful reading exists and its rows fit .. the rows are that reading's"
+  -- the reader accepts exactly when a lawful reading exists and its rows fit; the rows are that reading's
   pub acceptedMeans : (k : ℕ) → answer ≡ accepted k → Compilable table × ((rs : List Row) × Reading table message rs × (k ≡ length rs) × (rowWidth * k ≤ length lent) × (after ≡ cells rs ++ drop (rowWidth * k) lent))
   pub lawfulAccepted : Compilable table → (rs : List Row) → Reading table message rs → rowWidth * length rs ≤ length lent → answer ≡ accepted (length rs)
-  -- "there is never a second reading", whatever its length and depth
+  -- there is never a second reading, whatever its length and depth
   pub oneReading : Compilable table → (ls ms : List Lexeme) (a b : Tree body) → LawfulReading (recordsIn table) message ls a → LawfulReading (recordsIn table) message ms b → (ls ≡ ms) × (a ≡ b)
-  -- "where they don't fit the answer is 29 with their number"
+  -- where the rows don't fit the answer is 29 with their number
   pub noRoom : (k : ℕ) → (answer ≡ refusal 29 k) ↔ (Compilable table × ((rs : List Row) × Reading table message rs × (k ≡ length rs) × (length lent < rowWidth * k)))
   -- 23 to 28, where 20 to 22 don't apply: no lawful reading exists
   pub unlawful : Compilable table → (ls : List Lexeme) → Spelled 0 message ls → Within message ls → ((n : ℕ) × (place : ℕ) × (answer ≡ refusal n place) × (23 ≤ n) × (n ≤ 28)) ↔ ((t : Tree body) → LawfulReading (recordsIn table) message ls t → ⊥)

@@ -81,12 +81,12 @@ unfoldable pub rowsWith : List Record → List ℕ → List ℕ → List ℕ
 rowsWith records message lent = written lent (roomFree records message)
 
 -- the records of a table's bytes
-unfoldable pub orNone : Maybe (List Record) → List Record
-orNone none = []
-orNone (just rs) = rs
+unfoldable pub orEmpty : Maybe (List Record) → List Record
+orEmpty none = []
+orEmpty (just rs) = rs
 
 unfoldable pub recordsIn : List ℕ → List Record
-recordsIn table = orNone (decode table)
+recordsIn table = orEmpty (decode table)
 
 -- "First 20, 21, 22 in that order". The record rules hold exactly when some definition compiles to the table (`rules-iff`).
 unfoldable pub readAnswer : List ℕ → List ℕ → ℕ → Answer

@@ -19,7 +19,7 @@ use Rattle.schema.proofs.Rules.{tag-found}
 use Rattle.schema.specs.Reading.{Sort, value, list, body, items, Tree, leaf, braced, chosenVoid, chosen, chosenInt, last, more, listed, stopped, itemized, noItem, voidItem, listItem, leavesThen, leaves, count, fieldsOf, InRange, Law}
 use Rattle.definition_rules.specs.Words.{tagForm, hasDot}
 use Rattle.definition_rules.specs.Faults.{voidTop, pluginUndotted}
-use Rattle.table_rules.specs.Values.{areTokens}
+use Rattle.table_rules.specs.Endless.{areTokens}
 use Rattle.table_rules.specs.RecordRules.{showsName, labelFine}
 use Rattle.table_rules.proofs.RuleFacts.{Fine, flag-of}
 use Rattle.table_rules.proofs.Facts.{Formed, and-off, or-none, fine-at, seven-at, apart, untagged-is, tagged-is, bare-at, kind-union}

@@ -20,7 +20,7 @@ use Rattle.definition_rules.specs.Finite.{finites, isEndless}
 use Rattle.definition_rules.specs.Compile.{Check, check, Finding, clean, fault, leastOf, findingOf, firstFault, placeAt, placesAt, notedOf, outcomeOf, recordsOfText, checks, checksFrom, checksAfter, checksOf, verdictOf, Verdict, refused, table, verdict, Answer, compiled, refusal, answerOf, compileAnswer}
 use Rattle.definition_rules.proofs.FirstFault.{Either, left, right, In, Least, least-of}
 use Rattle.table_rules.specs.RecordRules.{noneBroken}
-use Rattle.table_rules.specs.Values.{LawfulValue, Compound, namePlace, FirstEndless, EndlessPromise}
+use Rattle.table_rules.specs.Endless.{LawfulValue, Compound, namePlace, FirstEndless, EndlessPromise}
 use Rattle.table_rules.proofs.TextRules.{pass, length-records, noted-length, text-ten, text-rules-records}
 use Rattle.table_rules.proofs.Facts.{Formed}
 use Rattle.table_rules.proofs.Values.{endless-iff, rules-values}

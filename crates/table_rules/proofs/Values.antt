@@ -16,7 +16,7 @@ use Rattle.schema.specs.Reading.{value, body, Tree, leaf, braced, chosenVoid, c
 use Rattle.definition_rules.specs.Words.{kindIsCompound}
 use Rattle.definition_rules.specs.Faults.{isUnionAt, voidMany, rule7Broken, tagRepeated, rootNoStruct}
 use Rattle.definition_rules.specs.Finite.{finites, isEndless}
-use Rattle.table_rules.specs.Values.{areTokens, LawfulValue}
+use Rattle.table_rules.specs.Endless.{areTokens, LawfulValue}
 use Rattle.table_rules.specs.RecordRules.{ordered, kindsOfRecords, recordFine, everyRecord, noneBroken, shownNames, allNew, recordChecks, recordRules}
 use Rattle.definition_rules.specs.Table.{Maybe, just, decode}
 use Rattle.definition_rules.specs.Compile.{table, verdict}

@@ -1,4 +1,4 @@
--- "A definition is endless exactly when a struct or union has no lawful value": what number 10 means, without a word on steps or rounds.
+-- Number 10: "a struct or union with no finite value". What it means, over lawful values, without a word on steps or rounds.
 use mathlib.Core.Path.{_≡_}
 use mathlib.Core.Bool.{Bool, true, _&&_}
 use mathlib.Core.List.{List, [], _∷_}
@@ -38,7 +38,7 @@ pub record FirstEndless (text : List ℕ) (place : ℕ) : Type 0 where
   pub named : place ≡ namePlace text parameter
   pub first : (q : ℕ) → Compound text q → (LawfulValue (recordsOfText text) q → ⊥) → place ≤ namePlace text q
 
--- "A definition free of every fault checked before number 10 is refused as endless exactly when one of its structs or unions
--- has no lawful value, however long or deep. The place is then the name of the first such in the text."
+-- A definition free of every fault checked before number 10 is refused as endless exactly when one of its structs or unions
+-- has no lawful value, however long or deep. The place is then the name of the first such in the text.
 abbrev pub EndlessPromise : List ℕ → Answer → Type 0
 EndlessPromise text answer = ((n p : ℕ) → answer ≡ refusal n p → 10 ≤ n) → (place : ℕ) → (answer ≡ refusal 10 place) ↔ FirstEndless text place

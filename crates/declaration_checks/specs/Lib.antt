@@ -1,0 +1,2 @@
+-- The faults of one declaration.
+pub mod Checks

@@ -1,0 +1,2 @@
+-- Laws that other crates' proofs may cite.
+pub mod HeadLaws

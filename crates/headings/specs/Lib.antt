@@ -1,0 +1,2 @@
+-- What a declaration's heading says.
+pub mod Heads

@@ -1,0 +1,106 @@
+-- What a reader needs of the answers: walking the untagged fields, and where a found parameter lies.
+use mathlib.Core.Path.{_≡_, refl, ap, sym, _∙_, subst}
+use mathlib.Core.Bool.{Bool, true, false}
+use mathlib.Core.List.{List, [], _∷_}
+use Prim.Native.Nat.{ℕ, zero, suc, _+_, _-_, _≤_, _<_}
+use native.Mathlib.Omega.{arith}
+use native.Mathlib.Numerals.{add-one}
+use lib.ListN.{length, drop, length-drop}
+use lib.Seq.{drop-drop}
+use Rattle.schema.specs.Record.{Record, recordAt}
+use Rattle.schema.specs.Schema.{Kind, Found, nowhere, found, Schema, schemaOf, first, firstWhere, numbersWhere, isUntaggedOf, isTaggedAs, kindOf}
+use Rattle.schema.proofs.Rules.{where-is}
+use Rattle.records.specs.Stored.{recordsAt}
+use Rattle.records.proofs.Laws.{length-records}
+use Rattle.lookup.specs.Questions.{schemaAt, nth, untaggedFrom}
+use Rattle.lookup.proofs.Steps.{where-true, where-false}
+
+-- ---- numbers of records for which a test holds
+
+-- the first is q: where it stands, and what comes behind it
+pub record Next (f : Record → Bool) (i : ℕ) (rs : List Record) (q : ℕ) : Type 0 where
+  pub from : i ≤ q
+  pub below : q < i + length rs
+  pub rest : numbersWhere f i rs ≡ q ∷ numbersWhere f (q + 1) (drop (q + 1 - i) rs)
+
+found-same : (p q : ℕ) → found p ≡ found q → p ≡ q
+found-same p q e = cc
+
+not-found : {X : Type 0} (q : ℕ) → nowhere ≡ found q → X
+not-found q e = let z : _≡_ {A = ℕ} 0 1 = cc in absurd (omega arith)
+
+next-here : (f : Record → Bool) (i : ℕ) (r : Record) (rs : List Record) → f r ≡ true → Next f i (r ∷ rs) i
+next-here f i r rs e = record {
+  from = omega arith;
+  below = omega arith;
+  rest = where-true f i r rs e ∙ ap (λ (l : List Record). i ∷ numbersWhere f (suc i) l) (sym (ap (λ (m : ℕ). drop m (r ∷ rs)) g)) ∙ ap (λ (m : ℕ). i ∷ numbersWhere f m (drop (i + 1 - i) (r ∷ rs))) (sym (add-one i));
+}
+  where
+    g : i + 1 - i ≡ 1
+    g = omega arith
+
+next-later : (f : Record → Bool) (i : ℕ) (r : Record) (rs : List Record) (q : ℕ) → f r ≡ false → Next f (suc i) rs q → Next f i (r ∷ rs) q
+next-later f i r rs q e n = record {
+  from = omega (arith, n .from);
+  below = omega (arith, n .below);
+  rest = where-false f i r rs e ∙ n .rest ∙ ap (λ (l : List Record). q ∷ numbersWhere f (q + 1) l) (sym (ap (λ (m : ℕ). drop m (r ∷ rs)) g));
+}
+  where
+    g : q + 1 - i ≡ suc (q + 1 - suc i)
+    g = omega (arith, n .from)
+
+pub next-in : (f : Record → Bool) (i : ℕ) (rs : List Record) (q : ℕ) → first (numbersWhere f i rs) ≡ found q → Next f i rs q
+unfolding first numbersWhere
+next-in f i [] q e = not-found q e
+next-in f i (r ∷ rs) q e = go (λ h. next-in f (suc i) rs q h) (f r) refl
+  where
+    go : (first (numbersWhere f (suc i) rs) ≡ found q → Next f (suc i) rs q) → (b : Bool) → f r ≡ b → Next f i (r ∷ rs) q
+    go later true h = subst (λ (k : ℕ). Next f i (r ∷ rs) k) (found-same i q (sym (ap first (where-true f i r rs h)) ∙ e)) (next-here f i r rs h)
+    go later false h = next-later f i r rs q h (later (sym (ap first (where-false f i r rs h)) ∙ e))
+
+pub none-in : (f : Record → Bool) (i : ℕ) (rs : List Record) → first (numbersWhere f i rs) ≡ nowhere → numbersWhere f i rs ≡ []
+unfolding first
+none-in f i rs = go (numbersWhere f i rs)
+  where
+    go : (l : List ℕ) → first l ≡ nowhere → l ≡ []
+    go [] e = refl
+    go (q ∷ l) e = not-found q (sym e)
+
+-- ---- the untagged fields, one after the other
+
+pub untagged-all : (t offs : List ℕ) (n p : ℕ) → schemaAt t offs n .untagged p ≡ untaggedFrom t offs n p 0
+unfolding schemaOf
+untagged-all t offs n p = refl
+
+module _ (t offs : List ℕ) (n p i q : ℕ) (e : first (untaggedFrom t offs n p i) ≡ found q) where
+  next : Next (isUntaggedOf p) i (drop i (recordsAt t offs n)) q
+  next = next-in (isUntaggedOf p) i (drop i (recordsAt t offs n)) q e
+
+  pub untagged-next : untaggedFrom t offs n p i ≡ q ∷ untaggedFrom t offs n p (q + 1)
+  untagged-next =
+      next .rest ∙
+      ap (λ (l : List Record). q ∷ numbersWhere (isUntaggedOf p) (q + 1) l)
+      (drop-drop (q + 1 - i) i (recordsAt t offs n) ∙ ap (λ (m : ℕ). drop m (recordsAt t offs n)) g)
+    where
+      g : i + (q + 1 - i) ≡ q + 1
+      g = omega (arith, next .from)
+
+  pub untagged-below : q < n
+  untagged-below = omega (arith, next .from, simp (length-drop, length-records) at (next .below))
+
+pub untagged-none : (t offs : List ℕ) (n p i : ℕ) → first (untaggedFrom t offs n p i) ≡ nowhere → untaggedFrom t offs n p i ≡ []
+untagged-none t offs n p i e = none-in (isUntaggedOf p) i (drop i (recordsAt t offs n)) e
+
+-- ---- a tag that was found
+
+pub find-below : (t offs : List ℕ) (n p : ℕ) (w : List ℕ) (q : ℕ) → schemaAt t offs n .find p w ≡ found q → q < n
+unfolding schemaOf
+find-below t offs n p w q e =
+    let h = where-is (isTaggedAs p w) 0 (recordsAt t offs n) q e in
+    omega (arith, h .1, h .2, length-records t offs n 0)
+
+-- ---- one parameter
+
+pub kind-answer : (t offs : List ℕ) (n p : ℕ) → schemaAt t offs n .kind p ≡ kindOf (nth t offs n p .kind)
+unfolding schemaOf
+kind-answer t offs n p = refl

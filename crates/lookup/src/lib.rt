@@ -1,0 +1,304 @@
+// The questions that a reading asks of a table: each is answered from the table's bytes.
+// offs has the offset of each of the n records; a number past them is the blank record's.
+ghost use mathlib.Core.Path.{_≡_};
+ghost use mathlib.Core.Bool.{true, false};
+ghost use Prim.Native.Nat.{_+_};
+ghost use lib.ListN.{length, getD, set};
+ghost use Rattle.classes.specs.Bytes.{between};
+ghost use Rattle.numbers.specs.Limits.{bias};
+ghost use Rattle.schema.specs.Value.{isBool, formThenRange};
+ghost use Rattle.schema.specs.Schema.{isVoid, isUntaggedOf, isTaggedOf, isTaggedAs, first};
+ghost use Rattle.schema.specs.Parse.{mayGrow};
+ghost use Rattle.records.specs.Stored.{recordIn, recordsAt};
+ghost use Rattle.lookup.specs.Questions.{schemaAt, nth, foundOf, shapeOf, untaggedFrom, textToken, lengthLies, intLies};
+ghost use Rattle.lookup.specs.Seen.{noMarks, isRequiredOf, isMissing, completeFrom};
+
+// What a search finds.
+pub enum Found {
+    Nowhere,
+    At(usize),
+}
+
+// How a parameter's values are read.
+pub enum Shape {
+    Void,
+    Simple,
+    Struct,
+    Union,
+    Reference,
+}
+
+// ---- one parameter
+
+// The kind's number.
+pub fn kind_number(table: &[u8], offs: &[u32], n: usize, p: usize) -> u32
+    ensures { λ r. ⌜ r ≡ nth (now (table .entry)) (now (offs .entry)) n p .kind ⌝ }
+{
+    if n <= p {
+        return 1;
+    }
+    records::kind_at(table, offs, p)
+}
+
+pub fn kind(table: &[u8], offs: &[u32], n: usize, p: usize) -> Shape
+    ensures { λ r. ⌜ shapeOf r ≡ schemaAt (now (table .entry)) (now (offs .entry)) n .kind p ⌝ }
+{
+    let number = kind_number(table, offs, n, p);
+    match number {
+        1 => Shape::Void,
+        8 => Shape::Struct,
+        9 => Shape::Union,
+        10 => Shape::Reference,
+        _ => Shape::Simple,
+    }
+}
+
+pub fn is_void(table: &[u8], offs: &[u32], n: usize, p: usize) -> bool
+    ensures { λ r. ⌜ r ≡ isVoid (schemaAt (now (table .entry)) (now (offs .entry)) n .kind p) ⌝ }
+{
+    kind_number(table, offs, n, p) == 1
+}
+
+// A reference's target, else the parameter itself.
+pub fn core(table: &[u8], offs: &[u32], n: usize, p: usize) -> usize
+    ensures { λ r. ⌜ r ≡ schemaAt (now (table .entry)) (now (offs .entry)) n .core p ⌝ }
+{
+    if n <= p {
+        return p;
+    }
+    if records::kind_at(table, offs, p) == 10 {
+        return records::target_at(table, offs, p);
+    }
+    p
+}
+
+pub fn lo(table: &[u8], offs: &[u32], n: usize, p: usize) -> usize
+    ensures { λ r. ⌜ r ≡ schemaAt (now (table .entry)) (now (offs .entry)) n .lo p ⌝ }
+{
+    if n <= p {
+        return 1;
+    }
+    records::lo_count_at(table, offs, p)
+}
+
+// 65,535 is no limit.
+pub fn hi(table: &[u8], offs: &[u32], n: usize, p: usize) -> usize
+    ensures { λ r. ⌜ r ≡ schemaAt (now (table .entry)) (now (offs .entry)) n .hi p ⌝ }
+{
+    if n <= p {
+        return 1;
+    }
+    records::hi_count_at(table, offs, p)
+}
+
+// A list of c values may have one more.
+pub fn may_grow(hi: usize, c: usize) -> bool
+    ensures { λ r. ⌜ r ≡ mayGrow hi c ⌝ }
+{
+    (hi == 65_535) | (c < hi)
+}
+
+// Directly in an extension, or plugin.
+pub fn optional(table: &[u8], offs: &[u32], n: usize, p: usize) -> bool
+    ensures { λ r. ⌜ r ≡ schemaAt (now (table .entry)) (now (offs .entry)) n .optional p ⌝ }
+{
+    if n <= p {
+        return false;
+    }
+    records::extension_at(table, offs, p) | records::plugin_at(table, offs, p)
+}
+
+// ---- the fields of p
+
+fn is_untagged_of(table: &[u8], offs: &[u32], p: usize, i: usize) -> bool
+    ensures { λ r. ⌜ r ≡ isUntaggedOf p (recordIn (now (table .entry)) (now (offs .entry)) i) ⌝ }
+{
+    if records::is_under(table, offs, i, p) {
+        return records::untagged_at(table, offs, i);
+    }
+    false
+}
+
+fn is_tagged_of(table: &[u8], offs: &[u32], p: usize, i: usize) -> bool
+    ensures { λ r. ⌜ r ≡ isTaggedOf p (recordIn (now (table .entry)) (now (offs .entry)) i) ⌝ }
+{
+    if records::is_under(table, offs, i, p) {
+        return !records::untagged_at(table, offs, i);
+    }
+    false
+}
+
+fn is_tagged_as(table: &[u8], offs: &[u32], p: usize, word: &[u8], i: usize) -> bool
+    ensures { λ r. ⌜ r ≡ isTaggedAs p (now (word .entry)) (recordIn (now (table .entry)) (now (offs .entry)) i) ⌝ }
+{
+    if is_tagged_of(table, offs, p, i) {
+        return classes::same_bytes(records::label_at(table, offs, i), word);
+    }
+    false
+}
+
+// The first untagged field from record i on.
+pub fn next_untagged(table: &[u8], offs: &[u32], n: usize, p: usize, i: usize) -> Found
+    ensures { λ r. ⌜ foundOf r ≡ first (untaggedFrom (now (table .entry)) (now (offs .entry)) n p i) ⌝ }
+{
+    let mut at = i;
+    while at < n {
+        if is_untagged_of(table, offs, p, at) {
+            return Found::At(at);
+        }
+        at += 1;
+    }
+    Found::Nowhere
+}
+
+// The untagged int of a union.
+pub fn bare(table: &[u8], offs: &[u32], n: usize, p: usize) -> Found
+    ensures { λ r. ⌜ foundOf r ≡ schemaAt (now (table .entry)) (now (offs .entry)) n .bare p ⌝ }
+{
+    next_untagged(table, offs, n, p, 0)
+}
+
+// The tag search: the field or alternative of p with this wire tag.
+pub fn find(table: &[u8], offs: &[u32], n: usize, p: usize, word: &[u8]) -> Found
+    ensures { λ r. ⌜ foundOf r ≡ schemaAt (now (table .entry)) (now (offs .entry)) n .find p (now (word .entry)) ⌝ }
+{
+    let mut at = 0;
+    while at < n {
+        if is_tagged_as(table, offs, p, word, at) {
+            return Found::At(at);
+        }
+        at += 1;
+    }
+    Found::Nowhere
+}
+
+// ---- the fields that have appeared
+
+pub fn no_marks() -> [bool; 256]
+    ensures { λ r. ⌜ r ≡ noMarks ⌝ }
+{
+    [false; 256]
+}
+
+pub fn is_marked(seen: &[bool], k: usize) -> bool
+    ensures { λ r. ⌜ r ≡ getD (now (seen .entry)) k false ⌝ }
+{
+    if k < seen.len() {
+        return seen[k];
+    }
+    false
+}
+
+pub fn mark(seen: &mut [bool], k: usize)
+    ensures { λ _. ⌜ now (seen .exit) ≡ set (now (seen .entry)) k true ⌝ }
+{
+    if seen.len() <= k {
+        return;
+    }
+    seen[k] = true;
+}
+
+fn is_required_of(table: &[u8], offs: &[u32], p: usize, i: usize) -> bool
+    ensures { λ r. ⌜ r ≡ isRequiredOf p (recordIn (now (table .entry)) (now (offs .entry)) i) ⌝ }
+{
+    if is_tagged_of(table, offs, p, i) {
+        return !(records::extension_at(table, offs, i)
+            | records::plugin_at(table, offs, i)
+            | (records::lo_count_at(table, offs, i) == 0));
+    }
+    false
+}
+
+fn is_missing(table: &[u8], offs: &[u32], p: usize, seen: &[bool], i: usize) -> bool
+    ensures { λ r. ⌜ r ≡ isMissing p (now (seen .entry)) i (recordIn (now (table .entry)) (now (offs .entry)) i) ⌝ }
+{
+    if is_marked(seen, i) {
+        return false;
+    }
+    is_required_of(table, offs, p, i)
+}
+
+// Every required tagged field of p has a mark.
+pub fn complete(table: &[u8], offs: &[u32], n: usize, p: usize, seen: &[bool]) -> bool
+    ensures { λ r. ⌜ r ≡ completeFrom p (now (seen .entry)) 0 (recordsAt (now (table .entry)) (now (offs .entry)) n) ⌝ }
+{
+    let mut i = 0;
+    while i < n {
+        if is_missing(table, offs, p, seen, i) {
+            return false;
+        }
+        i += 1;
+    }
+    true
+}
+
+// ---- values
+
+// 0 where the form is right and the value lies in its range, else 24.
+fn form_then_range(form: bool, within: bool) -> u32
+    ensures { λ r. ⌜ r ≡ formThenRange form within ⌝ }
+{
+    if form & within {
+        return 0;
+    }
+    24
+}
+
+fn is_bool(text: &[u8]) -> bool
+    ensures { λ r. ⌜ r ≡ isBool (now (text .entry)) ⌝ }
+{
+    classes::same_bytes(text, b"true") | classes::same_bytes(text, b"false")
+}
+
+// The text's length lies in the range, which is counted from the least i32.
+fn length_within(text: &[u8], least: u32, most: u32) -> bool
+    ensures { λ r. ⌜ r ≡ between least most (bias + length (now (text .entry))) ⌝ }
+{
+    let n = text.len();
+    if 0xFFFF_FFFF < n {
+        return false;
+    }
+    (least as usize <= 0x8000_0000 + n) & (0x8000_0000 + n <= most as usize)
+}
+
+fn length_in_range(table: &[u8], offs: &[u32], q: usize, text: &[u8]) -> bool
+    ensures { λ r. ⌜ r ≡ lengthLies (recordIn (now (table .entry)) (now (offs .entry)) q) (now (text .entry)) ⌝ }
+{
+    length_within(
+        text,
+        records::least_at(table, offs, q),
+        records::most_at(table, offs, q),
+    )
+}
+
+fn int_in_range(table: &[u8], offs: &[u32], q: usize, text: &[u8]) -> bool
+    ensures { λ r. ⌜ r ≡ intLies (recordIn (now (table .entry)) (now (offs .entry)) q) (now (text .entry)) ⌝ }
+{
+    numbers::int_within(
+        text,
+        records::least_at(table, offs, q),
+        records::most_at(table, offs, q),
+    )
+}
+
+// The value rule of each kind, for a word or for a string without its quotes.
+pub fn judge(table: &[u8], offs: &[u32], n: usize, q: usize, text: &[u8], quoted: bool) -> u32
+    ensures { λ r. ⌜ r ≡ schemaAt (now (table .entry)) (now (offs .entry)) n .judge q (textToken quoted (now (text .entry))) ⌝ }
+{
+    if n <= q {
+        return 24;
+    }
+    let kind = records::kind_at(table, offs, q);
+    match kind {
+        2 => form_then_range(!quoted & is_bool(text), true),
+        3 => form_then_range(
+            !quoted & numbers::is_int(text),
+            int_in_range(table, offs, q, text),
+        ),
+        4 => form_then_range(quoted, length_in_range(table, offs, q, text)),
+        5 => form_then_range(!quoted, length_in_range(table, offs, q, text)),
+        6 => form_then_range(!quoted & calendar::is_date(text), true),
+        7 => form_then_range(!quoted & calendar::is_time(text), true),
+        _ => 24,
+    }
+}

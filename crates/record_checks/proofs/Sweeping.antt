@@ -1,0 +1,342 @@
+-- Sweeps in place reach number 10's outcome: what they add lies in it, and they go as far as its rounds.
+use mathlib.Core.Path.{_≡_, refl, ap, sym, _∙_}
+use mathlib.Core.Bool.{Bool, true, false, not, _&&_, _||_}
+use mathlib.Core.List.{List, [], _∷_}
+use Prim.Native.Nat.{ℕ, zero, suc, _+_, _-_, _≤_, _<_}
+use native.Mathlib.Omega.{arith}
+use lib.Dec.{eqb, ltb}
+use lib.ListN.{length, getD, set, replicate, length-set, List·getD-eq-default}
+use lib.Seq.{getD-set-same, getD-set-other}
+use borrow.Author.Tests.{eqb-true, eqb-false, ltb-true, ltb-false}
+use Rattle.classes.specs.Lists.{pick}
+use Rattle.schema.specs.Record.{Record, recordAt, blank}
+use Rattle.schema.specs.Schema.{isUnder}
+use Rattle.definition_rules.specs.Finite.{canDoWithout, endsNeeds, structStep, unionStep, finiteStep, round, rounds, finites}
+use Rattle.definition_rules.proofs.FirstFault.{Either, left, right}
+use Rattle.definition_rules.proofs.FiniteLaws.{Sub, sub-at, finites-closed}
+use Rattle.record_checks.specs.Sweeps.{isAdded, added, swept, sweepAdds, Empty, Found}
+
+clash : {X : Type 0} → _≡_ {A = Bool} false true → X
+clash e = let x : _≡_ {A = ℕ} 0 1 = cc in absurd (omega arith)
+
+-- ---- sets of parameters
+
+abbrev pub In : List Bool → List Bool → Type 0
+In s t = (i : ℕ) → getD s i false ≡ true → getD t i false ≡ true
+
+abbrev Up : Bool → Bool → Type 0
+Up a b = a ≡ true → b ≡ true
+
+set-keeps : (s : List Bool) (k : ℕ) → In s (set s k true)
+set-keeps [] k i e = e
+set-keeps (a ∷ s) zero zero e = refl
+set-keeps (a ∷ s) zero (suc i) e = e
+set-keeps (a ∷ s) (suc k) zero e = e
+set-keeps (a ∷ s) (suc k) (suc i) e = set-keeps s k i e
+
+set-case : (s : List Bool) (k i : ℕ) → getD (set s k true) i false ≡ true → Either (i ≡ k) (getD s i false ≡ true)
+set-case s k i e = go (eqb i k) refl
+  where
+    go : (b : Bool) → eqb i k ≡ b → Either (i ≡ k) (getD s i false ≡ true)
+    go true z = left (eqb-true i k z)
+    go false z = right (sym (getD-set-other s k i true false (eqb-false i k z)) ∙ e)
+
+-- ---- a set is cleared
+
+module _ (have : List Bool) (i : ℕ) (below : (k : ℕ) → k < i → getD have k false ≡ false) where
+  pub clear-more : i < length have → (k : ℕ) → k < i + 1 → getD (set have i false) k false ≡ false
+  clear-more h k l = go (eqb k i) refl
+    where
+      go : (b : Bool) → eqb k i ≡ b → getD (set have i false) k false ≡ false
+      go true z = let q = eqb-true k i z in rw q (getD-set-same have i false false h)
+      go false z = let q = eqb-false k i z in getD-set-other have i k false false q ∙ below k (omega arith)
+
+  pub clear-end : length have ≤ i → Empty have
+  clear-end h k = go (ltb k i) refl
+    where
+      go : (b : Bool) → ltb k i ≡ b → getD have k false ≡ false
+      go true z = below k (ltb-true k i z)
+      go false z = List·getD-eq-default have false {n = k} (omega (arith, ltb-false k i z))
+
+-- ---- a step grows with the set
+
+and-up : (a b c d : Bool) → Up a c → Up b d → Up (a && b) (c && d)
+and-up true b c d f g e = rw (f refl) (g e)
+and-up false b c d f g e = clash e
+
+or-up : (a b c d : Bool) → Up a c → Up b d → Up (a || b) (c || d)
+or-up true b c d f g e = rw (f refl)
+or-up false b true d f g e = refl
+or-up false b false d f g e = g e
+
+pick-up : (x a b c d : Bool) → Up a c → Up b d → Up (pick x a b) (pick x c d)
+unfolding pick
+pick-up true a b c d f g e = f e
+pick-up false a b c d f g e = g e
+
+module _ (s t : List Bool) (h : In s t) where
+  struct-up : (p i : ℕ) (rs : List Record) → Up (structStep s p i rs) (structStep t p i rs)
+  unfolding structStep
+  struct-up p i [] e = e
+  struct-up p i (r ∷ rs) e =
+      pick-up (isUnder p (r .parent)) _ _ _ _
+      (pick-up (endsNeeds r) _ _ _ _ (λ z. z) (and-up (canDoWithout r || getD s i false) _ (canDoWithout r || getD t i false) _ (or-up (canDoWithout r) _ (canDoWithout r) _ (λ z. z) (h i)) (struct-up p (suc i) rs)))
+      (struct-up p (suc i) rs) e
+
+  union-up : (p i : ℕ) (rs : List Record) → Up (unionStep s p i rs) (unionStep t p i rs)
+  unfolding unionStep
+  union-up p i [] e = e
+  union-up p i (r ∷ rs) e =
+      or-up (isUnder p (r .parent) && getD s i false) _ (isUnder p (r .parent) && getD t i false) _
+      (and-up (isUnder p (r .parent)) _ (isUnder p (r .parent)) _ (λ z. z) (h i))
+      (union-up p (suc i) rs) e
+
+  step-up : (rs : List Record) (i : ℕ) (r : Record) → Up (finiteStep rs s i r) (finiteStep rs t i r)
+  unfolding finiteStep
+  step-up rs i r e =
+      pick-up (eqb (r .kind) 8) _ _ _ _ (struct-up i 0 rs)
+      (pick-up (eqb (r .kind) 9) _ _ _ _ (union-up i 0 rs)
+      (pick-up (eqb (r .kind) 10) _ _ _ _ (h (r .target)) (λ z. z))) e
+
+-- ---- a round, place by place
+
+round-at : (all : List Record) (have : List Bool) (i : ℕ) (rs : List Record) (k : ℕ) → k < length rs → getD (round all have i rs) k false ≡ finiteStep all have (i + k) (getD rs k blank)
+unfolding round
+round-at all have i [] k h = absurd (omega arith)
+round-at all have i (r ∷ rs) zero h = ap (λ (j : ℕ). finiteStep all have j r) (omega arith)
+round-at all have i (r ∷ rs) (suc k) h = round-at all have (suc i) rs k (omega arith) ∙ ap (λ (j : ℕ). finiteStep all have j (getD rs k blank)) (omega arith)
+
+round-in : (all : List Record) (have : List Bool) (i : ℕ) (rs : List Record) (k : ℕ) → getD (round all have i rs) k false ≡ true → k < length rs
+unfolding round
+round-in all have i [] k e = clash e
+round-in all have i (r ∷ rs) zero e = omega arith
+round-in all have i (r ∷ rs) (suc k) e = omega (arith, round-in all have (suc i) rs k e)
+
+rounds-more : (m : ℕ) (rs : List Record) (have : List Bool) → rounds (suc m) rs have ≡ round rs (rounds m rs have) 0 rs
+unfolding rounds
+rounds-more zero rs have = refl
+rounds-more (suc m) rs have = rounds-more m rs (round rs have 0 rs)
+
+module _ (rs : List Record) where
+  abbrev stepAt : List Bool → ℕ → Bool
+  stepAt have k = finiteStep rs have k (recordAt rs k)
+
+  round-step : (have : List Bool) (k : ℕ) → k < length rs → getD (round rs have 0 rs) k false ≡ stepAt have k
+  unfolding recordAt
+  round-step have k h = round-at rs have 0 rs k h ∙ ap (λ (j : ℕ). finiteStep rs have j (getD rs k blank)) (omega arith)
+
+  closed-at : (k : ℕ) → k < length rs → Up (stepAt (finites rs) k) (getD (finites rs) k false)
+  closed-at k h e = sub-at _ _ (finites-closed rs) k (round-step (finites rs) k h ∙ e)
+
+  -- ---- one parameter
+
+  module _ (have : List Bool) (i : ℕ) where
+    pub added-had : getD have i false ≡ true → (false ≡ isAdded rs have i) × (have ≡ added rs have i)
+    unfolding added isAdded pick
+    added-had e = rw e (refl, refl)
+
+    pub added-yes : getD have i false ≡ false → stepAt have i ≡ true → (true ≡ isAdded rs have i) × (set have i true ≡ added rs have i)
+    unfolding added isAdded pick
+    added-yes e f = rw (e, f) (refl, refl)
+
+    pub added-no : getD have i false ≡ false → stepAt have i ≡ false → (false ≡ isAdded rs have i) × (have ≡ added rs have i)
+    unfolding added isAdded pick
+    added-no e f = rw (e, f) (refl, refl)
+
+    not-added : isAdded rs have i ≡ false → (added rs have i ≡ have) × Up (stepAt have i) (getD have i false)
+    unfolding added
+    not-added e = (unfold pick in (rw e), unfold isAdded in (go (getD have i false) e))
+      where
+        go : (b : Bool) → pick b false (stepAt have i) ≡ false → Up (stepAt have i) b
+        go true z s = refl
+        go false z s = unfold pick in (clash (sym z ∙ s))
+
+    added-length : length (added rs have i) ≡ length have
+    unfolding added
+    added-length = go (isAdded rs have i)
+      where
+        go : (b : Bool) → length (pick b (set have i true) have) ≡ length have
+        go true = unfold pick in (length-set have i true)
+        go false = unfold pick in refl
+
+    added-grows : In have (added rs have i)
+    unfolding added
+    added-grows = go (isAdded rs have i)
+      where
+        go : (b : Bool) → In have (pick b (set have i true) have)
+        go true = unfold pick in (set-keeps have i)
+        go false = unfold pick in (λ k e. e)
+
+    added-got : i < length have → Up (stepAt have i) (getD (added rs have i) i false)
+    unfolding added isAdded
+    added-got h e = go (getD have i false) (stepAt have i) refl e
+      where
+        go : (b d : Bool) → getD have i false ≡ b → d ≡ true → getD (pick (pick b false d) (set have i true) have) i false ≡ true
+        go true d z f = unfold pick in z
+        go false true z f = unfold pick in (getD-set-same have i true false h)
+        go false false z f = clash f
+
+    added-within : i < length rs → In have (finites rs) → In (added rs have i) (finites rs)
+    unfolding added isAdded
+    added-within h w = go (getD have i false) (stepAt have i) refl
+      where
+        new : stepAt have i ≡ true → (k : ℕ) → Either (k ≡ i) (getD have k false ≡ true) → getD (finites rs) k false ≡ true
+        new e k (left z) = rw z (closed-at i h (step-up have (finites rs) w rs i (recordAt rs i) e))
+        new e k (right z) = w k z
+
+        go : (b d : Bool) → stepAt have i ≡ d → In (pick (pick b false d) (set have i true) have) (finites rs)
+        go true d e = unfold pick in w
+        go false true e = unfold pick in (λ k z. new e k (set-case have i k z))
+        go false false e = unfold pick in w
+
+  -- ---- a sweep
+
+  module _ (have : List Bool) (i : ℕ) (x : Bool) (next : List Bool) (e : x ≡ isAdded rs have i) (f : next ≡ added rs have i) where
+    pub sweep-more : swept rs (suc i) have ≡ swept rs i next
+    unfolding swept
+    sweep-more = rw f
+
+    pub adds-more : (m : Bool) → m || sweepAdds rs (suc i) have ≡ (m || x) || sweepAdds rs i next
+    unfolding sweepAdds
+    adds-more true = refl
+    adds-more false = rw (e, f)
+
+  -- what a sweep from the start gives is what is left of it gives
+  pub record Left (n : ℕ) (have₀ : List Bool) (i : ℕ) (have : List Bool) (more : Bool) : Type 0 where
+    pub adds : sweepAdds rs n have₀ ≡ more || sweepAdds rs i have
+    pub set-after : swept rs n have₀ ≡ swept rs i have
+
+  module _ (n : ℕ) (have₀ : List Bool) where
+    pub left-start : Left n have₀ n have₀ false
+    left-start = record { adds = refl; set-after = refl }
+
+    pub left-more : (i : ℕ) (have : List Bool) (more x : Bool) (next : List Bool) → 0 < i → x ≡ isAdded rs have (i - 1) → next ≡ added rs have (i - 1) → Left n have₀ i have more → Left n have₀ (i - 1) next (more || x)
+    left-more i have more x next h e f l = record {
+      adds = l .adds ∙ (ap (λ (j : ℕ). more || sweepAdds rs j have) s ∙ adds-more have (i - 1) x next e f more);
+      set-after = l .set-after ∙ (ap (λ (j : ℕ). swept rs j have) s ∙ sweep-more have (i - 1) x next e f);
+    }
+      where
+        s : i ≡ suc (i - 1)
+        s = omega arith
+
+    pub left-end : (i : ℕ) (have : List Bool) (more : Bool) → i ≤ 0 → Left n have₀ i have more → (more ≡ sweepAdds rs n have₀) × (have ≡ swept rs n have₀)
+    left-end i have more h l = (sym (l .adds ∙ (ap (λ (j : ℕ). more || sweepAdds rs j have) z ∙ none-more more)), sym (l .set-after ∙ (ap (λ (j : ℕ). swept rs j have) z ∙ unfold swept in refl)))
+      where
+        z : i ≡ 0
+        z = omega arith
+
+        none-more : (m : Bool) → m || sweepAdds rs 0 have ≡ m
+        none-more true = refl
+        none-more false = unfold sweepAdds in refl
+
+  swept-grows : (i : ℕ) (have : List Bool) → In have (swept rs i have)
+  unfolding swept
+  swept-grows zero have k e = e
+  swept-grows (suc i) have k e = swept-grows i (added rs have i) k (added-grows have i k e)
+
+  swept-got : (i : ℕ) (have : List Bool) (k : ℕ) → k < i → i ≤ length have → Up (stepAt have k) (getD (swept rs i have) k false)
+  unfolding swept
+  swept-got zero have k h l e = absurd (omega arith)
+  swept-got (suc i) have k h l e = go (eqb k i) refl (λ m. swept-got i (added rs have i) k m (rw (added-length have i) (omega arith)) (step-up have (added rs have i) (added-grows have i) rs k (recordAt rs k) e))
+    where
+      go : (b : Bool) → eqb k i ≡ b → (k < i → getD (swept rs i (added rs have i)) k false ≡ true) → getD (swept rs i (added rs have i)) k false ≡ true
+      go true z f = let q = eqb-true k i z in swept-grows i (added rs have i) k (rw q (added-got have i (omega arith) (rw q at e)))
+      go false z f = let q = eqb-false k i z in f (omega arith)
+
+  swept-within : (i : ℕ) (have : List Bool) → i ≤ length rs → In have (finites rs) → In (swept rs i have) (finites rs)
+  unfolding swept
+  swept-within zero have h w = w
+  swept-within (suc i) have h w = swept-within i (added rs have i) (omega arith) (added-within have i (omega arith) w)
+
+  abbrev none : List Bool
+  none = replicate (length rs) false
+
+  none-at : (n k : ℕ) → getD (replicate n false) k false ≡ false
+  none-at zero k = refl
+  none-at (suc n) zero = refl
+  none-at (suc n) (suc k) = none-at n k
+
+  -- as far as one round more
+  swept-ahead : (m : ℕ) (have : List Bool) → length rs ≤ length have → In (rounds m rs none) have → In (rounds (suc m) rs none) (swept rs (length rs) have)
+  swept-ahead m have l w k e =
+      let z = rw (rounds-more m rs none) at e in
+      let h = round-in rs (rounds m rs none) 0 rs k z in
+      swept-got (length rs) have k h l (step-up (rounds m rs none) have w rs k (recordAt rs k) (sym (round-step (rounds m rs none) k h) ∙ z))
+
+  -- where a sweep adds nothing, no step does
+  swept-still : (i : ℕ) (have : List Bool) → sweepAdds rs i have ≡ false → (swept rs i have ≡ have) × ((k : ℕ) → k < i → Up (stepAt have k) (getD have k false))
+  unfolding swept sweepAdds
+  swept-still zero have e = (refl, λ k h s. absurd (omega arith))
+  swept-still (suc i) have e = go (isAdded rs have i) refl e (swept-still i have)
+    where
+      one : (k : ℕ) (b : Bool) → eqb k i ≡ b → stepAt have k ≡ true → (k < i → getD have k false ≡ true) → Up (stepAt have i) (getD have i false) → k < suc i → getD have k false ≡ true
+      one k true z s f g h = let q = eqb-true k i z in rw q (g (rw q at s))
+      one k false z s f g h = let q = eqb-false k i z in f (omega arith)
+
+      go : (b : Bool) → isAdded rs have i ≡ b → b || sweepAdds rs i (added rs have i) ≡ false → (sweepAdds rs i have ≡ false → (swept rs i have ≡ have) × ((k : ℕ) → k < i → Up (stepAt have k) (getD have k false))) → (swept rs i (added rs have i) ≡ have) × ((k : ℕ) → k < suc i → Up (stepAt have k) (getD have k false))
+      go true z e r = clash (sym e)
+      go false z e r =
+          let q = not-added have i z in
+          let y = r (rw (q .0) at e) in
+          (rw (q .0) (y .0), λ k h s. one k (eqb k i) refl s (λ l. y .1 k l s) (q .1) h)
+
+  rounds-closed : (have : List Bool) → ((k : ℕ) → k < length rs → Up (stepAt have k) (getD have k false)) → (m : ℕ) → In (rounds m rs none) have
+  rounds-closed have c zero k e = unfold rounds in (clash (sym (none-at (length rs) k) ∙ e))
+  rounds-closed have c (suc m) k e =
+      let z = rw (rounds-more m rs none) at e in
+      let h = round-in rs (rounds m rs none) 0 rs k z in
+      c k h (step-up (rounds m rs none) have (rounds-closed have c m) rs k (recordAt rs k) (sym (round-step (rounds m rs none) k h) ∙ z))
+
+  both-in : (s t : List Bool) → In s t → In t s → (i : ℕ) → getD s i false ≡ getD t i false
+  both-in s t f g i = go (getD s i false) (getD t i false) (f i) (g i)
+    where
+      go : (a b : Bool) → Up a b → Up b a → a ≡ b
+      go true b f g = sym (f refl)
+      go false true f g = g refl
+      go false false f g = refl
+
+  -- ---- the sweeps
+
+  -- after k of them
+  pub record Going (n k : ℕ) (have : List Bool) : Type 0 where
+    pub sized : length rs ≡ n
+    pub room : n ≤ length have
+    pub within : In have (finites rs)
+    pub ahead : In (rounds k rs none) have
+
+  pub going-start : (n : ℕ) (have : List Bool) → length rs ≡ n → n ≤ length have → Empty have → Going n 0 have
+  unfolding rounds
+  going-start n have l r e = record {
+    sized = l;
+    room = r;
+    within = λ i z. clash (sym (e i) ∙ z);
+    ahead = λ i z. clash (sym (none-at (length rs) i) ∙ z);
+  }
+
+  module _ (n k : ℕ) (have next : List Bool) (x : Bool) (s : length next ≡ length have) (e : x ≡ sweepAdds rs n have) (f : next ≡ swept rs n have) (g : Going n k have) where
+    pub going-more : Going n (k + 1) next
+    going-more = record {
+      sized = g .sized;
+      room = omega (arith, g .room);
+      within = rw f (swept-within n have (omega (arith, g .sized)) (g .within));
+      ahead = rw f (go n (g .sized) (g .room));
+    }
+      where
+        go : (m : ℕ) → length rs ≡ m → m ≤ length have → In (rounds (k + 1) rs none) (swept rs m have)
+        go m l h = rw (← l) (rw one (swept-ahead k have (omega arith) (g .ahead)))
+          where
+            one : k + 1 ≡ suc k
+            one = omega arith
+
+    pub going-still : x ≡ false → Found rs next
+    unfolding finites
+    going-still z =
+        let q = swept-still n have (sym e ∙ z) in
+        rw (f ∙ q .0) (both-in have (rounds (length rs) rs none) (g .within) (rounds-closed have (λ i h. q .1 i (omega (arith, g .sized))) (length rs)))
+
+  pub going-end : (n k : ℕ) (have : List Bool) → n ≤ k → k ≤ n → Going n k have → Found rs have
+  unfolding finites
+  going-end n k have h l g = both-in have (rounds (length rs) rs none) (g .within) (go (length rs) (omega (arith, g .sized)))
+    where
+      go : (m : ℕ) → m ≡ k → In (rounds m rs none) have
+      go m e = rw e (g .ahead)
