@@ -3,6 +3,7 @@ pub mod FormComplete
 pub mod FormSound
 pub mod FormUnique
 pub mod Stuck
+pub mod Spots
 -- T4, T5, T7
 pub mod TableLaws
 pub mod FirstFault
