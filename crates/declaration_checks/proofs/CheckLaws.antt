@@ -3,24 +3,23 @@ use mathlib.Core.Path.{_≡_, refl, sym, ap, _∙_}
 use mathlib.Core.Bool.{Bool, true, false, not, _&&_, _||_}
 use mathlib.Core.List.{List, [], _∷_, _++_}
 use Prim.Native.Nat.{ℕ, zero, suc, _+_, _-_, _<_, _≤_}
-use native.Mathlib.Numerals.{add-one}
 use native.Mathlib.Nat.{zero-add, add-zero}
 use native.Mathlib.Omega.{arith}
-use lib.Dec.{eqb, leb, ltb}
+use lib.Dec.{eqb, ltb}
 use borrow.Author.Tests.{eq-eqb, ne-eqb, eqb-true, eqb-false, ltb-true, ltb-false, lt-ltb, le-ltb}
 use Rattle.classes.specs.Lists.{pick, sameBytes}
 use Rattle.numbers.specs.Limits.{none16}
 use Rattle.numbers.specs.Range.{MaybeRange, highOf}
-use Rattle.schema.specs.Record.{Record, Up, top, under, sameUp}
+use Rattle.schema.specs.Record.{top, under, sameUp}
 use Rattle.definition_rules.specs.Words.{kindOfRun, isReference, nameForm, tagForm}
 use Rattle.definition_rules.specs.Scan.{placeIf}
-use Rattle.definition_rules.specs.Forms.{MaybeRun, absent, given, ownName, tagless, explicit, Heading, heading}
+use Rattle.definition_rules.specs.Forms.{MaybeRun, absent, given}
 use Rattle.definition_rules.specs.Declarations.{Declaration, declaration, Spots, Noted, noted, declarationsOf}
-use Rattle.definition_rules.specs.Records.{countOf, topNames, recordFor, recordsFor, recordsOf, findTop, orNone}
+use Rattle.definition_rules.specs.Records.{topNames, recordFor, recordsFor, recordsOf}
 use Rattle.definition_rules.specs.Table.{numberUp}
-use Rattle.definition_rules.specs.Faults.{spotsWhere, recordSpots, nameBroken, referenceBroken, tagBroken, tagBrokenIn, rangeBroken, countBroken, countFine, withinKind, kindOf, kindsOf, isUnionAt, isAlternative, isGiven, countOnAlternative, voidMany, Key, key, sameKey, isNew, nameKey, repeatedNames, dangling, faults5, faults6}
+use Rattle.definition_rules.specs.Faults.{spotsWhere, recordSpots, nameBroken, referenceBroken, tagBroken, tagBrokenIn, rangeBroken, countBroken, countFine, withinKind, kindOf, kindsOf, isUnionAt, isAlternative, isGiven, countOnAlternative, voidMany, sameKey, isNew, nameKey, repeatedNames, dangling, faults5, faults6}
 use Rattle.declared.specs.declared.Place.{Place}
-use Rattle.declared.specs.declared.Place.the-variants.{Nowhere, At}
+use Rattle.declared.specs.declared.Place.the-variants.{Nowhere}
 use Rattle.declared.specs.Cells.{cellAt, runAt, tagAt, maybeRunAt, notedAt, notedFrom}
 use Rattle.declared.specs.Places.{leastPlace, lesser, atIf, leastFrom, spotOf}
 use Rattle.declared.proofs.PlaceLaws.{lesser-same, least-if, least-append, from-both, from-same, spots-from}
@@ -66,14 +65,19 @@ form-all t cs n =
   where
     A : List ℕ
     A = spotsWhere nameBroken (λ s. s .nameAt) (notedFrom t cs n 0)
+
     B : List ℕ
     B = spotsWhere referenceBroken (λ s. s .typeAt) (notedFrom t cs n 0)
+
     C : List ℕ
     C = spotsWhere tagBroken (λ s. s .tagAt) (notedFrom t cs n 0)
+
     f : ℕ → Place
     f j = spotOf nameBroken (λ s. s .nameAt) (notedAt t cs j)
+
     g : ℕ → Place
     g j = spotOf referenceBroken (λ s. s .typeAt) (notedAt t cs j)
+
     h : ℕ → Place
     h j = spotOf tagBroken (λ s. s .tagAt) (notedAt t cs j)
 
@@ -231,10 +235,13 @@ card-one t cs n i =
   where
     p : ℕ
     p = cellAt cs i 6
+
     a : Bool
     a = not (countFine (countsAt t cs i))
+
     b : Bool
     b = eqb (kindAt t cs i) 1 && ltb 1 (highOf (countsAt t cs i))
+
     c : Bool
     c = isAlternative (isUnionAt (kindsOf (declarationsOf (notedFrom t cs n 0)))) (numberUp (cellAt cs i 15)) && isGiven (maybeRunAt t cs i 11 6)
 
@@ -243,9 +250,14 @@ unfolding recordsOf rangeFault
 range-all t cs n =
     rw (many-spots T (λ s. s .cardAt) 0 (notedFrom t cs n 0))
     (least-append (spots rangeBroken (λ s. s .rangeAt)) (spots countBroken (λ s. s .cardAt) ++ (spots (manyIn T) (λ s. s .cardAt) ++ spots (countOnAlternative ks) (λ s. s .cardAt)))
-    ∙ (rw (least-append (spots countBroken (λ s. s .cardAt)) (spots (manyIn T) (λ s. s .cardAt) ++ spots (countOnAlternative ks) (λ s. s .cardAt)),
-    least-append (spots (manyIn T) (λ s. s .cardAt)) (spots (countOnAlternative ks) (λ s. s .cardAt)),
-    spots-from rangeBroken (λ s. s .rangeAt) t cs n 0, spots-from countBroken (λ s. s .cardAt) t cs n 0, spots-from (manyIn T) (λ s. s .cardAt) t cs n 0, spots-from (countOnAlternative ks) (λ s. s .cardAt) t cs n 0)
+    ∙ (rw (
+      least-append (spots countBroken (λ s. s .cardAt)) (spots (manyIn T) (λ s. s .cardAt) ++ spots (countOnAlternative ks) (λ s. s .cardAt)),
+      least-append (spots (manyIn T) (λ s. s .cardAt)) (spots (countOnAlternative ks) (λ s. s .cardAt)),
+      spots-from rangeBroken (λ s. s .rangeAt) t cs n 0,
+      spots-from countBroken (λ s. s .cardAt) t cs n 0,
+      spots-from (manyIn T) (λ s. s .cardAt) t cs n 0,
+      spots-from (countOnAlternative ks) (λ s. s .cardAt) t cs n 0,
+    )
     (ap (λ x. lesser (leastFrom f n 0) (lesser (leastFrom g n 0) x)) (from-both h k n 0)
     ∙ (ap (lesser (leastFrom f n 0)) (from-both g (λ j. lesser (h j) (k j)) n 0)
     ∙ (from-both f (λ j. lesser (g j) (lesser (h j) (k j))) n 0
@@ -253,16 +265,22 @@ range-all t cs n =
   where
     T : List MaybeRun
     T = namesFrom t cs n 0
+
     ks : List ℕ
     ks = kindsOf (declarationsOf (notedFrom t cs n 0))
+
     spots : (Declaration → Bool) → (Spots → ℕ) → List ℕ
     spots z at = spotsWhere z at (notedFrom t cs n 0)
+
     f : ℕ → Place
     f j = spotOf rangeBroken (λ s. s .rangeAt) (notedAt t cs j)
+
     g : ℕ → Place
     g j = spotOf countBroken (λ s. s .cardAt) (notedAt t cs j)
+
     h : ℕ → Place
     h j = spotOf (manyIn T) (λ s. s .cardAt) (notedAt t cs j)
+
     k : ℕ → Place
     k j = spotOf (countOnAlternative ks) (λ s. s .cardAt) (notedAt t cs j)
 

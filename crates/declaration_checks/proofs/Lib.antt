@@ -1,2 +1,3 @@
--- Laws of the checks.
+-- Laws of the checks, and of their answers.
 pub mod CheckLaws
+pub mod Findings

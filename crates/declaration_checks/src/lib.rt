@@ -2,16 +2,14 @@
 ghost use mathlib.Core.Path.{_≡_};
 ghost use mathlib.Core.Bool.{not, _&&_};
 ghost use mathlib.Core.List.{[]};
-ghost use lib.Dec.{leb, eqb};
+ghost use lib.Dec.{leb};
 ghost use Rattle.numbers.specs.Answers.{rangeOf};
 ghost use Rattle.definition_rules.specs.Declarations.{declarationsOf};
-ghost use Rattle.definition_rules.specs.Records.{kindLeast, kindMost, topNames, recordsOf};
+ghost use Rattle.definition_rules.specs.Records.{topNames, recordsOf};
 ghost use Rattle.definition_rules.specs.Faults.{nameBroken, referenceBroken, tagBroken, withinKind, countFine, isNew, rangeBroken, spotsWhere, repeatedNames, dangling as danglingOf, faults5, faults6};
 ghost use Rattle.declared.specs.Cells.{notedAt, notedFrom};
 ghost use Rattle.declared.specs.Places.{spotOf, leastPlace, leastFrom};
-ghost use Rattle.headings.specs.Heads.{kindAt, limitsAt, countsAt};
 ghost use Rattle.declaration_checks.specs.Checks.{formFault, onAlternative, cardBroken, rangeFault, keyAt, keysBelow, sameKeyAt, repeatFault, danglingFault, faultAt};
-
 use declared::Place;
 
 // ---- 5: forms
@@ -77,7 +75,10 @@ fn within_kind(k: u32, x: numbers::Range) -> bool
 fn limits_fault(text: &[u8], cells: &[u32], i: usize) -> Place
     ensures { λ r. ⌜ r ≡ spotOf rangeBroken (λ s. s .rangeAt) (notedAt (now (text .entry)) (now (cells .entry)) i) ⌝ }
 {
-    let broken = !within_kind(headings::kind(text, cells, i), headings::limits(text, cells, i));
+    let broken = !within_kind(
+        headings::kind(text, cells, i),
+        headings::limits(text, cells, i),
+    );
     declared::at_if(broken, declared::cell(cells, i, 2))
 }
 
@@ -136,7 +137,10 @@ fn same_key(text: &[u8], cells: &[u32], i: usize, j: usize) -> bool
     ensures { λ r. ⌜ r ≡ sameKeyAt (now (text .entry)) (now (cells .entry)) i j ⌝ }
 {
     if declared::cell(cells, i, 15) == declared::cell(cells, j, 15) {
-        return classes::same_bytes(declared::run(text, cells, i, 4), declared::run(text, cells, j, 4));
+        return classes::same_bytes(
+            declared::run(text, cells, i, 4),
+            declared::run(text, cells, j, 4),
+        );
     }
     false
 }

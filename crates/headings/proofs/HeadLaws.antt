@@ -1,8 +1,8 @@
 -- What a heading says, by the numbers that are kept of it. Assumes nothing.
-use mathlib.Core.Path.{_≡_, refl, sym, ap, _∙_}
+use mathlib.Core.Path.{_≡_, refl, sym, _∙_}
 use mathlib.Core.Bool.{Bool, true, false, _&&_}
-use mathlib.Core.List.{List, [], _∷_}
-use Prim.Native.Nat.{ℕ, zero, suc, _+_, _-_, _<_, _≤_}
+use mathlib.Core.List.{List}
+use Prim.Native.Nat.{ℕ, suc, _+_, _-_, _<_, _≤_}
 use native.Mathlib.Numerals.{add-one}
 use native.Mathlib.Omega.{arith}
 use lib.Dec.{eqb}
@@ -10,9 +10,9 @@ use borrow.Author.Tests.{eq-eqb, ne-eqb, le-leb, lt-leb}
 use Rattle.classes.specs.Lists.{pick, sameBytes}
 use Rattle.numbers.specs.Limits.{none16}
 use Rattle.numbers.specs.Range.{number, unread, MaybeRange, range, readIntRange, readCountRange}
-use Rattle.schema.specs.Record.{Up, top, under}
-use Rattle.definition_rules.specs.Forms.{ownName, tagless, explicit, Heading, heading}
-use Rattle.definition_rules.specs.Declarations.{Declaration, declaration, declarationsOf}
+use Rattle.schema.specs.Record.{top, under}
+use Rattle.definition_rules.specs.Forms.{heading}
+use Rattle.definition_rules.specs.Declarations.{declaration, declarationsOf}
 use Rattle.definition_rules.specs.Words.{kindTakesRange}
 use Rattle.definition_rules.specs.Records.{kindLeast, kindMost, rangeOf, countOf, topName, topNames, isNamed, findTop, orNone, targetOf, labelOf}
 use Rattle.definition_rules.specs.Table.{numberUp}

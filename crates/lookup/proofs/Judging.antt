@@ -1,17 +1,16 @@
 -- The value rule that each kind's number picks.
-use mathlib.Core.Path.{_≡_, refl, ap, sym, _∙_}
-use mathlib.Core.Bool.{Bool, true, false, not, _&&_, _||_}
+use mathlib.Core.Path.{_≡_, refl, sym, _∙_}
+use mathlib.Core.Bool.{Bool, true, false, not, _&&_}
 use mathlib.Core.List.{List}
-use Prim.Native.Nat.{ℕ, _+_, _≤_, _<_}
+use Prim.Native.Nat.{ℕ, _+_, _<_}
 use native.Mathlib.Omega.{arith}
 use borrow.Author.Tests.{ne-eqb, lt-leb}
 use lib.Dec.{eqb, leb}
-use lib.ListN.{length}
 use Rattle.classes.specs.Bytes.{between}
 use Rattle.numbers.specs.Limits.{bias}
-use Rattle.numbers.specs.Decimal.{isInt, intWithin}
+use Rattle.numbers.specs.Decimal.{isInt}
 use Rattle.calendar.specs.Calendar.{isDate, isTime}
-use Rattle.schema.specs.Token.{Token, word, string}
+use Rattle.schema.specs.Token.{word, string}
 use Rattle.schema.specs.Record.{Record, blank}
 use Rattle.schema.specs.Value.{isBool, wordForm, wordWithin, formThenRange, valueNumber}
 use Rattle.schema.proofs.CountLaws.{clash-bool}

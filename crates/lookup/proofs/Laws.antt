@@ -2,13 +2,13 @@
 use mathlib.Core.Path.{_≡_, refl, ap, sym, _∙_, subst}
 use mathlib.Core.Bool.{Bool, true, false}
 use mathlib.Core.List.{List, [], _∷_}
-use Prim.Native.Nat.{ℕ, zero, suc, _+_, _-_, _≤_, _<_}
+use Prim.Native.Nat.{ℕ, suc, _+_, _-_, _≤_, _<_}
 use native.Mathlib.Omega.{arith}
 use native.Mathlib.Numerals.{add-one}
 use lib.ListN.{length, drop, length-drop}
 use lib.Seq.{drop-drop}
-use Rattle.schema.specs.Record.{Record, recordAt}
-use Rattle.schema.specs.Schema.{Kind, Found, nowhere, found, Schema, schemaOf, first, firstWhere, numbersWhere, isUntaggedOf, isTaggedAs, kindOf}
+use Rattle.schema.specs.Record.{Record}
+use Rattle.schema.specs.Schema.{nowhere, found, schemaOf, first, numbersWhere, isUntaggedOf, isTaggedAs, kindOf}
 use Rattle.schema.proofs.Rules.{where-is}
 use Rattle.records.specs.Stored.{recordsAt}
 use Rattle.records.proofs.Laws.{length-records}

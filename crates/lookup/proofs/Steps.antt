@@ -2,14 +2,13 @@
 use mathlib.Core.Path.{_≡_, refl, ap, sym, _∙_}
 use mathlib.Core.Bool.{Bool, true, false, not, _&&_}
 use mathlib.Core.List.{List, [], _∷_}
-use Prim.Native.Nat.{ℕ, zero, suc, _+_, _-_, _≤_, _<_}
-use native.Mathlib.Omega.{arith}
+use Prim.Native.Nat.{ℕ, suc, _+_, _-_, _≤_, _<_}
 use native.Mathlib.Numerals.{add-one}
 use borrow.Author.Tests.{ne-eqb}
 use lib.Dec.{eqb}
 use lib.ListN.{drop}
 use Rattle.schema.specs.Record.{Record, blank}
-use Rattle.schema.specs.Schema.{Kind, void, simple, struct, union, reference, Found, nowhere, found, Schema, schemaOf, first, firstWhere, numbersWhere, isTaggedAs, isVoid, kindOf, coreOf}
+use Rattle.schema.specs.Schema.{Kind, void, simple, struct, union, reference, Found, nowhere, found, schemaOf, first, firstWhere, numbersWhere, isTaggedAs, isVoid, kindOf, coreOf}
 use Rattle.schema.proofs.CountLaws.{clash-bool}
 use Rattle.records.specs.Stored.{recordIn, recordsFrom, recordsAt}
 use Rattle.records.proofs.Laws.{record-at, record-past, records-left, records-more, records-end, records-all}

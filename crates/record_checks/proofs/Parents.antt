@@ -3,12 +3,11 @@ use mathlib.Core.Path.{_≡_, refl, ap, sym, _∙_}
 use mathlib.Core.Bool.{Bool, true, false}
 use mathlib.Core.List.{List}
 use Prim.Native.Nat.{ℕ, _≤_, _<_}
-use native.Mathlib.Omega.{arith}
-use borrow.Author.Tests.{eqb-true, eqb-false, eq-eqb, ne-eqb}
+use borrow.Author.Tests.{eqb-true, eqb-false, ne-eqb}
 use lib.Dec.{eqb}
 use Rattle.classes.specs.Lists.{pick}
 use Rattle.numbers.specs.Limits.{none16}
-use Rattle.schema.specs.Record.{Record, Up, top, under, isTop, sameUp, recordAt, blank}
+use Rattle.schema.specs.Record.{Record, Up, top, under, isTop, sameUp, blank}
 use Rattle.definition_rules.specs.Table.{upNumber, numberUp}
 use Rattle.definition_rules.specs.Faults.{parentKind, beside}
 use Rattle.records.specs.Stored.{storedAt, recordIn, recordsAt}

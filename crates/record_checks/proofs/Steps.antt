@@ -1,13 +1,11 @@
 -- One step of number 10, by loops over the records.
-use mathlib.Core.Path.{_≡_, refl, ap, sym, _∙_}
+use mathlib.Core.Path.{_≡_, refl, _∙_}
 use mathlib.Core.Bool.{Bool, true, false, _&&_, _||_}
-use mathlib.Core.List.{List, [], _∷_}
-use Prim.Native.Nat.{ℕ, zero, suc, _+_, _-_, _≤_, _<_}
+use mathlib.Core.List.{List}
+use Prim.Native.Nat.{ℕ, _+_, _-_, _≤_, _<_}
 use native.Mathlib.Numerals.{add-one}
-use native.Mathlib.Omega.{arith}
 use lib.ListN.{getD}
 use Rattle.classes.specs.Lists.{pick}
-use Rattle.schema.specs.Record.{Record}
 use Rattle.schema.specs.Schema.{isUnder}
 use Rattle.definition_rules.specs.Finite.{canDoWithout, endsNeeds, structStep, unionStep}
 use Rattle.records.specs.Stored.{recordIn, recordsFrom, recordsAt}

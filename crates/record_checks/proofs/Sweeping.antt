@@ -1,6 +1,6 @@
 -- Sweeps in place reach number 10's outcome: what they add lies in it, and they go as far as its rounds.
 use mathlib.Core.Path.{_≡_, refl, ap, sym, _∙_}
-use mathlib.Core.Bool.{Bool, true, false, not, _&&_, _||_}
+use mathlib.Core.Bool.{Bool, true, false, _&&_, _||_}
 use mathlib.Core.List.{List, [], _∷_}
 use Prim.Native.Nat.{ℕ, zero, suc, _+_, _-_, _≤_, _<_}
 use native.Mathlib.Omega.{arith}
@@ -11,13 +11,11 @@ use borrow.Author.Tests.{eqb-true, eqb-false, ltb-true, ltb-false}
 use Rattle.classes.specs.Lists.{pick}
 use Rattle.schema.specs.Record.{Record, recordAt, blank}
 use Rattle.schema.specs.Schema.{isUnder}
+use Rattle.schema.proofs.CountLaws.{clash-bool}
 use Rattle.definition_rules.specs.Finite.{canDoWithout, endsNeeds, structStep, unionStep, finiteStep, round, rounds, finites}
 use Rattle.definition_rules.proofs.FirstFault.{Either, left, right}
-use Rattle.definition_rules.proofs.FiniteLaws.{Sub, sub-at, finites-closed}
+use Rattle.definition_rules.proofs.FiniteLaws.{sub-at, finites-closed}
 use Rattle.record_checks.specs.Sweeps.{isAdded, added, swept, sweepAdds, Empty, Found}
-
-clash : {X : Type 0} → _≡_ {A = Bool} false true → X
-clash e = let x : _≡_ {A = ℕ} 0 1 = cc in absurd (omega arith)
 
 -- ---- sets of parameters
 
@@ -62,7 +60,7 @@ module _ (have : List Bool) (i : ℕ) (below : (k : ℕ) → k < i → getD have
 
 and-up : (a b c d : Bool) → Up a c → Up b d → Up (a && b) (c && d)
 and-up true b c d f g e = rw (f refl) (g e)
-and-up false b c d f g e = clash e
+and-up false b c d f g e = clash-bool e
 
 or-up : (a b c d : Bool) → Up a c → Up b d → Up (a || b) (c || d)
 or-up true b c d f g e = rw (f refl)
@@ -108,7 +106,7 @@ round-at all have i (r ∷ rs) (suc k) h = round-at all have (suc i) rs k (omega
 
 round-in : (all : List Record) (have : List Bool) (i : ℕ) (rs : List Record) (k : ℕ) → getD (round all have i rs) k false ≡ true → k < length rs
 unfolding round
-round-in all have i [] k e = clash e
+round-in all have i [] k e = clash-bool e
 round-in all have i (r ∷ rs) zero e = omega arith
 round-in all have i (r ∷ rs) (suc k) e = omega (arith, round-in all have (suc i) rs k e)
 
@@ -149,7 +147,7 @@ module _ (rs : List Record) where
       where
         go : (b : Bool) → pick b false (stepAt have i) ≡ false → Up (stepAt have i) b
         go true z s = refl
-        go false z s = unfold pick in (clash (sym z ∙ s))
+        go false z s = unfold pick in (clash-bool (sym z ∙ s))
 
     added-length : length (added rs have i) ≡ length have
     unfolding added
@@ -174,7 +172,7 @@ module _ (rs : List Record) where
         go : (b d : Bool) → getD have i false ≡ b → d ≡ true → getD (pick (pick b false d) (set have i true) have) i false ≡ true
         go true d z f = unfold pick in z
         go false true z f = unfold pick in (getD-set-same have i true false h)
-        go false false z f = clash f
+        go false false z f = clash-bool f
 
     added-within : i < length rs → In have (finites rs) → In (added rs have i) (finites rs)
     unfolding added isAdded
@@ -274,14 +272,14 @@ module _ (rs : List Record) where
       one k false z s f g h = let q = eqb-false k i z in f (omega arith)
 
       go : (b : Bool) → isAdded rs have i ≡ b → b || sweepAdds rs i (added rs have i) ≡ false → (sweepAdds rs i have ≡ false → (swept rs i have ≡ have) × ((k : ℕ) → k < i → Up (stepAt have k) (getD have k false))) → (swept rs i (added rs have i) ≡ have) × ((k : ℕ) → k < suc i → Up (stepAt have k) (getD have k false))
-      go true z e r = clash (sym e)
+      go true z e r = clash-bool (sym e)
       go false z e r =
           let q = not-added have i z in
           let y = r (rw (q .0) at e) in
           (rw (q .0) (y .0), λ k h s. one k (eqb k i) refl s (λ l. y .1 k l s) (q .1) h)
 
   rounds-closed : (have : List Bool) → ((k : ℕ) → k < length rs → Up (stepAt have k) (getD have k false)) → (m : ℕ) → In (rounds m rs none) have
-  rounds-closed have c zero k e = unfold rounds in (clash (sym (none-at (length rs) k) ∙ e))
+  rounds-closed have c zero k e = unfold rounds in (clash-bool (sym (none-at (length rs) k) ∙ e))
   rounds-closed have c (suc m) k e =
       let z = rw (rounds-more m rs none) at e in
       let h = round-in rs (rounds m rs none) 0 rs k z in
@@ -309,8 +307,8 @@ module _ (rs : List Record) where
   going-start n have l r e = record {
     sized = l;
     room = r;
-    within = λ i z. clash (sym (e i) ∙ z);
-    ahead = λ i z. clash (sym (none-at (length rs) i) ∙ z);
+    within = λ i z. clash-bool (sym (e i) ∙ z);
+    ahead = λ i z. clash-bool (sym (none-at (length rs) i) ∙ z);
   }
 
   module _ (n k : ℕ) (have next : List Bool) (x : Bool) (s : length next ≡ length have) (e : x ≡ sweepAdds rs n have) (f : next ≡ swept rs n have) (g : Going n k have) where

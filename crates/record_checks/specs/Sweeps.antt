@@ -1,9 +1,9 @@
 -- Finite values found in place: a sweep goes over the parameters from the last to the first.
 use mathlib.Core.Path.{_≡_}
-use mathlib.Core.Bool.{Bool, true, false, not, _&&_, _||_}
+use mathlib.Core.Bool.{Bool, true, false, _||_}
 use mathlib.Core.List.{List}
-use Prim.Native.Nat.{ℕ, zero, suc, _≤_}
-use lib.ListN.{length, getD, set}
+use Prim.Native.Nat.{ℕ, zero, suc}
+use lib.ListN.{getD, set}
 use Rattle.classes.specs.Lists.{pick}
 use Rattle.schema.specs.Schema.{isUnder}
 use Rattle.schema.specs.Record.{Record, recordAt}

@@ -2,12 +2,11 @@
 // the records' offsets, n is how many there are, and i is the number of the record that is judged.
 ghost use mathlib.Core.Path.{_≡_};
 ghost use mathlib.Core.Bool.{false, true, _&&_};
-ghost use Prim.Native.Nat.{ℕ, _≤_, _<_};
+ghost use Prim.Native.Nat.{_≤_, _<_};
 ghost use lib.ListN.{length, getD, set};
 ghost use Rattle.schema.specs.Record.{isTop};
 ghost use Rattle.schema.specs.Schema.{isUnder};
 ghost use Rattle.definition_rules.specs.Finite.{canDoWithout, endsNeeds, structStep, unionStep, finiteStep, isEndless};
-ghost use Rattle.definition_rules.specs.Words.{kindIsCompound};
 ghost use Rattle.definition_rules.specs.Faults.{voidMany, anyBefore, parentKind, beside as isBeside, misplacedField, misplacedAlternative, misplacedUntagged, numberTag, voidTop, pluginUndotted, rule7Broken, hasWireTag, tagRepeated, rootNoStruct};
 ghost use Rattle.records.specs.Stored.{recordIn, recordsAt};
 ghost use Rattle.record_checks.specs.Besides.{isSuch};
@@ -75,7 +74,10 @@ fn same_tag(table: &[u8], offs: &[u32], i: usize, j: usize) -> bool
     if !beside(table, offs, i, j) {
         return false;
     }
-    classes::same_bytes(records::label_at(table, offs, j), records::label_at(table, offs, i))
+    classes::same_bytes(
+        records::label_at(table, offs, j),
+        records::label_at(table, offs, i),
+    )
 }
 
 fn is_such(table: &[u8], offs: &[u32], i: usize, j: usize, such: Such) -> bool
@@ -247,7 +249,9 @@ fn add(have: &mut [bool], i: usize)
 fn can_do_without(table: &[u8], offs: &[u32], i: usize) -> bool
     ensures { λ r. ⌜ r ≡ canDoWithout (recordIn (now (table .entry)) (now (offs .entry)) i) ⌝ }
 {
-    (records::lo_count_at(table, offs, i) == 0) | records::extension_at(table, offs, i) | records::plugin_at(table, offs, i)
+    (records::lo_count_at(table, offs, i) == 0)
+        | records::extension_at(table, offs, i)
+        | records::plugin_at(table, offs, i)
 }
 
 fn ends_needs(table: &[u8], offs: &[u32], i: usize) -> bool

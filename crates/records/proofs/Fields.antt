@@ -1,7 +1,7 @@
 -- A record's numbers against its fields.
 use mathlib.Core.Path.{_≡_, refl, ap, sym, _∙_}
 use mathlib.Core.Bool.{Bool, true, false, not, _&&_}
-use mathlib.Core.List.{List, [], _∷_}
+use mathlib.Core.List.{List, []}
 use Prim.Native.Nat.{ℕ, _+_, _-_, _≤_, _<_}
 use native.Mathlib.Omega.{arith}
 use borrow.Author.Tests.{eqb-true}
@@ -10,7 +10,7 @@ use lib.ListN.{length, take, drop, length-drop, drop-of-length-le}
 use lib.Seq.{take-all, take-nil}
 use Rattle.classes.specs.Lists.{pick}
 use Rattle.numbers.specs.Limits.{none16}
-use Rattle.schema.specs.Record.{Up, top, under}
+use Rattle.schema.specs.Record.{top, under}
 use Rattle.schema.specs.Schema.{isUnder}
 use Rattle.definition_rules.specs.Table.{upNumber, numberUp}
 

@@ -1,13 +1,13 @@
 -- Records found by offsets: their number, each of them, and one more in a loop.
-use mathlib.Core.Path.{_≡_, refl, ap, sym, _∙_}
+use mathlib.Core.Path.{_≡_, refl, ap, _∙_}
 use mathlib.Core.List.{List, [], _∷_, _++_}
 use Prim.Native.Nat.{ℕ, zero, suc, _+_, _-_, _≤_, _<_}
 use native.Mathlib.Omega.{arith}
 use native.Mathlib.Numerals.{add-one}
 use lib.ListN.{length, getD, drop, set, List·getD-eq-default}
 use lib.Seq.{getD-set-other}
-use Rattle.schema.specs.Record.{Record, blank, recordAt}
-use Rattle.records.specs.Stored.{storedAt, recordIn, recordsFrom, recordsAt}
+use Rattle.schema.specs.Record.{blank, recordAt}
+use Rattle.records.specs.Stored.{recordIn, recordsFrom, recordsAt}
 
 module _ (t offs : List ℕ) where
   pub length-records : (n i : ℕ) → length (recordsFrom t offs n i) ≡ n

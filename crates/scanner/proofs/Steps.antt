@@ -130,7 +130,7 @@ module _ (text : List ℕ) (at : ℕ) (h : at < length text) where
     module _ (k : isBlank (getD text at 0) ≡ false) where
       pub mark-here : isMark (getD text at 0) ≡ true → MarkAt text at (getD text at 0) at (at + 1)
       unfolding live
-      mark-here m = record { cut = rw (add-one at, drop-cons text at 0 h, at-single (getD text at 0) at (drop (suc at) text) (class-single _ r k m)); after = omega arith; next = omega arith; within = omega arith }
+      mark-here m = record { cut = rw (add-one at, drop-cons text at 0 h, at-single (getD text at 0) at (drop (suc at) text) (class-single _ r k m)); byte = m; after = omega arith; next = omega arith; within = omega arith }
 
       pub bad-here : isMark (getD text at 0) ≡ false → (getD text at 0 ≡ 47 → ⊥) → BadAt text at at
       unfolding live
@@ -265,6 +265,6 @@ along-out {text} {from} {at} i t x e l = by x (rw e at l)
   where
     by : (x : Lexeme) → Lexed text at x → Lexed text from x
     by (Run a c) l = record { cut = i .same ∙ l .cut; after = omega (arith, i .after, l .after); some = l .some; within = l .within }
-    by (Mark b a c) l = record { cut = i .same ∙ l .cut; after = omega (arith, i .after, l .after); next = l .next; within = l .within }
+    by (Mark b a c) l = record { cut = i .same ∙ l .cut; byte = l .byte; after = omega (arith, i .after, l .after); next = l .next; within = l .within }
     by (Bad p) l = record { rest = l .rest; cut = i .same ∙ l .cut; later = l .later; after = omega (arith, i .after, l .after); within = l .within }
     by End l = i .same ∙ l

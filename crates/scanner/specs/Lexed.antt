@@ -3,6 +3,8 @@ use mathlib.Core.Path.{_≡_}
 use mathlib.Core.List.{List, [], _∷_}
 use Prim.Native.Nat.{ℕ, suc, _+_, _≤_, _<_}
 use lib.ListN.{length, drop}
+use mathlib.Core.Bool.{true}
+use Rattle.classes.specs.Bytes.{isMark}
 use Rattle.definition_rules.specs.Scan.{Item, item, bad, run, mark, outside, lineComment, comment, scan}
 use Rattle.declared.specs.Cells.{part}
 use Rattle.scanner.specs.Live.{live, liveFrom, Ahead}
@@ -35,6 +37,7 @@ pub record RunAt (text : List ℕ) (at a e : ℕ) : Type 0 where
 
 pub record MarkAt (text : List ℕ) (at b a e : ℕ) : Type 0 where
   pub cut : liveFrom text at ≡ item a (mark b) ∷ liveFrom text e
+  pub byte : isMark b ≡ true
   pub after : at ≤ a
   pub next : e ≡ suc a
   pub within : e ≤ length text

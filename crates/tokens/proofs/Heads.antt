@@ -36,11 +36,11 @@ module _ (base : ℕ) (s : List ℕ) (i : ℕ) (t : Token) (a e : ℕ) (h : Step
 
 module _ (base : ℕ) (s : List ℕ) (i : ℕ) (l : Lexeme) (r : Reads (cutAt base s i) base s i l) where
   head-some : (k : ℕ) (a : ℕ) (u : Cursor) → k ≤ 6 → (k ≡ 0 → ⊥) → Step (cutAt base s i) base s i (tokenOf k s a (u .at)) a (u .at) → HeadAt base s i (record { kind = k; start = a; past = u })
-  head-some k a u f n w = record { few = f; none = λ z. absurd (n z); some = λ _. w; place = step-place base s i (tokenOf k s a (u .at)) a (u .at) w (base + length s) }
+  head-some k a u f n w = record { few = f; none = λ z. absurd (n z); some = λ _. w; within = omega (arith, w .less, w .within); place = step-place base s i (tokenOf k s a (u .at)) a (u .at) w (base + length s) }
 
   head-none : (u : Cursor) → lexemesAt base s i ≡ [] → HeadAt base s i (record { kind = 0; start = length s; past = u })
   unfolding startOr
-  head-none u e = record { few = omega arith; none = λ z. e; some = λ n. absurd (n refl); place = rw e refl }
+  head-none u e = record { few = omega arith; none = λ z. e; some = λ n. absurd (n refl); within = omega arith; place = rw e refl }
 
   pub head-word : (a : ℕ) (u : Cursor) → l ≡ Word a u → HeadAt base s i (record { kind = 1; start = a; past = u })
   unfolding tokenOf

@@ -40,4 +40,5 @@ pub record HeadAt (base : ℕ) (s : List ℕ) (lo : ℕ) (h : Head) : Type 0 whe
   pub few : h .kind ≤ 6
   pub none : h .kind ≡ 0 → lexemesAt base s lo ≡ []
   pub some : (h .kind ≡ 0 → ⊥) → Step (cutAt base s lo) base s lo (tokenOf (h .kind) s (h .start) (h .past .at)) (h .start) (h .past .at)
+  pub within : h .start ≤ length s
   pub place : base + h .start ≡ startOr (base + length s) (lexemesAt base s lo)

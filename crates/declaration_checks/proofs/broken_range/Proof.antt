@@ -9,8 +9,10 @@ use Rattle.declaration_checks.proofs.least_fault.Reads as least-fault-r
 -- src/lib.rt:219:5
 least-fault-requires : tie.Need-least-fault-requires
 least-fault-requires c κs = search needs
+
 -- src/lib.rt:216:1
 returns : tie.Need-returns
 returns c = all-six (c .before .before .before .args .text .now) (c .before .before .before .args .cells .now) (c .before .before .before .args .n) _ (c .least-fault .ensures)
+
 pub broken-range-spec : {M : Type 1} → statement M
 broken-range-spec = tie.close (tie.spec least-fault-requires returns)

@@ -13,24 +13,31 @@ use Rattle.words.proofs.kind_of_run.Reads as kind-of-run-reads
 -- src/lib.rt:170:9
 run-requires : tie.Need-run-requires
 run-requires c κs = search needs
+
 -- src/lib.rt:171:8
 kind-of-run-requires : tie.Need-kind-of-run-requires
 kind-of-run-requires c κs = search needs
+
 -- src/lib.rt:172:20
 find-top-requires : tie.Need-find-top-requires
 find-top-requires c κs = search needs
+
 -- src/lib.rt:173:38
 cell-requires : tie.Need-cell-requires
 cell-requires c κs = search needs
+
 -- src/lib.rt:173:9
 at-if-requires : tie.Need-at-if-requires
 at-if-requires c κs = search needs
+
 -- src/lib.rt:173:9
 returns : tie.Need-returns
 returns c = dangling-is (c .before .before .before .before .before .before .before .before .args .text .now) (c .before .before .before .before .before .before .before .before .args .cells .now) (c .before .before .before .before .before .before .before .before .args .n) (c .before .before .before .before .before .before .before .before .args .i) _ _ (c .before .before .before .before .before .run .ensures) (c .before .before .before .before .kind-of-run .ensures) _ _ _ (c .before .before .before .if1 .taken) (c .before .before .find-top .ensures) (c .before .cell .ensures) (c .at-if .ensures)
+
 -- src/lib.rt:167:1
 returns-2 : tie.Need-returns-2
 returns-2 c = dangling-not (c .before .before .before .before .before .args .text .now) (c .before .before .before .before .before .args .cells .now) (c .before .before .before .before .before .args .n) (c .before .before .before .before .before .args .i) _ _ (c .before .before .run .ensures) (c .before .kind-of-run .ensures) (c .if1 .left)
+
 pub dangling-fault-spec : {M : Type 1} → statement M
 dangling-fault-spec =
     tie.close

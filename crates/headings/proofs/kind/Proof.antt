@@ -10,11 +10,14 @@ use Rattle.words.proofs.kind_of_run.Reads as kind-of-run-reads
 -- src/lib.rt:9:24
 run-requires : tie.Need-run-requires
 run-requires c κs = search needs
+
 -- src/lib.rt:9:5
 kind-of-run-requires : tie.Need-kind-of-run-requires
 kind-of-run-requires c κs = search needs
+
 -- src/lib.rt:6:1
 returns : tie.Need-returns
 returns c = c .kind-of-run .ensures ∙ rw (c .before .run .ensures)
+
 pub kind-spec : {M : Type 1} → statement M
 kind-spec = tie.close (tie.spec run-requires kind-of-run-requires returns)

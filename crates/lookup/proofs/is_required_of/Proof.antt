@@ -1,4 +1,3 @@
-use mathlib.Core.Path.{_∙_, refl}
 use Rattle.lookup.proofs.Bools.{both, stops}
 use borrow.Author.Needs.{needs}
 use Rattle.lookup.proofs.is_required_of.Statement.{statement}

@@ -1,4 +1,4 @@
-use mathlib.Core.Path.{_∙_, refl}
+use mathlib.Core.Path.{_∙_}
 use Rattle.lookup.proofs.Bools.{both, stops}
 use borrow.Author.Needs.{needs}
 use Rattle.lookup.proofs.is_tagged_as.Statement.{statement}

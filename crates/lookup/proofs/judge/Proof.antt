@@ -1,6 +1,6 @@
 use denote.Ref.{now}
-use mathlib.Core.Path.{_∙_, sym, refl}
-use Rattle.schema.specs.Record.{Record, blank}
+use mathlib.Core.Path.{_∙_, sym}
+use Rattle.schema.specs.Record.{Record}
 use Rattle.schema.specs.Schema.{schemaOf}
 use Rattle.schema.specs.Value.{valueNumber}
 use Rattle.records.specs.Stored.{recordIn}

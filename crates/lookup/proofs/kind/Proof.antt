@@ -1,4 +1,4 @@
-use mathlib.Core.Path.{_≡_, sym, _∙_}
+use mathlib.Core.Path.{sym, _∙_}
 use Rattle.schema.specs.Schema.{schemaOf, kindOf}
 use Rattle.lookup.proofs.Steps.{kind-simple}
 use borrow.Author.Needs.{needs}

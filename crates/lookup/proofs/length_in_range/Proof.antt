@@ -1,4 +1,4 @@
-use mathlib.Core.Path.{_∙_, refl}
+use mathlib.Core.Path.{_∙_}
 use borrow.Author.Needs.{needs}
 use Rattle.lookup.proofs.length_in_range.Statement.{statement}
 use Rattle.lookup.proofs.length_in_range.Tie as tie

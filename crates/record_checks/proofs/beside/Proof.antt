@@ -2,18 +2,15 @@ use Rattle.record_checks.proofs.Parents.{beside-is}
 use borrow.Author.Needs.{needs}
 use Rattle.record_checks.proofs.beside.Statement.{statement}
 use Rattle.record_checks.proofs.beside.Tie as tie
-use Rattle.record_checks.proofs.beside.Reads as reads
-use Rattle.record_checks.proofs.beside.Lts as lts
-use Rattle.records.proofs.parent_at.Reads as parent-at-reads
 
--- src/lib.rt:43:5
 parent-at-requires : tie.Need-parent-at-requires
 parent-at-requires c κs = search needs
--- src/lib.rt:43:43
+
 parent-at-requires-2 : tie.Need-parent-at-requires-2
 parent-at-requires-2 c κs = search needs
--- src/lib.rt:40:1
+
 returns : tie.Need-returns
 returns c = beside-is (c .before .before .before .before .args .table .now) (c .before .before .before .before .args .offs .now) (c .before .before .before .before .args .i) (c .before .before .before .before .args .j) _ _ (c .before .parent-at .ensures) (c .parent-at2 .ensures)
+
 pub beside-spec : {M : Type 1} → statement M
 beside-spec = tie.close (tie.spec parent-at-requires parent-at-requires-2 returns)

@@ -2,25 +2,20 @@ use Rattle.definition_rules.specs.Finite.{canDoWithout}
 use borrow.Author.Needs.{needs}
 use Rattle.record_checks.proofs.can_do_without.Statement.{statement}
 use Rattle.record_checks.proofs.can_do_without.Tie as tie
-use Rattle.record_checks.proofs.can_do_without.Reads as reads
-use Rattle.record_checks.proofs.can_do_without.Lts as lts
-use Rattle.records.proofs.extension_at.Reads as extension-at-reads
-use Rattle.records.proofs.lo_count_at.Reads as lo-count-at-reads
-use Rattle.records.proofs.plugin_at.Reads as plugin-at-reads
 
--- src/lib.rt:250:6
 lo-count-at-requires : tie.Need-lo-count-at-requires
 lo-count-at-requires c κs = search needs
--- src/lib.rt:250:51
+
 extension-at-requires : tie.Need-extension-at-requires
 extension-at-requires c κs = search needs
--- src/lib.rt:250:91
+
 plugin-at-requires : tie.Need-plugin-at-requires
 plugin-at-requires c κs = search needs
--- src/lib.rt:247:1
+
 returns : tie.Need-returns
 unfolding canDoWithout
 returns c = rw (c .before .before .lo-count-at .ensures, c .before .extension-at .ensures, c .plugin-at .ensures)
+
 pub can-do-without-spec : {M : Type 1} → statement M
 can-do-without-spec =
     tie.close (tie.spec lo-count-at-requires extension-at-requires plugin-at-requires returns)

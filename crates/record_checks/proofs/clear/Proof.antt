@@ -7,34 +7,34 @@ use borrow.Author.Needs.{needs}
 use Rattle.record_checks.proofs.Sweeping.{clear-more, clear-end}
 use Rattle.record_checks.proofs.clear.Statement.{statement}
 use Rattle.record_checks.proofs.clear.Tie as tie
-use Rattle.record_checks.proofs.clear.Reads as reads
-use Rattle.record_checks.proofs.clear.Lts as lts
 
 abbrev Inv-loop : tie.InvT-loop
 Inv-loop have₀ i₀ have i = ((k : ℕ) → k < i → getD have k false ≡ false) × (length have ≡ length have₀)
+
 abbrev μ-loop : tie.MeasureT-loop
 μ-loop have₀ i₀ have i = length have₀ - i
--- src/lib.rt:369:5
+
 loop-holds : tie.Need-loop-holds Inv-loop μ-loop
 loop-holds c = ((λ k h. absurd (omega arith)), refl)
--- src/lib.rt:370:9
+
 slice-write-have : tie.Need-slice-write-have Inv-loop μ-loop
 slice-write-have c = search needs
--- src/lib.rt:371:9
+
 add-i : tie.Need-add-i Inv-loop μ-loop
 add-i c = search needs
--- src/lib.rt:369:5
+
 loop-less : tie.Need-loop-less Inv-loop μ-loop
 loop-less c = search needs
--- src/lib.rt:369:5
+
 loop-again : tie.Need-loop-again Inv-loop μ-loop
 loop-again c = (clear-more (c .before .loop .have) (c .before .loop .i) (c .before .loop .inv .0) (c .loop-test .taken), simp length-set (c .before .loop .inv .1))
--- src/lib.rt:365:1
+
 same-length : tie.Need-same-length Inv-loop μ-loop
 same-length c = search needs
--- src/lib.rt:365:1
+
 returns : tie.Need-returns Inv-loop μ-loop
 returns c = clear-end (c .before .loop .have) (c .before .loop .i) (c .before .loop .inv .0) (c .loop-test .left)
+
 pub clear-spec : {M : Type 1} → statement M
 clear-spec =
     tie.close

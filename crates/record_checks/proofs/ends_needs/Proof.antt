@@ -2,20 +2,16 @@ use Rattle.definition_rules.specs.Finite.{endsNeeds}
 use borrow.Author.Needs.{needs}
 use Rattle.record_checks.proofs.ends_needs.Statement.{statement}
 use Rattle.record_checks.proofs.ends_needs.Tie as tie
-use Rattle.record_checks.proofs.ends_needs.Reads as reads
-use Rattle.record_checks.proofs.ends_needs.Lts as lts
-use Rattle.records.proofs.lo_count_at.Reads as lo-count-at-reads
-use Rattle.records.proofs.untagged_at.Reads as untagged-at-reads
 
--- src/lib.rt:256:5
 untagged-at-requires : tie.Need-untagged-at-requires
 untagged-at-requires c κs = search needs
--- src/lib.rt:256:45
+
 lo-count-at-requires : tie.Need-lo-count-at-requires
 lo-count-at-requires c κs = search needs
--- src/lib.rt:253:1
+
 returns : tie.Need-returns
 unfolding endsNeeds
 returns c = rw (c .before .untagged-at .ensures, c .lo-count-at .ensures)
+
 pub ends-needs-spec : {M : Type 1} → statement M
 ends-needs-spec = tie.close (tie.spec untagged-at-requires lo-count-at-requires returns)

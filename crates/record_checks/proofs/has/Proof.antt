@@ -4,17 +4,15 @@ use lib.ListN.{List·getD-eq-default}
 use borrow.Author.Needs.{needs}
 use Rattle.record_checks.proofs.has.Statement.{statement}
 use Rattle.record_checks.proofs.has.Tie as tie
-use Rattle.record_checks.proofs.has.Reads as reads
-use Rattle.record_checks.proofs.has.Lts as lts
 
--- src/lib.rt:234:16
 shared-slice-read-result : tie.Need-shared-slice-read-result
 shared-slice-read-result c = search needs
--- src/lib.rt:234:9
+
 returns : tie.Need-returns
 returns c = search needs
--- src/lib.rt:230:1
+
 returns-2 : tie.Need-returns-2
 returns-2 c = sym (List·getD-eq-default (c .before .args .have .now) false (c .if1 .left))
+
 pub has-spec : {M : Type 1} → statement M
 has-spec = tie.close (tie.spec shared-slice-read-result returns returns-2)

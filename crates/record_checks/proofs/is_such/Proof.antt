@@ -2,57 +2,52 @@ use Rattle.record_checks.specs.Besides.{isSuch}
 use borrow.Author.Needs.{needs}
 use Rattle.record_checks.proofs.is_such.Statement.{statement}
 use Rattle.record_checks.proofs.is_such.Tie as tie
-use Rattle.record_checks.proofs.is_such.Reads as reads
-use Rattle.record_checks.proofs.is_such.Lts as lts
-use Rattle.record_checks.proofs.beside.Reads as beside-reads
-use Rattle.record_checks.proofs.same_tag.Reads as same-tag-reads
-use Rattle.records.proofs.untagged_at.Reads as untagged-at-reads
 
--- src/lib.rt:85:22
 enum-told : tie.Need-enum-told
 enum-told c = search needs
--- src/lib.rt:85:22
+
 beside-requires : tie.Need-beside-requires
 beside-requires c κs = search needs
--- src/lib.rt:86:25
+
 enum-told-2 : tie.Need-enum-told-2
 enum-told-2 c = search needs
--- src/lib.rt:86:25
+
 beside-requires-2 : tie.Need-beside-requires-2
 beside-requires-2 c κs = search needs
--- src/lib.rt:86:54
+
 untagged-at-requires : tie.Need-untagged-at-requires
 untagged-at-requires c κs = search needs
--- src/lib.rt:87:27
+
 enum-told-3 : tie.Need-enum-told-3
 enum-told-3 c = search needs
--- src/lib.rt:87:27
+
 beside-requires-3 : tie.Need-beside-requires-3
 beside-requires-3 c κs = search needs
--- src/lib.rt:87:55
+
 untagged-at-requires-2 : tie.Need-untagged-at-requires-2
 untagged-at-requires-2 c κs = search needs
--- src/lib.rt:88:26
+
 enum-told-4 : tie.Need-enum-told-4
 enum-told-4 c = search needs
--- src/lib.rt:88:26
+
 same-tag-requires : tie.Need-same-tag-requires
 same-tag-requires c κs = search needs
--- src/lib.rt:81:1
+
 returns : tie.Need-returns
 unfolding isSuch
 returns c = rw (c .before .enum-told .given .1) (c .beside .ensures)
--- src/lib.rt:81:1
+
 returns-2 : tie.Need-returns-2
 unfolding isSuch
 returns-2 c = rw (c .before .before .enum-told2 .given .1, c .before .beside2 .ensures, c .untagged-at .ensures)
--- src/lib.rt:81:1
+
 returns-3 : tie.Need-returns-3
 unfolding isSuch
 returns-3 c = rw (c .before .before .enum-told3 .given .1, c .before .beside3 .ensures, c .untagged-at2 .ensures)
--- src/lib.rt:81:1
+
 returns-4 : tie.Need-returns-4
 returns-4 c = rw (c .before .enum-told4 .given .1) (c .same-tag .ensures)
+
 pub is-such-spec : {M : Type 1} → statement M
 is-such-spec =
     tie.close

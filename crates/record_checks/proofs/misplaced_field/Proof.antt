@@ -5,33 +5,28 @@ use Rattle.record_checks.specs.Besides.{isSuch}
 use borrow.Author.Needs.{needs}
 use Rattle.record_checks.proofs.misplaced_field.Statement.{statement}
 use Rattle.record_checks.proofs.misplaced_field.Tie as tie
-use Rattle.record_checks.proofs.misplaced_field.Reads as reads
-use Rattle.record_checks.proofs.misplaced_field.Lts as lts
-use Rattle.record_checks.proofs.any_such.Reads as any-such-reads
-use Rattle.records.proofs.extension_at.Reads as extension-at-reads
-use Rattle.records.proofs.kind_at.Reads as kind-at-reads
 
--- src/lib.rt:124:8
 extension-at-requires : tie.Need-extension-at-requires
 extension-at-requires c κs = search needs
--- src/lib.rt:125:9
+
 returns : tie.Need-returns
 unfolding misplacedField
 returns c = rw (sym (c .before .extension-at .ensures) ∙ c .if1 .taken)
--- src/lib.rt:127:8
+
 kind-at-requires : tie.Need-kind-at-requires
 kind-at-requires c κs = search needs
--- src/lib.rt:128:9
+
 returns-2 : tie.Need-returns-2
 unfolding misplacedField
 returns-2 c = rw (sym (c .before .before .before .extension-at .ensures) ∙ c .before .before .if1 .left, eq-eqb _ 1 (rw (c .before .kind-at .ensures) at (c .if2 .taken)))
--- src/lib.rt:130:5
+
 any-such-requires : tie.Need-any-such-requires
 any-such-requires c κs = search needs
--- src/lib.rt:121:1
+
 returns-3 : tie.Need-returns-3
 unfolding misplacedField isSuch
 returns-3 c = rw (sym (c .before .before .before .before .extension-at .ensures) ∙ c .before .before .before .if1 .left, ne-eqb _ 1 (rw (c .before .before .kind-at .ensures) at (c .before .if2 .left))) (c .any-such .ensures)
+
 pub misplaced-field-spec : {M : Type 1} → statement M
 misplaced-field-spec =
     tie.close

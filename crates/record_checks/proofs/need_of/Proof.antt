@@ -5,45 +5,39 @@ use Rattle.record_checks.specs.Sweeps.{needOf}
 use borrow.Author.Needs.{needs}
 use Rattle.record_checks.proofs.need_of.Statement.{statement}
 use Rattle.record_checks.proofs.need_of.Tie as tie
-use Rattle.record_checks.proofs.need_of.Reads as reads
-use Rattle.record_checks.proofs.need_of.Lts as lts
-use Rattle.record_checks.proofs.can_do_without.Reads as can-do-without-reads
-use Rattle.record_checks.proofs.ends_needs.Reads as ends-needs-reads
-use Rattle.record_checks.proofs.has.Reads as has-reads
-use Rattle.records.proofs.is_under.Reads as is-under-reads
 
--- src/lib.rt:262:9
 is-under-requires : tie.Need-is-under-requires
 is-under-requires c κs = search needs
--- src/lib.rt:263:9
+
 returns : tie.Need-returns
 unfolding needOf pick
 returns c = rw (sym (c .before .is-under .ensures) ∙ not-true _ (c .if1 .taken))
--- src/lib.rt:265:8
+
 ends-needs-requires : tie.Need-ends-needs-requires
 ends-needs-requires c κs = search needs
--- src/lib.rt:266:9
+
 returns-2 : tie.Need-returns-2
 unfolding needOf pick
 returns-2 c = rw (sym (c .before .before .before .is-under .ensures) ∙ not-false _ (c .before .before .if1 .left), sym (c .before .ends-needs .ensures) ∙ c .if2 .taken)
--- src/lib.rt:268:8
+
 can-do-without-requires : tie.Need-can-do-without-requires
 can-do-without-requires c κs = search needs
--- src/lib.rt:269:9
+
 returns-3 : tie.Need-returns-3
 unfolding needOf pick
 returns-3 c = rw (sym (c .before .before .before .before .before .is-under .ensures) ∙ not-false _ (c .before .before .before .before .if1 .left), sym (c .before .before .before .ends-needs .ensures) ∙ c .before .before .if2 .left, sym (c .before .can-do-without .ensures) ∙ c .if3 .taken)
--- src/lib.rt:271:8
+
 has-requires : tie.Need-has-requires
 has-requires c κs = search needs
--- src/lib.rt:272:9
+
 returns-4 : tie.Need-returns-4
 unfolding needOf pick
 returns-4 c = rw (sym (c .before .before .before .before .before .before .before .is-under .ensures) ∙ not-false _ (c .before .before .before .before .before .before .if1 .left), sym (c .before .before .before .before .before .ends-needs .ensures) ∙ c .before .before .before .before .if2 .left, sym (c .before .before .before .can-do-without .ensures) ∙ c .before .before .if3 .left, sym (c .before .has .ensures) ∙ c .if4 .taken)
--- src/lib.rt:259:1
+
 returns-5 : tie.Need-returns-5
 unfolding needOf pick
 returns-5 c = rw (sym (c .before .before .before .before .before .before .before .is-under .ensures) ∙ not-false _ (c .before .before .before .before .before .before .if1 .left), sym (c .before .before .before .before .before .ends-needs .ensures) ∙ c .before .before .before .before .if2 .left, sym (c .before .before .before .can-do-without .ensures) ∙ c .before .before .if3 .left, sym (c .before .has .ensures) ∙ c .if4 .left)
+
 pub need-of-spec : {M : Type 1} → statement M
 need-of-spec =
     tie.close

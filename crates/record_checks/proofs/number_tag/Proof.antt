@@ -6,45 +6,38 @@ use Rattle.record_checks.proofs.Any.{any-of}
 use borrow.Author.Needs.{needs}
 use Rattle.record_checks.proofs.number_tag.Statement.{statement}
 use Rattle.record_checks.proofs.number_tag.Tie as tie
-use Rattle.record_checks.proofs.number_tag.Reads as reads
-use Rattle.record_checks.proofs.number_tag.Lts as lts
-use Rattle.numbers.proofs.is_int_like.Reads as is-int-like-reads
-use Rattle.record_checks.proofs.any_such.Reads as any-such-reads
-use Rattle.record_checks.proofs.parent_kind.Reads as parent-kind-reads
-use Rattle.records.proofs.label_at.Reads as label-at-reads
-use Rattle.records.proofs.untagged_at.Reads as untagged-at-reads
 
--- src/lib.rt:162:8
 parent-kind-requires : tie.Need-parent-kind-requires
 parent-kind-requires c κs = search needs
--- src/lib.rt:163:9
+
 returns : tie.Need-returns
 unfolding numberTag
 returns c = rw (ne-eqb _ 9 (rw (c .before .parent-kind .ensures) at (c .if1 .taken)))
--- src/lib.rt:165:8
+
 untagged-at-requires : tie.Need-untagged-at-requires
 untagged-at-requires c κs = search needs
--- src/lib.rt:166:9
+
 returns-2 : tie.Need-returns-2
 unfolding numberTag
 returns-2 c = rw (eq-eqb _ 9 (rw (c .before .before .before .parent-kind .ensures) at (c .before .before .if1 .left)), sym (c .before .untagged-at .ensures) ∙ c .if2 .taken)
--- src/lib.rt:168:30
+
 label-at-requires : tie.Need-label-at-requires
 label-at-requires c κs = search needs
--- src/lib.rt:168:9
+
 is-int-like-requires : tie.Need-is-int-like-requires
 is-int-like-requires c κs = search needs
--- src/lib.rt:169:9
+
 returns-3 : tie.Need-returns-3
 unfolding numberTag
 returns-3 c = rw (eq-eqb _ 9 (rw (c .before .before .before .before .before .before .parent-kind .ensures) at (c .before .before .before .before .before .if1 .left)), sym (c .before .before .before .before .untagged-at .ensures) ∙ c .before .before .before .if2 .left, rw (c .before .before .label-at .ensures) at (sym (c .before .is-int-like .ensures)) ∙ not-true _ (c .if3 .taken))
--- src/lib.rt:171:5
+
 any-such-requires : tie.Need-any-such-requires
 any-such-requires c κs = search needs
--- src/lib.rt:159:1
+
 returns-4 : tie.Need-returns-4
 unfolding numberTag isSuch
 returns-4 c = rw (eq-eqb _ 9 (rw (c .before .before .before .before .before .before .before .parent-kind .ensures) at (c .before .before .before .before .before .before .if1 .left)), sym (c .before .before .before .before .before .untagged-at .ensures) ∙ c .before .before .before .before .if2 .left, rw (c .before .before .before .label-at .ensures) at (sym (c .before .before .is-int-like .ensures)) ∙ not-false _ (c .before .if3 .left)) (c .any-such .ensures ∙ any-of _ (c .before .before .before .before .before .before .before .before .before .before .args .table .now) (c .before .before .before .before .before .before .before .before .before .before .args .offs .now) _)
+
 pub number-tag-spec : {M : Type 1} → statement M
 number-tag-spec =
     tie.close

@@ -4,37 +4,31 @@ use Rattle.definition_rules.specs.Faults.{pluginUndotted}
 use borrow.Author.Needs.{needs}
 use Rattle.record_checks.proofs.plugin_undotted.Statement.{statement}
 use Rattle.record_checks.proofs.plugin_undotted.Tie as tie
-use Rattle.record_checks.proofs.plugin_undotted.Reads as reads
-use Rattle.record_checks.proofs.plugin_undotted.Lts as lts
-use Rattle.records.proofs.label_at.Reads as label-at-reads
-use Rattle.records.proofs.plugin_at.Reads as plugin-at-reads
-use Rattle.records.proofs.untagged_at.Reads as untagged-at-reads
-use Rattle.words.proofs.has_dot.Reads as has-dot-reads
 
--- src/lib.rt:184:9
 plugin-at-requires : tie.Need-plugin-at-requires
 plugin-at-requires c κs = search needs
--- src/lib.rt:185:9
+
 returns : tie.Need-returns
 unfolding pluginUndotted
 returns c = rw (sym (c .before .plugin-at .ensures) ∙ not-true _ (c .if1 .taken))
--- src/lib.rt:187:8
+
 untagged-at-requires : tie.Need-untagged-at-requires
 untagged-at-requires c κs = search needs
--- src/lib.rt:188:9
+
 returns-2 : tie.Need-returns-2
 unfolding pluginUndotted
 returns-2 c = rw (sym (c .before .before .before .plugin-at .ensures) ∙ not-false _ (c .before .before .if1 .left), sym (c .before .untagged-at .ensures) ∙ c .if2 .taken)
--- src/lib.rt:190:21
+
 label-at-requires : tie.Need-label-at-requires
 label-at-requires c κs = search needs
--- src/lib.rt:190:6
+
 has-dot-requires : tie.Need-has-dot-requires
 has-dot-requires c κs = search needs
--- src/lib.rt:181:1
+
 returns-3 : tie.Need-returns-3
 unfolding pluginUndotted
 returns-3 c = rw (sym (c .before .before .before .before .before .plugin-at .ensures) ∙ not-false _ (c .before .before .before .before .if1 .left), sym (c .before .before .before .untagged-at .ensures) ∙ c .before .before .if2 .left, c .has-dot .ensures, c .before .label-at .ensures)
+
 pub plugin-undotted-spec : {M : Type 1} → statement M
 plugin-undotted-spec =
     tie.close

@@ -3,20 +3,17 @@ use Rattle.definition_rules.specs.Faults.{rootNoStruct}
 use borrow.Author.Needs.{needs}
 use Rattle.record_checks.proofs.root_no_struct.Statement.{statement}
 use Rattle.record_checks.proofs.root_no_struct.Tie as tie
-use Rattle.record_checks.proofs.root_no_struct.Reads as reads
-use Rattle.record_checks.proofs.root_no_struct.Lts as lts
-use Rattle.records.proofs.kind_at.Reads as kind-at-reads
 
--- src/lib.rt:223:16
 kind-at-requires : tie.Need-kind-at-requires
 kind-at-requires c κs = search needs
--- src/lib.rt:223:9
+
 returns : tie.Need-returns
 unfolding rootNoStruct
 returns c = rw (eq-eqb _ 0 (c .before .if1 .taken), c .kind-at .ensures)
--- src/lib.rt:219:1
+
 returns-2 : tie.Need-returns-2
 unfolding rootNoStruct
 returns-2 c = rw (ne-eqb _ 0 (c .if1 .left))
+
 pub root-no-struct-spec : {M : Type 1} → statement M
 root-no-struct-spec = tie.close (tie.spec kind-at-requires returns returns-2)

@@ -3,37 +3,31 @@ use Rattle.definition_rules.specs.Faults.{rule7Broken}
 use borrow.Author.Needs.{needs}
 use Rattle.record_checks.proofs.rule7_broken.Statement.{statement}
 use Rattle.record_checks.proofs.rule7_broken.Tie as tie
-use Rattle.record_checks.proofs.rule7_broken.Reads as reads
-use Rattle.record_checks.proofs.rule7_broken.Lts as lts
-use Rattle.record_checks.proofs.misplaced_untagged.Reads as misplaced-untagged-reads
-use Rattle.record_checks.proofs.number_tag.Reads as number-tag-reads
-use Rattle.record_checks.proofs.plugin_undotted.Reads as plugin-undotted-reads
-use Rattle.record_checks.proofs.void_top.Reads as void-top-reads
 
--- src/lib.rt:196:8
 misplaced-untagged-requires : tie.Need-misplaced-untagged-requires
 misplaced-untagged-requires c κs = search needs
--- src/lib.rt:197:9
+
 returns : tie.Need-returns
 unfolding rule7Broken
 returns c = rw (sym (c .before .misplaced-untagged .ensures) ∙ c .if1 .taken)
--- src/lib.rt:199:8
+
 number-tag-requires : tie.Need-number-tag-requires
 number-tag-requires c κs = search needs
--- src/lib.rt:200:9
+
 returns-2 : tie.Need-returns-2
 unfolding rule7Broken
 returns-2 c = rw (sym (c .before .before .before .misplaced-untagged .ensures) ∙ c .before .before .if1 .left, sym (c .before .number-tag .ensures) ∙ c .if2 .taken)
--- src/lib.rt:202:5
+
 void-top-requires : tie.Need-void-top-requires
 void-top-requires c κs = search needs
--- src/lib.rt:202:32
+
 plugin-undotted-requires : tie.Need-plugin-undotted-requires
 plugin-undotted-requires c κs = search needs
--- src/lib.rt:193:1
+
 returns-3 : tie.Need-returns-3
 unfolding rule7Broken
 returns-3 c = rw (sym (c .before .before .before .before .before .misplaced-untagged .ensures) ∙ c .before .before .before .before .if1 .left, sym (c .before .before .before .number-tag .ensures) ∙ c .before .before .if2 .left, c .before .void-top .ensures, c .plugin-undotted .ensures)
+
 pub rule7-broken-spec : {M : Type 1} → statement M
 rule7-broken-spec =
     tie.close

@@ -4,40 +4,34 @@ use Rattle.record_checks.specs.Besides.{isSuch}
 use borrow.Author.Needs.{needs}
 use Rattle.record_checks.proofs.same_tag.Statement.{statement}
 use Rattle.record_checks.proofs.same_tag.Tie as tie
-use Rattle.record_checks.proofs.same_tag.Reads as reads
-use Rattle.record_checks.proofs.same_tag.Lts as lts
-use Rattle.classes.proofs.same_bytes.Reads as same-bytes-reads
-use Rattle.record_checks.proofs.beside.Reads as beside-reads
-use Rattle.record_checks.proofs.has_wire_tag.Reads as has-wire-tag-reads
-use Rattle.records.proofs.label_at.Reads as label-at-reads
 
--- src/lib.rt:72:9
 has-wire-tag-requires : tie.Need-has-wire-tag-requires
 has-wire-tag-requires c κs = search needs
--- src/lib.rt:73:9
+
 returns : tie.Need-returns
 unfolding isSuch
 returns c = rw (sym (c .before .has-wire-tag .ensures) ∙ not-true _ (c .if1 .taken))
--- src/lib.rt:75:9
+
 beside-requires : tie.Need-beside-requires
 beside-requires c κs = search needs
--- src/lib.rt:76:9
+
 returns-2 : tie.Need-returns-2
 unfolding isSuch
 returns-2 c = rw (sym (c .before .before .before .has-wire-tag .ensures) ∙ not-false _ (c .before .before .if1 .left), sym (c .before .beside .ensures) ∙ not-true _ (c .if2 .taken))
--- src/lib.rt:78:25
+
 label-at-requires : tie.Need-label-at-requires
 label-at-requires c κs = search needs
--- src/lib.rt:78:60
+
 label-at-requires-2 : tie.Need-label-at-requires-2
 label-at-requires-2 c κs = search needs
--- src/lib.rt:78:5
+
 same-bytes-requires : tie.Need-same-bytes-requires
 same-bytes-requires c κs = search needs
--- src/lib.rt:69:1
+
 returns-3 : tie.Need-returns-3
 unfolding isSuch
 returns-3 c = rw (sym (c .before .before .before .before .before .before .has-wire-tag .ensures) ∙ not-false _ (c .before .before .before .before .before .if1 .left), sym (c .before .before .before .before .beside .ensures) ∙ not-false _ (c .before .before .before .if2 .left), ← (c .before .before .label-at .ensures), ← (c .before .label-at2 .ensures)) (c .same-bytes .ensures)
+
 pub same-tag-spec : {M : Type 1} → statement M
 same-tag-spec =
     tie.close

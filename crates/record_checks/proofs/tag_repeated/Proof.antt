@@ -5,24 +5,20 @@ use Rattle.record_checks.specs.Besides.{isSuch}
 use borrow.Author.Needs.{needs}
 use Rattle.record_checks.proofs.tag_repeated.Statement.{statement}
 use Rattle.record_checks.proofs.tag_repeated.Tie as tie
-use Rattle.record_checks.proofs.tag_repeated.Reads as reads
-use Rattle.record_checks.proofs.tag_repeated.Lts as lts
-use Rattle.record_checks.proofs.any_such.Reads as any-such-reads
-use Rattle.record_checks.proofs.has_wire_tag.Reads as has-wire-tag-reads
 
--- src/lib.rt:211:9
 has-wire-tag-requires : tie.Need-has-wire-tag-requires
 has-wire-tag-requires c κs = search needs
--- src/lib.rt:212:9
+
 returns : tie.Need-returns
 unfolding tagRepeated
 returns c = rw (sym (c .before .has-wire-tag .ensures) ∙ not-true _ (c .if1 .taken))
--- src/lib.rt:214:5
+
 any-such-requires : tie.Need-any-such-requires
 any-such-requires c κs = search needs
--- src/lib.rt:208:1
+
 returns-2 : tie.Need-returns-2
 unfolding tagRepeated isSuch
 returns-2 c = rw (sym (c .before .before .has-wire-tag .ensures) ∙ not-false _ (c .before .if1 .left)) (c .any-such .ensures)
+
 pub tag-repeated-spec : {M : Type 1} → statement M
 tag-repeated-spec = tie.close (tie.spec has-wire-tag-requires returns any-such-requires returns-2)

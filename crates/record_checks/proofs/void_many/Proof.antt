@@ -2,20 +2,16 @@ use Rattle.definition_rules.specs.Faults.{voidMany}
 use borrow.Author.Needs.{needs}
 use Rattle.record_checks.proofs.void_many.Statement.{statement}
 use Rattle.record_checks.proofs.void_many.Tie as tie
-use Rattle.record_checks.proofs.void_many.Reads as reads
-use Rattle.record_checks.proofs.void_many.Lts as lts
-use Rattle.records.proofs.hi_count_at.Reads as hi-count-at-reads
-use Rattle.records.proofs.kind_at.Reads as kind-at-reads
 
--- src/lib.rt:115:6
 kind-at-requires : tie.Need-kind-at-requires
 kind-at-requires c κs = search needs
--- src/lib.rt:115:52
+
 hi-count-at-requires : tie.Need-hi-count-at-requires
 hi-count-at-requires c κs = search needs
--- src/lib.rt:112:1
+
 returns : tie.Need-returns
 unfolding voidMany
 returns c = rw (c .before .kind-at .ensures, c .hi-count-at .ensures)
+
 pub void-many-spec : {M : Type 1} → statement M
 void-many-spec = tie.close (tie.spec kind-at-requires hi-count-at-requires returns)

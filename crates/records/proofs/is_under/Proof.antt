@@ -1,4 +1,4 @@
-use mathlib.Core.Path.{_∙_, sym}
+use mathlib.Core.Path.{_∙_}
 use Rattle.records.specs.Stored.{storedAt}
 use Rattle.records.proofs.Fields.{under-number}
 use borrow.Author.Needs.{needs}

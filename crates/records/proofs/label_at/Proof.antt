@@ -1,4 +1,4 @@
-use mathlib.Core.Path.{_∙_, ap}
+use mathlib.Core.Path.{_∙_}
 use Rattle.records.specs.Stored.{storedAt}
 use borrow.Author.Needs.{needs}
 use Rattle.records.proofs.label_at.Statement.{statement}

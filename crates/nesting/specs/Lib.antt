@@ -1,0 +1,2 @@
+-- The open bodies as code keeps them.
+pub mod Open

@@ -1,0 +1,2 @@
+-- Laws that the compiler's proof cites.
+pub mod FaultLaws

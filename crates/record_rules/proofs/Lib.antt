@@ -1,0 +1,4 @@
+-- one record
+mod Single
+-- loops over records
+mod Loops

@@ -1,0 +1,2 @@
+-- A record's key.
+pub mod Keys

@@ -1,0 +1,129 @@
+-- The compiler's checks over all records, and the rules over the bytes.
+use mathlib.Core.Path.{_≡_, refl, sym, _∙_}
+use mathlib.Core.Bool.{Bool, true, false, _&&_}
+use mathlib.Core.List.{List, [], _∷_}
+use Prim.Native.Nat.{ℕ, suc, _+_, _-_, _≤_, _<_}
+use native.Mathlib.Numerals.{add-one}
+use native.Mathlib.Omega.{arith}
+use lib.Dec.{leb}
+use lib.ListN.{length}
+use borrow.Author.Tests.{lt-leb, le-leb}
+use Rattle.numbers.specs.Limits.{parameterLimit}
+use Rattle.schema.specs.Record.{Record}
+use Rattle.definition_rules.specs.Table.{Maybe, none, just, decode}
+use Rattle.definition_rules.specs.Finite.{finites, isEndless}
+use Rattle.table_rules.specs.RecordRules.{noneBroken, recordChecks, recordRules, rulesOf, tableRules}
+use Rattle.records.specs.Stored.{recordIn, recordsFrom, recordsAt}
+use Rattle.records.proofs.Laws.{length-records, records-more, records-end, records-all}
+use Rattle.record_checks.specs.Sweeps.{Found}
+use Rattle.definition_rules.specs.Faults.{voidMany, rule7Broken, tagRepeated, rootNoStruct}
+use Rattle.walk.specs.declared.Walk.{Walk}
+use Rattle.walk.specs.declared.Walk.the-variants.{Count, Bad}
+use Rattle.walk.specs.Walked.{Counted, Uncounted, Walked}
+use Rattle.table.specs.declared.Check.{Check}
+use Rattle.table.specs.declared.Check.the-variants.{Voids, Rule7, Tags, Root, Finite}
+use Rattle.table.specs.Checks.{isBroken}
+
+-- ---- one check over all records
+
+module _ (f : ℕ → Record → Bool) (t offs : List ℕ) (n : ℕ) where
+  pub none-start : noneBroken f 0 (recordsAt t offs n) ≡ noneBroken f 0 (recordsFrom t offs (n - 0) 0)
+  none-start = rw (records-all t offs n)
+
+  module _ (i : ℕ) where
+    pub none-end : n ≤ i → noneBroken f i (recordsFrom t offs (n - i) i) ≡ true
+    unfolding noneBroken
+    none-end h = rw (records-end t offs n i h)
+
+    pub none-no : i < n → f i (recordIn t offs i) ≡ true → noneBroken f i (recordsFrom t offs (n - i) i) ≡ false
+    unfolding noneBroken
+    none-no h e = rw (records-more t offs n i h, e)
+
+    pub none-more : i < n → f i (recordIn t offs i) ≡ false → noneBroken f i (recordsFrom t offs (n - i) i) ≡ noneBroken f (i + 1) (recordsFrom t offs (n - (i + 1)) (i + 1))
+    unfolding noneBroken
+    none-more h e = rw (records-more t offs n i h, e, ← add-one i)
+
+-- finite values as the code found them
+none-found : (rs : List Record) (have : List Bool) → Found rs have → (i : ℕ) (qs : List Record) → noneBroken (isEndless have) i qs ≡ noneBroken (isEndless (finites rs)) i qs
+unfolding noneBroken isEndless
+none-found rs have f i [] = refl
+none-found rs have f i (q ∷ qs) = rw (f i, none-found rs have f (suc i) qs)
+
+module _ (a b c d e : Bool) where
+  first-no : a ≡ false → a && (b && (c && (d && e))) ≡ false
+  first-no p = rw p
+
+  second-no : a ≡ true → b ≡ false → a && (b && (c && (d && e))) ≡ false
+  second-no p q = rw (p, q)
+
+  third-no : a ≡ true → b ≡ true → c ≡ false → a && (b && (c && (d && e))) ≡ false
+  third-no p q r = rw (p, q, r)
+
+  fourth-no : a ≡ true → b ≡ true → c ≡ true → d ≡ false → a && (b && (c && (d && e))) ≡ false
+  fourth-no p q r s = rw (p, q, r, s)
+
+  last-so : a ≡ true → b ≡ true → c ≡ true → d ≡ true → a && (b && (c && (d && e))) ≡ e
+  last-so p q r s = rw (p, q, r, s)
+
+-- the checks one after the other, as the code asks them
+module _ (rs : List Record) (have : List Bool) where
+  abbrev fine : Check → Type 0
+  fine k = noneBroken (isBroken k rs have) 0 rs ≡ true
+
+  abbrev broken : Check → Type 0
+  broken k = noneBroken (isBroken k rs have) 0 rs ≡ false
+
+  pub broken-voids : broken Voids → recordChecks rs ≡ false
+  unfolding recordChecks isBroken
+  broken-voids p = first-no (noneBroken voidMany 0 rs) (noneBroken (rule7Broken rs) 0 rs) (noneBroken (tagRepeated rs) 0 rs) (noneBroken rootNoStruct 0 rs) (noneBroken (isEndless (finites rs)) 0 rs) p
+
+  pub broken-rule7 : fine Voids → broken Rule7 → recordChecks rs ≡ false
+  unfolding recordChecks isBroken
+  broken-rule7 p q = second-no (noneBroken voidMany 0 rs) (noneBroken (rule7Broken rs) 0 rs) (noneBroken (tagRepeated rs) 0 rs) (noneBroken rootNoStruct 0 rs) (noneBroken (isEndless (finites rs)) 0 rs) p q
+
+  pub broken-tags : fine Voids → fine Rule7 → broken Tags → recordChecks rs ≡ false
+  unfolding recordChecks isBroken
+  broken-tags p q r = third-no (noneBroken voidMany 0 rs) (noneBroken (rule7Broken rs) 0 rs) (noneBroken (tagRepeated rs) 0 rs) (noneBroken rootNoStruct 0 rs) (noneBroken (isEndless (finites rs)) 0 rs) p q r
+
+  pub broken-root : fine Voids → fine Rule7 → fine Tags → broken Root → recordChecks rs ≡ false
+  unfolding recordChecks isBroken
+  broken-root p q r s = fourth-no (noneBroken voidMany 0 rs) (noneBroken (rule7Broken rs) 0 rs) (noneBroken (tagRepeated rs) 0 rs) (noneBroken rootNoStruct 0 rs) (noneBroken (isEndless (finites rs)) 0 rs) p q r s
+
+  pub all-finite : (after : List Bool) → fine Voids → fine Rule7 → fine Tags → fine Root → Found rs after → noneBroken (isBroken Finite rs after) 0 rs ≡ recordChecks rs
+  unfolding recordChecks isBroken
+  all-finite after p q r s f = none-found rs after f 0 rs ∙ sym (last-so (noneBroken voidMany 0 rs) (noneBroken (rule7Broken rs) 0 rs) (noneBroken (tagRepeated rs) 0 rs) (noneBroken rootNoStruct 0 rs) (noneBroken (isEndless (finites rs)) 0 rs) p q r s)
+
+-- ---- the rules
+
+and-no : (a : Bool) → a && false ≡ false
+and-no true = refl
+and-no false = refl
+
+pub some-few : (t offs : List ℕ) (n : ℕ) → (n ≡ 0 → ⊥) → n ≤ 256 → (leb 1 (length (recordsAt t offs n)) ≡ true) × (leb (length (recordsAt t offs n)) parameterLimit ≡ true)
+some-few t offs n h l = rw (length-records t offs n 0) (le-leb 1 n (omega arith), le-leb n 256 l)
+
+pub rules-none : (t offs : List ℕ) (n : ℕ) → n ≡ 0 → recordRules parameterLimit (recordsAt t offs n) ≡ false
+unfolding recordRules
+rules-none t offs n e = rw (length-records t offs n 0, lt-leb 1 n (omega arith))
+
+pub table-counted : (t offs : List ℕ) (n : ℕ) → Counted t offs n → recordRules parameterLimit (recordsAt t offs n) ≡ tableRules parameterLimit t
+unfolding tableRules rulesOf
+table-counted t offs n c = rw (c .these)
+
+pub table-bad : (t : List ℕ) → Uncounted t → tableRules parameterLimit t ≡ false
+unfolding tableRules
+table-bad t u = go (decode t) refl
+  where
+    go : (m : Maybe (List Record)) → decode t ≡ m → rulesOf parameterLimit m ≡ false
+    go none e = unfold rulesOf in refl
+    go (just rs) e = unfold rulesOf recordRules in (rw (lt-leb (length rs) parameterLimit (u rs e)) (and-no (leb 1 (length rs))))
+
+-- ---- what the walk says
+
+pub walked-count : (t offs : List ℕ) (w : Walk) (n : ℕ) → Walked t offs w → w ≡ Count n → Counted t offs n
+unfolding Walked
+walked-count t offs w n h e = rw e at h
+
+pub walked-bad : (t offs : List ℕ) (w : Walk) → Walked t offs w → w ≡ Bad → Uncounted t
+unfolding Walked
+walked-bad t offs w h e = rw e at h

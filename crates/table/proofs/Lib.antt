@@ -1,0 +1,2 @@
+-- the compiler's checks over all records, and the rules over the bytes
+mod Laws

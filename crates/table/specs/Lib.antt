@@ -1,0 +1,2 @@
+-- The compiler's checks by name.
+pub mod Checks

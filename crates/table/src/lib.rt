@@ -1,0 +1,108 @@
+// The check behind number 20: whether some definition compiles to a table.
+ghost use mathlib.Core.Path.{_≡_};
+ghost use Prim.Native.Nat.{_≤_};
+ghost use lib.ListN.{length};
+ghost use Rattle.numbers.specs.Limits.{parameterLimit};
+ghost use Rattle.table_rules.specs.RecordRules.{noneBroken, recordChecks, recordRules, tableRules};
+ghost use Rattle.records.specs.Stored.{recordIn, recordsAt};
+ghost use Rattle.table.specs.Checks.{isBroken};
+use walk::Walk;
+
+// What the compiler asks of records alone.
+enum Check {
+    Voids,
+    Rule7,
+    Tags,
+    Root,
+    Finite,
+}
+
+// ---- the compiler's checks
+
+fn is_broken(table: &[u8], offs: &[u32], n: usize, have: &[bool], i: usize, check: Check) -> bool
+    ensures { λ r. ⌜ r ≡ isBroken check (recordsAt (now (table .entry)) (now (offs .entry)) n) (now (have .entry)) i (recordIn (now (table .entry)) (now (offs .entry)) i) ⌝ }
+{
+    match check {
+        Check::Voids => record_checks::void_many(table, offs, i),
+        Check::Rule7 => record_checks::rule7_broken(table, offs, n, i),
+        Check::Tags => record_checks::tag_repeated(table, offs, n, i),
+        Check::Root => record_checks::root_no_struct(table, offs, i),
+        Check::Finite => record_checks::is_endless(table, offs, have, i),
+    }
+}
+
+fn none_broken(table: &[u8], offs: &[u32], n: usize, have: &[bool], check: Check) -> bool
+    ensures { λ r. ⌜ r ≡ noneBroken (isBroken check (recordsAt (now (table .entry)) (now (offs .entry)) n) (now (have .entry))) 0 (recordsAt (now (table .entry)) (now (offs .entry)) n) ⌝ }
+{
+    let mut i: usize = 0;
+    while i < n {
+        if is_broken(table, offs, n, have, i, check) {
+            return false;
+        }
+        i += 1;
+    }
+    true
+}
+
+fn none_yet() -> [bool; 256]
+    ensures { λ r. ⌜ 256 ≡ length r ⌝ }
+{
+    [false; 256]
+}
+
+fn checks_fine(table: &[u8], offs: &[u32], n: usize) -> bool
+    requires { ⌜ n ≤ 256 ⌝ }
+    ensures { λ r. ⌜ r ≡ recordChecks (recordsAt (now (table .entry)) (now (offs .entry)) n) ⌝ }
+{
+    let mut have = none_yet();
+    if !none_broken(table, offs, n, &have, Check::Voids) {
+        return false;
+    }
+    if !none_broken(table, offs, n, &have, Check::Rule7) {
+        return false;
+    }
+    if !none_broken(table, offs, n, &have, Check::Tags) {
+        return false;
+    }
+    if !none_broken(table, offs, n, &have, Check::Root) {
+        return false;
+    }
+    record_checks::finites(table, offs, n, &mut have);
+    none_broken(table, offs, n, &have, Check::Finite)
+}
+
+fn rules(table: &[u8], offs: &[u32], n: usize) -> bool
+    requires { ⌜ n ≤ 256 ⌝ }
+    ensures { λ r. ⌜ r ≡ recordRules parameterLimit (recordsAt (now (table .entry)) (now (offs .entry)) n) ⌝ }
+{
+    if n == 0 {
+        return false;
+    }
+    if !nesting::ordered(table, offs, n) {
+        return false;
+    }
+    if !record_rules::every_fine(table, offs, n) {
+        return false;
+    }
+    if !record_rules::all_new(table, offs, n) {
+        return false;
+    }
+    checks_fine(table, offs, n)
+}
+
+fn no_offsets() -> [u32; 256]
+    ensures { λ r. ⌜ 256 ≡ length r ⌝ }
+{
+    [0u32; 256]
+}
+
+// Some definition compiles to the table.
+pub fn table_ok(table: &[u8]) -> bool
+    ensures { λ r. ⌜ r ≡ tableRules parameterLimit (now (table .entry)) ⌝ }
+{
+    let mut offs = no_offsets();
+    match walk::offsets(table, &mut offs) {
+        Walk::Count(n) => rules(table, &offs, n),
+        Walk::Bad => false,
+    }
+}

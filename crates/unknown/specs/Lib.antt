@@ -1,0 +1,3 @@
+-- What passing over unknown parts ensures.
+pub mod Along
+pub mod Passing

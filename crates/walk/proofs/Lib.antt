@@ -1,0 +1,4 @@
+-- a record at a place of a table, by the decoder
+mod Decoding
+-- the walk
+mod Walking

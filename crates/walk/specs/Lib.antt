@@ -1,0 +1,2 @@
+-- The walk over a table's records.
+pub mod Walked

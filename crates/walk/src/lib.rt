@@ -1,0 +1,71 @@
+// The walk over a table's records, by their lengths.
+ghost use mathlib.Core.Path.{_≡_};
+ghost use Prim.Native.Nat.{_<_, _≤_};
+ghost use lib.ListN.{length, set};
+ghost use Rattle.numbers.specs.Limits.{parameterLimit};
+ghost use Rattle.walk.specs.Walked.{lengthAt, Walked};
+
+// How many records a table has, or that its bytes are no whole records, or over 256.
+pub enum Walk {
+    Count(usize),
+    Bad,
+}
+
+fn wide(n: u16) -> usize
+    ensures { λ r. ⌜ (r ≡ n) × (r < 65536) ⌝ }
+{
+    n as usize
+}
+
+// The length of the whole record that begins at a place; 0 where none does.
+fn length_at(table: &[u8], at: usize) -> usize
+    ensures { λ r. ⌜ (r ≡ lengthAt (now (table .entry)) at) × (r < 65536) ⌝ }
+{
+    if table.len() <= at {
+        return 0;
+    }
+    let left = table.len() - at;
+    if left < 24 {
+        return 0;
+    }
+    let size = wide(numbers::u16_at(table, at));
+    if size != 24 + wide(numbers::u16_at(table, at + 22)) {
+        return 0;
+    }
+    if 8 <= numbers::u16_at(table, at + 6) {
+        return 0;
+    }
+    if left < size {
+        return 0;
+    }
+    size
+}
+
+fn put(offs: &mut [u32], i: usize, x: u32)
+    ensures { λ _. ⌜ now (offs .exit) ≡ set (now (offs .entry)) i x ⌝ }
+{
+    if i < offs.len() {
+        offs[i] = x;
+    }
+}
+
+// Notes where each record of a table begins, if there is room for 256 numbers.
+pub fn offsets(table: &[u8], offs: &mut [u32]) -> Walk
+    ensures { λ r. ⌜ (parameterLimit ≤ length (now (offs .entry)) → Walked (now (table .entry)) (now (offs .exit)) r) ⌝ }
+{
+    let mut n: usize = 0;
+    let mut at: usize = 0;
+    while at < table.len() {
+        if n == 256 {
+            return Walk::Bad;
+        }
+        let size = length_at(table, at);
+        if size == 0 {
+            return Walk::Bad;
+        }
+        put(offs, n, at as u32);
+        n += 1;
+        at += size;
+    }
+    Walk::Count(n)
+}

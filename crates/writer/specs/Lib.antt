@@ -1,0 +1,2 @@
+-- The bytes and offsets that are written.
+pub mod Written
