@@ -1,0 +1,2 @@
+-- T1
+pub mod UniqueCut

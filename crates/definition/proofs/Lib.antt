@@ -1,0 +1,3 @@
+-- The checks in their order, from the declarations on and from the text on.
+mod Order
+mod Text

@@ -1,0 +1,171 @@
+-- The checks in their order: a law for each way that the compiler goes.
+use mathlib.Core.Path.{_≡_, refl, ap, sym, _∙_}
+use mathlib.Core.Bool.{Bool, true, false, not, _&&_}
+use mathlib.Core.List.{List, [], _∷_, _++_}
+use Prim.Native.Nat.{ℕ, zero, suc, _+_, _*_, _≤_, _<_}
+use native.Mathlib.Omega.{arith}
+use lib.Dec.{eqb, ltb}
+use lib.ListN.{length, getD, take, drop, length-append}
+use lib.Seq.{sets, take-at}
+use borrow.Author.Tests.{lt-ltb, le-ltb}
+use Rattle.classes.specs.Lists.{pick}
+use Rattle.numbers.specs.Limits.{parameterLimit, textLimit, none16}
+use Rattle.schema.specs.Record.{Record}
+use Rattle.definition_rules.specs.Words.{kindIsCompound}
+use Rattle.definition_rules.specs.Declarations.{Noted, declarationsOf}
+use Rattle.definition_rules.specs.Records.{recordsOf, topNames}
+use Rattle.definition_rules.specs.Table.{encode}
+use Rattle.definition_rules.specs.Finite.{finites, isEndless}
+use Rattle.definition_rules.specs.Faults.{spotsWhere, recordSpots, rule7Broken, tagRepeated, rootNoStruct, dangling, repeatedNames, faults5, faults6, faults7, faults8, faults9, faults10}
+use Rattle.definition_rules.specs.Compile.{Check, check, Finding, clean, fault, leastOf, findingOf, firstFault, Verdict, refused, table, verdictOf, Answer, compiled, refusal, answerOf, lentAfter}
+use Rattle.declared.specs.declared.Place.{Place}
+use Rattle.declared.specs.declared.Place.the-variants.{Nowhere, At}
+use Rattle.declared.specs.Cells.{cellAt, notedFrom}
+use Rattle.declared.specs.Places.{atIf, lesser, leastPlace, leastFrom}
+use Rattle.declared.proofs.PlaceLaws.{least-append, from-same}
+use Rattle.records.specs.Stored.{recordIn, recordsAt}
+use Rattle.record_checks.specs.Sweeps.{Found}
+use Rattle.record_faults.specs.RecordFaults.{faultAt}
+use Rattle.record_faults.proofs.FaultLaws.{spots-from}
+use Rattle.writer.specs.Written.{Wrote, recordsIn as writtenRecords}
+use Rattle.writer.proofs.Widths.{Fit, labels-short}
+use Rattle.writer.proofs.ReadBack.{Held, held}
+use Rattle.writer.proofs.WriteLaws.{copied}
+use Rattle.definition.specs.Answers.{recordChecks, declarationChecks, recordsFrom, verdictFrom}
+
+-- ---- one check
+
+pub hit : (n : ℕ) (ps : List ℕ) (cs : List Check) (p : ℕ) → leastPlace ps ≡ At p → firstFault (check n ps ∷ cs) ≡ fault n p
+unfolding leastPlace firstFault findingOf
+hit n [] cs p e = let z : _≡_ {A = ℕ} 0 1 = cc in absurd (omega arith)
+hit n (q ∷ r) cs p e = let z : leastOf q r ≡ p = cc in ap (fault n) z
+
+pub pass : (n : ℕ) (ps : List ℕ) (cs : List Check) → leastPlace ps ≡ Nowhere → firstFault (check n ps ∷ cs) ≡ firstFault cs
+unfolding leastPlace firstFault findingOf
+pass n [] cs e = refl
+pass n (q ∷ r) cs e = let z : _≡_ {A = ℕ} 0 1 = cc in absurd (omega arith)
+
+no-checks : firstFault [] ≡ clean
+unfolding firstFault
+no-checks = refl
+
+-- ---- the records' checks, as they are judged on a table's bytes
+
+module _ (text cs t offs : List ℕ) (n : ℕ) where
+  abbrev rs : List Record
+  rs = recordsAt t offs n
+
+  abbrev ns : List Noted
+  ns = notedFrom text cs n 0
+
+  seven : (have : List Bool) → leastFrom (faultAt cs t offs have n 7) n 0 ≡ leastPlace (faults7 rs ns)
+  unfolding faultAt pick
+  seven have = sym (spots-from (rule7Broken rs) (λ s. s .nameAt) text cs t offs n 0)
+
+  eight : (have : List Bool) → leastFrom (faultAt cs t offs have n 8) n 0 ≡ leastPlace (recordSpots (tagRepeated rs) (λ s. s .tagAt) 0 rs ns)
+  unfolding faultAt pick
+  eight have = sym (spots-from (tagRepeated rs) (λ s. s .tagAt) text cs t offs n 0)
+
+  nine : (have : List Bool) → leastFrom (faultAt cs t offs have n 9) n 0 ≡ leastPlace (recordSpots rootNoStruct (λ s. s .nameAt) 0 rs ns)
+  unfolding faultAt pick
+  nine have = sym (spots-from rootNoStruct (λ s. s .nameAt) text cs t offs n 0)
+
+  ten : (have : List Bool) → Found rs have → leastFrom (faultAt cs t offs have n 10) n 0 ≡ leastPlace (faults10 rs ns)
+  unfolding faultAt pick
+  ten have h =
+      from-same (λ j. atIf (isEndless have j (recordIn t offs j)) (cellAt cs j 4)) (λ j. atIf (isEndless (finites rs) j (recordIn t offs j)) (cellAt cs j 4)) (λ j. ap (λ b. atIf b (cellAt cs j 4)) (same j)) n 0
+      ∙ sym (spots-from (isEndless (finites rs)) (λ s. s .nameAt) text cs t offs n 0)
+    where
+      same : (j : ℕ) → isEndless have j (recordIn t offs j) ≡ isEndless (finites rs) j (recordIn t offs j)
+      same j = unfold isEndless in (rw (h j))
+
+  -- what is found at each
+  pub at-seven : (have : List Bool) (p : ℕ) → At p ≡ leastFrom (faultAt cs t offs have n 7) n 0 → fault 7 p ≡ firstFault (recordChecks rs ns)
+  unfolding recordChecks
+  at-seven have p e = sym (hit 7 (faults7 rs ns) _ p (sym (e ∙ seven have)))
+
+  pub past-seven : (have : List Bool) → Nowhere ≡ leastFrom (faultAt cs t offs have n 7) n 0 → leastPlace (faults7 rs ns) ≡ Nowhere
+  past-seven have e = sym (e ∙ seven have)
+
+  join-eight : (have : List Bool) (a b : Place) → a ≡ leastPlace (repeatedNames [] ns) → b ≡ leastFrom (faultAt cs t offs have n 8) n 0 → lesser a b ≡ leastPlace (faults8 rs ns)
+  join-eight have a b x y = rw (x, y, eight have) (sym (least-append (repeatedNames [] ns) (recordSpots (tagRepeated rs) (λ s. s .tagAt) 0 rs ns)))
+
+  join-nine : (have : List Bool) (a b : Place) → a ≡ leastFrom (faultAt cs t offs have n 9) n 0 → b ≡ leastPlace (spotsWhere (dangling (topNames (declarationsOf ns))) (λ s. s .typeAt) ns) → lesser a b ≡ leastPlace (faults9 rs ns)
+  join-nine have a b x y = rw (x, y, nine have) (sym (least-append (recordSpots rootNoStruct (λ s. s .nameAt) 0 rs ns) (spotsWhere (dangling (topNames (declarationsOf ns))) (λ s. s .typeAt) ns)))
+
+  pub at-eight : (have : List Bool) (a b : Place) (p : ℕ) → leastPlace (faults7 rs ns) ≡ Nowhere → a ≡ leastPlace (repeatedNames [] ns) → b ≡ leastFrom (faultAt cs t offs have n 8) n 0 → At p ≡ lesser a b → fault 8 p ≡ firstFault (recordChecks rs ns)
+  unfolding recordChecks
+  at-eight have a b p s x y e = sym (pass 7 (faults7 rs ns) _ s ∙ hit 8 (faults8 rs ns) _ p (sym (e ∙ join-eight have a b x y)))
+
+  pub past-eight : (have : List Bool) (a b : Place) → a ≡ leastPlace (repeatedNames [] ns) → b ≡ leastFrom (faultAt cs t offs have n 8) n 0 → Nowhere ≡ lesser a b → leastPlace (faults8 rs ns) ≡ Nowhere
+  past-eight have a b x y e = sym (e ∙ join-eight have a b x y)
+
+  pub at-nine : (have : List Bool) (a b : Place) (p : ℕ) → leastPlace (faults7 rs ns) ≡ Nowhere → leastPlace (faults8 rs ns) ≡ Nowhere → a ≡ leastFrom (faultAt cs t offs have n 9) n 0 → b ≡ leastPlace (spotsWhere (dangling (topNames (declarationsOf ns))) (λ s. s .typeAt) ns) → At p ≡ lesser a b → fault 9 p ≡ firstFault (recordChecks rs ns)
+  unfolding recordChecks
+  at-nine have a b p s u x y e = sym (pass 7 (faults7 rs ns) _ s ∙ (pass 8 (faults8 rs ns) _ u ∙ hit 9 (faults9 rs ns) _ p (sym (e ∙ join-nine have a b x y))))
+
+  pub past-nine : (have : List Bool) (a b : Place) → a ≡ leastFrom (faultAt cs t offs have n 9) n 0 → b ≡ leastPlace (spotsWhere (dangling (topNames (declarationsOf ns))) (λ s. s .typeAt) ns) → Nowhere ≡ lesser a b → leastPlace (faults9 rs ns) ≡ Nowhere
+  past-nine have a b x y e = sym (e ∙ join-nine have a b x y)
+
+  module _ (s : leastPlace (faults7 rs ns) ≡ Nowhere) (u : leastPlace (faults8 rs ns) ≡ Nowhere) (v : leastPlace (faults9 rs ns) ≡ Nowhere) (have : List Bool) (h : Found rs have) where
+    pub at-ten : (p : ℕ) → At p ≡ leastFrom (faultAt cs t offs have n 10) n 0 → fault 10 p ≡ firstFault (recordChecks rs ns)
+    unfolding recordChecks
+    at-ten p e = sym (pass 7 (faults7 rs ns) _ s ∙ (pass 8 (faults8 rs ns) _ u ∙ (pass 9 (faults9 rs ns) _ v ∙ hit 10 (faults10 rs ns) [] p (sym (e ∙ ten have h)))))
+
+    pub past-ten : Nowhere ≡ leastFrom (faultAt cs t offs have n 10) n 0 → clean ≡ firstFault (recordChecks rs ns)
+    unfolding recordChecks
+    past-ten e = sym (pass 7 (faults7 rs ns) _ s ∙ (pass 8 (faults8 rs ns) _ u ∙ (pass 9 (faults9 rs ns) _ v ∙ (pass 10 (faults10 rs ns) [] (sym (e ∙ ten have h)) ∙ no-checks))))
+
+-- ---- from the declarations on
+
+module _ (text cs : List ℕ) (n : ℕ) where
+  abbrev kept : List Noted
+  kept = notedFrom text cs n 0
+
+  abbrev records : List Record
+  records = recordsFrom text cs n
+
+  pub refuse-five : (p : ℕ) → At p ≡ leastPlace (faults5 kept) → verdictFrom text cs n ≡ refused 5 p
+  unfolding verdictFrom declarationChecks verdictOf
+  refuse-five p e = ap (λ f. verdictOf f records) (hit 5 (faults5 kept) _ p (sym e))
+
+  pub refuse-six : (p : ℕ) → Nowhere ≡ leastPlace (faults5 kept) → At p ≡ leastPlace (faults6 records kept) → verdictFrom text cs n ≡ refused 6 p
+  unfolding verdictFrom declarationChecks verdictOf
+  refuse-six p a e = ap (λ f. verdictOf f records) (pass 5 (faults5 kept) _ (sym a) ∙ hit 6 (faults6 records kept) _ p (sym e))
+
+  -- the records that were written are those of the declarations
+  later : (t offs : List ℕ) (f : Finding) → Nowhere ≡ leastPlace (faults5 kept) → Nowhere ≡ leastPlace (faults6 records kept) → recordsAt t offs n ≡ records → f ≡ firstFault (recordChecks (recordsAt t offs n) kept) → verdictFrom text cs n ≡ verdictOf f records
+  unfolding verdictFrom declarationChecks
+  later t offs f a b w e =
+      ap (λ g. verdictOf g records) (pass 5 (faults5 kept) _ (sym a) ∙ (pass 6 (faults6 records kept) _ (sym b) ∙ (ap (λ r. firstFault (recordChecks r kept)) (sym w) ∙ sym e)))
+
+  pub later-fault : (t offs : List ℕ) (k p : ℕ) → Nowhere ≡ leastPlace (faults5 kept) → Nowhere ≡ leastPlace (faults6 records kept) → recordsAt t offs n ≡ records → fault k p ≡ firstFault (recordChecks (recordsAt t offs n) kept) → verdictFrom text cs n ≡ refused k p
+  unfolding verdictOf
+  later-fault t offs k p a b w e = later t offs (fault k p) a b w e
+
+  pub later-clean : (t offs : List ℕ) → Nowhere ≡ leastPlace (faults5 kept) → Nowhere ≡ leastPlace (faults6 records kept) → recordsAt t offs n ≡ records → clean ≡ firstFault (recordChecks (recordsAt t offs n) kept) → verdictFrom text cs n ≡ table (encode records)
+  unfolding verdictOf
+  later-clean t offs a b w e = later t offs clean a b w e
+
+  -- what the writer made of declarations without a fault 5
+  pub wrote : (len : ℕ) (scratch after offs starts : List ℕ) → n ≤ parameterLimit → ((i : ℕ) → i < n → cellAt cs i 15 ≤ none16) → Nowhere ≡ leastPlace (faults5 kept) → length scratch ≡ 22528 → length offs ≡ 256 → Wrote (writtenRecords text cs n) len scratch after offs starts → Held (writtenRecords text cs n) n len scratch after starts
+  wrote len scratch after offs starts few parents e long room w =
+      held text cs n len scratch after offs starts (record { few = few; parents = parents; labels = labels-short text cs n (sym e) }) (omega arith) (omega arith) w
+
+-- ---- the answer and the lent table after
+
+pub refuses : (v : Verdict) (lent : List ℕ) (k p : ℕ) → v ≡ refused k p → (refusal k p ≡ answerOf (length lent) v) × (lent ≡ lentAfter v lent)
+unfolding answerOf lentAfter
+refuses v lent k p e = rw e (refl, refl)
+
+pub lacks-room : (v : Verdict) (lent : List ℕ) (rs : List Record) (len : ℕ) → v ≡ table (encode rs) → len ≡ length (encode rs) → length lent < len → (refusal 11 len ≡ answerOf (length lent) v) × (lent ≡ lentAfter v lent)
+unfolding answerOf lentAfter pick
+lacks-room v lent rs len e q h = rw (e, q, lt-ltb (length lent) (length (encode rs)) (omega arith)) (refl, refl)
+
+pub fills : (v : Verdict) (lent after scratch made : List ℕ) (rs : List Record) (len : ℕ) → v ≡ table (encode rs) → len ≡ length (encode rs) → len ≤ length lent → made ≡ encode rs ++ drop len scratch → after ≡ sets lent 0 (take len made) → (compiled len ≡ answerOf (length lent) v) × (after ≡ lentAfter v lent)
+unfolding answerOf lentAfter pick
+fills v lent after scratch made rs len e q h m a =
+    let g : len ≤ length made = omega (arith, ap length m, length-append (encode rs) (drop len scratch)) in
+    let t : take len made ≡ encode rs = ap (take len) m ∙ take-at (encode rs) (drop len scratch) len (sym q) in
+    let c : after ≡ encode rs ++ drop len lent = a ∙ (copied made lent len g h ∙ ap (λ l. l ++ drop len lent) t) in
+    rw (e, ← q, le-ltb (length lent) len h) (refl, c)

@@ -1,0 +1,147 @@
+// The definition compiler: from a definition's text to its table.
+use declared::Place;
+use forms::Formed;
+ghost use mathlib.Core.Path.{_≡_};
+ghost use Prim.Native.Nat.{ℕ, _≤_, _<_};
+ghost use lib.ListN.{length};
+ghost use Rattle.numbers.specs.Limits.{parameterLimit, textLimit, none16};
+ghost use Rattle.definition_rules.specs.Compile.{firstFault, answerOf, lentAfter, compileAnswer, tableAfter};
+ghost use Rattle.table_rules.specs.Endless.{EndlessPromise};
+ghost use Rattle.declared.specs.Cells.{cellAt, notedFrom};
+ghost use Rattle.records.specs.Stored.{recordsAt};
+ghost use Rattle.definition.specs.Answers.{answer, found, recordChecks, verdictFrom};
+
+// Success with the table's length, or a refusal with its number and place.
+pub enum Compiled {
+    Table(usize),
+    Refused(u32, usize),
+}
+
+// What checks find: nothing, or a number and a place.
+enum Stop {
+    Clear,
+    Fault(u32, usize),
+}
+
+// ---- scratch space
+
+fn blank_cells() -> [u32; 4096]
+    ensures { λ r. ⌜ length r ≡ 4096 ⌝ }
+{
+    [0; 4096]
+}
+
+fn blank_bytes() -> [u8; 22528]
+    ensures { λ r. ⌜ length r ≡ 22528 ⌝ }
+{
+    [0; 22528]
+}
+
+fn blank_offsets() -> [u32; 256]
+    ensures { λ r. ⌜ length r ≡ 256 ⌝ }
+{
+    [0; 256]
+}
+
+fn blank_marks() -> [bool; 256]
+    ensures { λ r. ⌜ length r ≡ 256 ⌝ }
+{
+    [false; 256]
+}
+
+// ---- the checks on records
+
+// Numbers 7 to 10, over the declarations and the records that were written for them.
+fn record_fault(text: &[u8], cells: &[u32], table: &[u8], offs: &[u32], n: usize) -> Stop
+    requires { ⌜ n ≤ parameterLimit ⌝ }
+    ensures { λ r. ⌜ found r ≡ firstFault (recordChecks (recordsAt (now (table .entry)) (now (offs .entry)) n) (notedFrom (now (text .entry)) (now (cells .entry)) n 0)) ⌝ }
+{
+    let mut have = blank_marks();
+    match record_faults::least_fault(cells, table, offs, &have, n, 7) {
+        Place::At(p) => {
+            return Stop::Fault(7, p);
+        }
+        Place::Nowhere => {}
+    }
+    let names = declaration_checks::repeated_name(text, cells, n);
+    let tags = record_faults::least_fault(cells, table, offs, &have, n, 8);
+    match declared::lesser(names, tags) {
+        Place::At(p) => {
+            return Stop::Fault(8, p);
+        }
+        Place::Nowhere => {}
+    }
+    let root = record_faults::least_fault(cells, table, offs, &have, n, 9);
+    let lost = declaration_checks::dangling(text, cells, n);
+    match declared::lesser(root, lost) {
+        Place::At(p) => {
+            return Stop::Fault(9, p);
+        }
+        Place::Nowhere => {}
+    }
+    record_checks::finites(table, offs, n, &mut have);
+    match record_faults::least_fault(cells, table, offs, &have, n, 10) {
+        Place::At(p) => Stop::Fault(10, p),
+        Place::Nowhere => Stop::Clear,
+    }
+}
+
+// From the declarations to the table: numbers 5 to 11. The records are written into scratch space first,
+// so that the lent table is touched only when nothing can be refused any more.
+fn compile_declarations(text: &[u8], cells: &[u32], n: usize, table: &mut [u8]) -> Compiled
+    requires { ⌜ (n ≤ parameterLimit) × (length (now text) ≤ textLimit) ⌝ }
+    requires { ⌜ ((i : ℕ) → i < n → cellAt (now cells) i 15 ≤ none16) ⌝ }
+    ensures { λ r. ⌜ answer r ≡ answerOf (length (now (table .entry))) (verdictFrom (now (text .entry)) (now (cells .entry)) n) ⌝ }
+    ensures { λ _. ⌜ now (table .exit) ≡ lentAfter (verdictFrom (now (text .entry)) (now (cells .entry)) n) (now (table .entry)) ⌝ }
+{
+    match declaration_checks::broken_form(text, cells, n) {
+        Place::At(p) => {
+            return Compiled::Refused(5, p);
+        }
+        Place::Nowhere => {}
+    }
+    match declaration_checks::broken_range(text, cells, n) {
+        Place::At(p) => {
+            return Compiled::Refused(6, p);
+        }
+        Place::Nowhere => {}
+    }
+    let mut scratch = blank_bytes();
+    let mut offs = blank_offsets();
+    let len = writer::write_records(text, cells, n, &mut scratch, &mut offs);
+    match record_fault(text, cells, &scratch, &offs, n) {
+        Stop::Fault(k, p) => {
+            return Compiled::Refused(k, p);
+        }
+        Stop::Clear => {}
+    }
+    if table.len() < len {
+        return Compiled::Refused(11, len);
+    }
+    writer::copy_out(&scratch, len, table);
+    Compiled::Table(len)
+}
+
+// Compiles a definition into the lent table. The answer and the lent bytes after are those of the definitions; a text free of
+// every fault before number 10 is refused as endless exactly when one of its structs or unions has no lawful value, at its name.
+pub fn compile(text: &[u8], table: &mut [u8]) -> Compiled
+    ensures { λ r. ⌜ answer r ≡ compileAnswer (now (text .entry)) (length (now (table .entry))) ⌝ }
+    ensures { λ _. ⌜ now (table .exit) ≡ tableAfter (now (text .entry)) (now (table .entry)) ⌝ }
+    ensures { λ r. ⌜ EndlessPromise (now (text .entry)) (answer r) ⌝ }
+{
+    if 65535 < text.len() {
+        return Compiled::Refused(1, 65535);
+    }
+    match scanner::scan_fault(text) {
+        Place::At(p) => {
+            return Compiled::Refused(2, p);
+        }
+        Place::Nowhere => {}
+    }
+    let mut cells = blank_cells();
+    match forms::forms(text, &mut cells) {
+        Formed::Stuck(p) => Compiled::Refused(3, p),
+        Formed::Over(p) => Compiled::Refused(4, p),
+        Formed::Complete(n) => compile_declarations(text, &cells, n, table),
+    }
+}
