@@ -2,16 +2,19 @@
 use mathlib.Core.Path.{_≡_, refl, sym, _∙_}
 use mathlib.Core.Bool.{Bool, true, false, _&&_}
 use mathlib.Core.List.{List, [], _∷_}
-use Prim.Native.Nat.{ℕ, suc, _+_, _-_, _≤_, _<_}
+use Prim.Native.Nat.{ℕ, suc, _+_, _-_, _^_, _≤_, _<_}
 use native.Mathlib.Numerals.{add-one}
 use native.Mathlib.Omega.{arith}
 use lib.Dec.{leb}
-use lib.ListN.{length}
+use lib.ListN.{length, getD}
+use mathlib.Core.Logic.{_↔_}
 use borrow.Author.Tests.{lt-leb, le-leb}
 use Rattle.numbers.specs.Limits.{parameterLimit}
 use Rattle.schema.specs.Record.{Record}
 use Rattle.definition_rules.specs.Table.{Maybe, none, just, decode}
 use Rattle.definition_rules.specs.Finite.{finites, isEndless}
+use Rattle.table_rules.specs.Compilable.{Compilable}
+use Rattle.table_rules.proofs.Theorems.{rules-iff}
 use Rattle.table_rules.specs.RecordRules.{noneBroken, recordChecks, recordRules, rulesOf, tableRules}
 use Rattle.records.specs.Stored.{recordIn, recordsFrom, recordsAt}
 use Rattle.records.proofs.Laws.{length-records, records-more, records-end, records-all}
@@ -127,3 +130,7 @@ walked-count t offs w n h e = rw e at h
 pub walked-bad : (t offs : List ℕ) (w : Walk) → Walked t offs w → w ≡ Bad → Uncounted t
 unfolding Walked
 walked-bad t offs w h e = rw e at h
+
+-- the rules are what the paper asks
+pub promised : (t : List ℕ) (b : Bool) → ((i : ℕ) → getD t i 0 < 2 ^ 8) → b ≡ tableRules parameterLimit t → (b ≡ tableRules parameterLimit t) × ((b ≡ true) ↔ Compilable t)
+promised t b h e = (e, ((λ x. rules-iff t h .0 (sym e ∙ x)), λ c. e ∙ rules-iff t h .1 c))

@@ -3,6 +3,9 @@ ghost use mathlib.Core.Path.{_≡_};
 ghost use Prim.Native.Nat.{_≤_};
 ghost use lib.ListN.{length};
 ghost use Rattle.numbers.specs.Limits.{parameterLimit};
+ghost use mathlib.Core.Bool.{true};
+ghost use mathlib.Core.Logic.{_↔_};
+ghost use Rattle.table_rules.specs.Compilable.{Compilable};
 ghost use Rattle.table_rules.specs.RecordRules.{noneBroken, recordChecks, recordRules, tableRules};
 ghost use Rattle.records.specs.Stored.{recordIn, recordsAt};
 ghost use Rattle.table.specs.Checks.{isBroken};
@@ -96,9 +99,11 @@ fn no_offsets() -> [u32; 256]
     [0u32; 256]
 }
 
-// Some definition compiles to the table.
+// Some definition compiles to the table: the record rules hold, which is to say that there are a text and a room with which
+// compiling gives these very bytes.
 pub fn table_ok(table: &[u8]) -> bool
     ensures { λ r. ⌜ r ≡ tableRules parameterLimit (now (table .entry)) ⌝ }
+    ensures { λ r. ⌜ (r ≡ true) ↔ Compilable (now (table .entry)) ⌝ }
 {
     let mut offs = no_offsets();
     match walk::offsets(table, &mut offs) {
