@@ -5,7 +5,15 @@ ghost use Rattle.declared.specs.Places.{leastFrom};
 ghost use Rattle.record_faults.specs.RecordFaults.{faultAt};
 
 // The fault of parameter i under the refusal's number: 7, 8, 9, else 10, of which have says who has a finite value.
-fn fault_at(cells: &[u32], table: &[u8], offs: &[u32], have: &[bool], n: usize, rule: u32, i: usize) -> Place
+fn fault_at(
+    cells: &[u32],
+    table: &[u8],
+    offs: &[u32],
+    have: &[bool],
+    n: usize,
+    rule: u32,
+    i: usize,
+) -> Place
     ensures { λ r. ⌜ r ≡ faultAt (now (cells .entry)) (now (table .entry)) (now (offs .entry)) (now (have .entry)) n rule i ⌝ }
 {
     if rule == 7 {
@@ -25,7 +33,14 @@ fn fault_at(cells: &[u32], table: &[u8], offs: &[u32], have: &[bool], n: usize, 
 }
 
 // The least place of a fault under the refusal's number, over all parameters.
-pub fn least_fault(cells: &[u32], table: &[u8], offs: &[u32], have: &[bool], n: usize, rule: u32) -> Place
+pub fn least_fault(
+    cells: &[u32],
+    table: &[u8],
+    offs: &[u32],
+    have: &[bool],
+    n: usize,
+    rule: u32,
+) -> Place
     ensures { λ r. ⌜ r ≡ leastFrom (faultAt (now (cells .entry)) (now (table .entry)) (now (offs .entry)) (now (have .entry)) n rule) n 0 ⌝ }
 {
     let mut best = Place::Nowhere;

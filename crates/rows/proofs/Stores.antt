@@ -80,10 +80,10 @@ unfolding withEnds ended cells
 rows-ended l k e [] b = refl
 rows-ended l k e (r ∷ a) b =
     let h : set (sets l (4 * k) (r .parameter ∷ r .parent ∷ r .start ∷ r .end ∷ cells (a ++ b))) (4 * k + 3) e ≡ sets (sets l (4 * k) (r .parameter ∷ r .parent ∷ r .start ∷ e ∷ [])) (4 * suc k) (cells (a ++ b))
-      = end-first l k (r .parameter) (r .parent) (r .start) (r .end) e (cells (a ++ b)) in
+    = end-first l k (r .parameter) (r .parent) (r .start) (r .end) e (cells (a ++ b)) in
     let q : 4 * suc k ≡ 4 * k + 4 = omega arith in
     let i : withEnds (sets (sets l (4 * k) (r .parameter ∷ r .parent ∷ r .start ∷ e ∷ [])) (4 * suc k) (cells (a ++ b))) (suc k) (length a) e ≡ sets (sets l (4 * k) (r .parameter ∷ r .parent ∷ r .start ∷ e ∷ [])) (4 * suc k) (cells (ended e a ++ b))
-      = rows-ended (sets l (4 * k) (r .parameter ∷ r .parent ∷ r .start ∷ e ∷ [])) (suc k) e a b in
+    = rows-ended (sets l (4 * k) (r .parameter ∷ r .parent ∷ r .start ∷ e ∷ [])) (suc k) e a b in
     ap (λ (z : List ℕ). withEnds z (suc k) (length a) e) h
     ∙ (i ∙ (ap (λ (m : ℕ). sets (sets l (4 * k) (r .parameter ∷ r .parent ∷ r .start ∷ e ∷ [])) m (cells (ended e a ++ b))) q ∙ sets-append (r .parameter ∷ r .parent ∷ r .start ∷ e ∷ []) (cells (ended e a ++ b)) l (4 * k)))
 

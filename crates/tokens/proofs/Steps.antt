@@ -59,8 +59,10 @@ reads-back base s at p l q r = go l r
   where
     e : cutAt base s at ≡ restAt base s p
     e = cut-rest base s at ∙ ap (restAt base s) (sym q)
+
     step : (t : Token) (a b : ℕ) → Step (restAt base s p) base s p t a b → Step (cutAt base s at) base s at t a b
     step t a b r = record { is = e ∙ r .is; least = omega (arith, row-least isBlank s at p q, r .least); less = r .less; within = r .within }
+
     go : (l : Lexeme) → Reads (restAt base s p) base s p l → Reads (cutAt base s at) base s at l
     go (Word a u) r = step (word (part s a (u .at))) a (u .at) r
     go (Text a u) r = step (string (part s (a + 1) (u .at - 1))) a (u .at) r

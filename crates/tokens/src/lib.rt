@@ -124,11 +124,17 @@ impl Cursor {
 
 // The kinds of a head.
 pub const NONE: u8 = 0;
+
 pub const WORD: u8 = 1;
+
 pub const STRING: u8 = 2;
+
 pub const EQUALS: u8 = 3;
+
 pub const COMMA: u8 = 4;
+
 pub const OPENING: u8 = 5;
+
 pub const CLOSING: u8 = 6;
 
 // What stands next, by a number: where it starts, and the cursor past it. Without a token it starts at the end.
@@ -143,14 +149,46 @@ impl Cursor {
         ensures { λ r. ⌜ ((base : ℕ) → HeadAt base (now (s .entry)) (self .at) r) ⌝ }
     {
         match self.next(s) {
-            Lexeme::Word(a, v) => Head { kind: WORD, start: a, past: v },
-            Lexeme::Text(a, v) => Head { kind: STRING, start: a, past: v },
-            Lexeme::Equals(a, v) => Head { kind: EQUALS, start: a, past: v },
-            Lexeme::Comma(a, v) => Head { kind: COMMA, start: a, past: v },
-            Lexeme::Opening(a, v) => Head { kind: OPENING, start: a, past: v },
-            Lexeme::Closing(a, v) => Head { kind: CLOSING, start: a, past: v },
-            Lexeme::End => Head { kind: NONE, start: s.len(), past: self },
-            Lexeme::Bad(_) => Head { kind: NONE, start: s.len(), past: self },
+            Lexeme::Word(a, v) => Head {
+                kind: WORD,
+                start: a,
+                past: v,
+            },
+            Lexeme::Text(a, v) => Head {
+                kind: STRING,
+                start: a,
+                past: v,
+            },
+            Lexeme::Equals(a, v) => Head {
+                kind: EQUALS,
+                start: a,
+                past: v,
+            },
+            Lexeme::Comma(a, v) => Head {
+                kind: COMMA,
+                start: a,
+                past: v,
+            },
+            Lexeme::Opening(a, v) => Head {
+                kind: OPENING,
+                start: a,
+                past: v,
+            },
+            Lexeme::Closing(a, v) => Head {
+                kind: CLOSING,
+                start: a,
+                past: v,
+            },
+            Lexeme::End => Head {
+                kind: NONE,
+                start: s.len(),
+                past: self,
+            },
+            Lexeme::Bad(_) => Head {
+                kind: NONE,
+                start: s.len(),
+                past: self,
+            },
         }
     }
 }

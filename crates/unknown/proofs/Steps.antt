@@ -54,8 +54,8 @@ ends-after {o} {o′} {base} {s} {lo} {i} (Past u) a b =
       moved = record {
         along = tail-trans (lexemesAt base s lo) (lexemesAt base s i) (lexemesAt base s (u .at)) (b .moved .along) (a .along);
         less = omega (arith, a .least, b .moved .less);
-        within = b .moved .within
-      }
+        within = b .moved .within;
+      };
     }
 ends-after {o} {o′} {base} {s} {lo} {i} (Refused n q) a b =
     record { rest = b .rest; is = a .is ∙ b .is; along = tail-trans (lexemesAt base s lo) (lexemesAt base s i) (b .rest) (b .along) (a .along); place = b .place }
@@ -139,8 +139,8 @@ module _ (base : ℕ) (s : List ℕ) (e : ℕ) (h : e ≤ length s) (l : Passed)
         moved = record {
           along = rw (← part-start base s e, ← part-lexemes base s e (u .at)) (g .moved .along);
           less = omega (arith, g .moved .less);
-          within = omega (arith, g .moved .within, part-length s e, h)
-        }
+          within = omega (arith, g .moved .within, part-length s e, h);
+        };
       }
 
   pub part-refused : (n q : ℕ) → l ≡ Refused n q → Halted (bracesFrom base s e 0) (lexemesAt base s e) (base + length s) n q
@@ -203,13 +203,15 @@ module _ (base : ℕ) (s : List ℕ) (i : ℕ) (h : Head) (g : HeadAt base s i h
     where
       text : List ℕ
       text = take (h .past .at - h .start) (drop (h .start) s)
+
       w : Step (cutAt base s i) base s i (word (take (h .past .at - h .start) (drop (h .start) s))) (h .start) (h .past .at)
       w = head-step base s i h g 1 e (λ z. omega arith)
+
       go : (t : Turn) → WordTurn base s (h .past .at) t → ValueTurn base s i t
       go (On u n) r =
           record {
             is = ap (λ x. leftOf (unknownAt x)) (step-tokens base s i _ (h .start) (h .past .at) w) ∙ r .is (take (h .past .at - h .start) (drop (h .start) s));
-            moved = moved-on base s i (h .past .at) (u .at) (step-moved base s i _ (h .start) (h .past .at) w) (r .moved)
+            moved = moved-on base s i (h .past .at) (u .at) (step-moved base s i _ (h .start) (h .past .at) w) (r .moved);
           }
       go (Out d) r =
           let p : Ended (unknownFrom base s i) base s i (h .past .at) = record { is = ap (λ x. leftOf (unknownAt x)) (step-tokens base s i _ (h .start) (h .past .at) w) ∙ r .is (take (h .past .at - h .start) (drop (h .start) s)); moved = step-moved base s i _ (h .start) (h .past .at) w } in
@@ -290,7 +292,7 @@ module _ (base : ℕ) (s : List ℕ) (i : ℕ) (l : Passed) (r : Ends (unknownFr
       record {
         is = λ fuel. list-past fuel (tokensAt base s i) (tokensAt base s (u .at)) (leftOf (unknownsAt fuel (tokensAt base s (h .past .at)))) (p .is) (λ v. rw t (more-left fuel v (tokensAt base s (h .past .at))));
         moved = moved-on base s i (u .at) (h .past .at) (p .moved) (step-moved base s (u .at) comma (h .start) (h .past .at) w);
-        short = omega (arith, ap length t, tokens-length (lexemesAt base s (u .at)), tokens-length (lexemesAt base s i), tail-length (lexemesAt base s i) (lexemesAt base s (u .at)) (p .moved .along))
+        short = omega (arith, ap length t, tokens-length (lexemesAt base s (u .at)), tokens-length (lexemesAt base s i), tail-length (lexemesAt base s i) (lexemesAt base s (u .at)) (p .moved .along));
       }
 
   pub list-last : (u : Cursor) (h : Head) → l ≡ Past u → HeadAt base s (u .at) h → (h .kind ≡ 4 → ⊥) → (fuel : ℕ) → Ended (leftOf (unknownsAt (suc fuel) (tokensAt base s i))) base s i (u .at)

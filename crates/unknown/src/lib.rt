@@ -5,7 +5,6 @@ ghost use Prim.Native.Nat.{ℕ, _+_, _≤_};
 ghost use lib.ListN.{length};
 ghost use Rattle.numbers.specs.Limits.{messageLimit};
 ghost use Rattle.unknown.specs.Passing.{bracesFrom, unknownFrom, unknownsFrom, Ends, BraceTurn, WordTurn, ValueTurn, ListTurn};
-
 use tokens::Cursor;
 
 // Past a part, or a number and a place.

@@ -16,29 +16,38 @@ use Rattle.tokens.proofs.scan_turn.Reads as scan-turn-reads
 
 abbrev Inv-loop : tie.InvT-loop
 Inv-loop message u₀ deep₀ u deep = (scanFault (cut message) ≡ faultFrom deep (cutAt 0 message (u .at))) × (deep ≤ openLimit)
+
 abbrev μ-loop : tie.MeasureT-loop
 μ-loop message u₀ deep₀ u deep = length message - u .at
+
 -- src/lib.rt:168:5
 loop-holds : tie.Need-loop-holds Inv-loop μ-loop
 loop-holds c = (scan-start _, omega arith)
+
 -- src/lib.rt:169:15
 scan-turn-requires : tie.Need-scan-turn-requires Inv-loop μ-loop
 scan-turn-requires c κs = c .loop .inv .1
+
 -- src/lib.rt:170:22
 enum-known-v : tie.Need-enum-known-v Inv-loop μ-loop
 enum-known-v c = search needs
+
 -- src/lib.rt:168:5
 loop-less : tie.Need-loop-less Inv-loop μ-loop
 loop-less c = omega (arith, scan-go _ _ _ (c .before .before .before .scan-turn .result) _ _ (c .before .before .before .scan-turn .ensures) (c .before .v .given .1) .less, scan-go _ _ _ (c .before .before .before .scan-turn .result) _ _ (c .before .before .before .scan-turn .ensures) (c .before .v .given .1) .within)
+
 -- src/lib.rt:168:5
 loop-again : tie.Need-loop-again Inv-loop μ-loop
 loop-again c = (c .before .before .before .before .loop .inv .0 ∙ scan-go _ _ _ (c .before .before .before .scan-turn .result) _ _ (c .before .before .before .scan-turn .ensures) (c .before .v .given .1) .is, scan-go _ _ _ (c .before .before .before .scan-turn .result) _ _ (c .before .before .before .scan-turn .ensures) (c .before .v .given .1) .few)
+
 -- src/lib.rt:174:23
 enum-known-f : tie.Need-enum-known-f Inv-loop μ-loop
 enum-known-f c = search needs
+
 -- src/lib.rt:175:17
 returns : tie.Need-returns Inv-loop μ-loop
 returns c = scan-out _ _ _ (c .before .before .before .scan-turn .result) _ _ (c .before .before .before .scan-turn .ensures) (c .before .f .given .1) (c .before .before .before .before .loop .inv .0)
+
 pub scan-fault-spec : {M : Type 1} → statement M
 scan-fault-spec =
     tie.close

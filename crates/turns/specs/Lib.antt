@@ -1,0 +1,4 @@
+-- What the readers of a message ensure.
+pub mod Ends
+pub mod Going
+pub mod Turns
