@@ -1,0 +1,156 @@
+-- The two passes, the room, and a row's bytes, said of plain lists.
+use mathlib.Core.Path.{_≡_, refl, sym, ap, subst, _∙_}
+use mathlib.Core.Bool.{Bool, true, false, _&&_}
+use mathlib.Core.List.{List, [], _∷_, _++_}
+use Prim.Native.Nat.{ℕ, zero, suc, _+_, _-_, _*_, _/_, _%_, _≤_, _<_}
+use native.Mathlib.Nat.{zero-add, div-add-mod', mod-lt}
+use native.Mathlib.Omega.{arith}
+use lib.Dec.{leb}
+use lib.ListN.{length, take, drop, getD}
+use lib.Seq.{sets, sets-eq, length-sets}
+use borrow.Author.Tests.{le-leb, lt-leb}
+use Rattle.numbers.specs.Limits.{messageLimit, openLimit, rowWidth, noRow, parameterLimit}
+use Rattle.schema.specs.Schema.{schemaOf, Found, nowhere, found}
+use Rattle.schema.specs.Reading.{Tree, body}
+use Rattle.records.specs.Stored.{recordsAt}
+use Rattle.message_rules.specs.RowBytes.{rowBytes}
+use Rattle.message_rules.specs.Scan.{cut, scanFault, tokensOf}
+use Rattle.message_rules.specs.Scan.{Lexeme as Lex}
+use Rattle.schema.specs.Parse.{Result, refused, bodyAt, parse}
+use Rattle.schema.specs.Parse as parser
+use Rattle.message_rules.specs.Rows.{Row, rowCount, rowsOf, messageRows, cells}
+use Rattle.message_rules.specs.Verdict.{RoomFree, fault, rows, outcome, placeAt, afterScan, roomFree, Answer, accepted, refusal, withRoom, written}
+use Rattle.message_rules.proofs.RowLaws.{message-counted, cells-counted, rows-counted}
+use Rattle.tokens.specs.Cursor.{cutAt, lexemesAt}
+use Rattle.tokens.specs.Scanned.{foundOf}
+use Rattle.tokens.specs.declared.Scanned.{Scanned}
+use Rattle.tokens.specs.declared.Scanned.the-variants.{Clean, Fault}
+use Rattle.tokens.proofs.CutAt.{cut-start}
+use Rattle.unknown.specs.Along.{Stopped}
+use Rattle.unknown.proofs.AlongLaws.{place-left}
+use Rattle.rows.proofs.Stores.{rows-append}
+use Rattle.lookup.specs.Questions.{schemaAt}
+use Rattle.turns.specs.declared.Frame.{Frame}
+use Rattle.turns.specs.declared.Got.{Got}
+use Rattle.turns.specs.declared.Got.the-variants as got
+use Rattle.turns.specs.Ends.{Room, Ended, Ends}
+use Rattle.message.specs.Reads.{answerOf, rootFrame, reading, Rows, Counted, Fills}
+use Rattle.message.specs.declared.Verdict.{Verdict}
+use Rattle.message.specs.declared.Verdict.the-variants.{Accepted, Refused}
+
+-- ---- a row's bytes
+row-there : (len row : ℕ) → row < len / 4 → 4 * row + 4 ≤ len
+row-there len row h = omega (arith, div-add-mod' len 4)
+
+row-lost : (len row : ℕ) → len / 4 ≤ row → len < 4 * row + 4
+row-lost len row h = let z : len % 4 < 4 = mod-lt len (omega arith) in omega (arith, div-add-mod' len 4, z)
+
+module _ (m lent : List ℕ) (row : ℕ) where
+  pub bytes-lost : length lent / 4 ≤ row → [] ≡ rowBytes m lent row
+  unfolding rowBytes
+  bytes-lost h = rw (lt-leb (4 * row + 4) (length lent) (row-lost (length lent) row h), rowBytes) refl
+
+  pub bytes-back : row < length lent / 4 → getD lent (4 * row + 3) 0 < getD lent (4 * row + 2) 0 → [] ≡ rowBytes m lent row
+  unfolding rowBytes
+  bytes-back h e = rw (le-leb (4 * row + 4) (length lent) (row-there (length lent) row h), lt-leb (getD lent (4 * row + 2) 0) (getD lent (4 * row + 3) 0) e, rowBytes) refl
+
+  pub bytes-over : row < length lent / 4 → getD lent (4 * row + 2) 0 ≤ getD lent (4 * row + 3) 0 → length m < getD lent (4 * row + 3) 0 → [] ≡ rowBytes m lent row
+  unfolding rowBytes
+  bytes-over h e f = rw (le-leb (4 * row + 4) (length lent) (row-there (length lent) row h), le-leb (getD lent (4 * row + 2) 0) (getD lent (4 * row + 3) 0) e, lt-leb (getD lent (4 * row + 3) 0) (length m) f, rowBytes) refl
+
+  pub bytes-there : row < length lent / 4 → getD lent (4 * row + 2) 0 ≤ getD lent (4 * row + 3) 0 → getD lent (4 * row + 3) 0 ≤ length m → take (getD lent (4 * row + 3) 0 - getD lent (4 * row + 2) 0) (drop (getD lent (4 * row + 2) 0) m) ≡ rowBytes m lent row
+  unfolding rowBytes
+  bytes-there h e f = rw (le-leb (4 * row + 4) (length lent) (row-there (length lent) row h), le-leb (getD lent (4 * row + 2) 0) (getD lent (4 * row + 3) 0) e, le-leb (getD lent (4 * row + 3) 0) (length m) f, rowBytes) refl
+
+  pub bytes-within : row < length lent / 4 → 4 * row + 4 ≤ length lent
+  bytes-within h = row-there (length lent) row h
+
+-- ---- the passes
+pub root-room : (n len : ℕ) → len ≤ messageLimit → n ≤ parameterLimit → Room rootFrame len n
+root-room n len l k = record { short = omega (arith, l); here = omega arith; few = omega arith; above = omega arith; known = k }
+
+module _ (t o : List ℕ) (n : ℕ) (m : List ℕ) (before after : List ℕ) where
+  start : cut m .lexemes ≡ lexemesAt 0 m 0
+  start = ap (λ c. c .lexemes) (cut-start m)
+
+  reading-is : reading t o n m ≡ outcome m (lexemesAt 0 m 0) (bodyAt (schemaOf (recordsAt t o n)) 17 false 0 (tokensOf (lexemesAt 0 m 0)))
+  reading-is = ap (λ x. outcome m x (bodyAt (schemaOf (recordsAt t o n)) 17 false 0 (tokensOf x))) start
+
+  pub counted : (r : Got) → Ends (bodyAt (schemaAt t o n) 17 false 0 (tokensOf (lexemesAt 0 m 0))) m rootFrame before after 0 r → Counted (reading t o n m) r
+  unfolding outcome
+  counted (got.Done u k) h =
+      let e : reading t o n m ≡ rows (messageRows m (lexemesAt 0 m 0) (h .read .tree)) = reading-is ∙ ap (outcome m (lexemesAt 0 m 0)) (h .read .is) in
+      record { all = messageRows m (lexemesAt 0 m 0) (h .read .tree); is = e; counted = omega (arith, h .read .sized, message-counted m (lexemesAt 0 m 0) (h .read .tree)) }
+  counted (got.Refused k q) h =
+      let p : placeAt m (lexemesAt 0 m 0) (tokensOf (h .rest)) ≡ q = place-left m (lexemesAt 0 m 0) (h .rest) (h .along) ∙ sym (rw (zero-add (length m)) at (h .place)) in
+      reading-is ∙ (ap (outcome m (lexemesAt 0 m 0)) (h .is) ∙ ap (fault k) p)
+
+  pub filled : (lent : List ℕ) (r : Got) → before ≡ sets lent (rowWidth * 0) (cells (record { parameter = 0; parent = noRow; start = 0; end = length m } ∷ [])) → Ends (bodyAt (schemaAt t o n) 17 false 0 (tokensOf (lexemesAt 0 m 0))) m rootFrame before after 0 r → Fills (reading t o n m) lent after
+  unfolding outcome messageRows
+  filled lent (got.Done u k) b h rs e =
+      let z : rows rs ≡ rows (messageRows m (lexemesAt 0 m 0) (h .read .tree)) = sym e ∙ (reading-is ∙ ap (outcome m (lexemesAt 0 m 0)) (h .read .is)) in
+      let y : rs ≡ messageRows m (lexemesAt 0 m 0) (h .read .tree) = cc in
+      rw y (h .read .written ∙ rw b (rows-append lent 0 1 (record { parameter = 0; parent = noRow; start = 0; end = length m } ∷ []) (rowsOf (lexemesAt 0 m 0) (h .read .tree) 0 1 0 0) refl))
+  filled lent (got.Refused k q) b h rs e =
+      let z : rows rs ≡ fault k (placeAt m (lexemesAt 0 m 0) (tokensOf (h .rest))) = sym e ∙ (reading-is ∙ ap (outcome m (lexemesAt 0 m 0)) (h .is)) in
+      let y : _≡_ {A = ℕ} 0 1 = cc in absurd (omega arith)
+
+-- ---- the room
+room-fits : (rs : List Row) (room m : ℕ) → m ≡ length rs → rowWidth * length rs ≤ room → accepted m ≡ withRoom room (rows rs)
+unfolding withRoom
+room-fits rs room m e h = rw (e, le-leb (rowWidth * length rs) room h, withRoom) refl
+
+room-lacks : (rs : List Row) (room m : ℕ) → m ≡ length rs → room < rowWidth * length rs → refusal 29 m ≡ withRoom room (rows rs)
+unfolding withRoom
+room-lacks rs room m e h = rw (e, lt-leb (rowWidth * length rs) room h, withRoom) refl
+
+rows-kept : (rs : List Row) (lent : List ℕ) → length lent < rowWidth * length rs → lent ≡ written lent (rows rs)
+unfolding written
+rows-kept rs lent h = rw (lt-leb (rowWidth * length rs) (length lent) h, written) refl
+
+rows-filled : (rs : List Row) (lent : List ℕ) → rowWidth * length rs ≤ length lent → sets lent 0 (cells rs) ≡ written lent (rows rs)
+unfolding written
+rows-filled rs lent h =
+    let c : length (cells rs) ≡ rowWidth * length rs = cells-counted rs in
+    let d : 0 + length (cells rs) ≡ rowWidth * length rs = omega (arith, c) in
+    sets-eq (cells rs) lent 0 (omega (arith, c, h)) ∙ rw (d, le-leb (rowWidth * length rs) (length lent) h, written) refl
+
+module _ (o : RoomFree) (lent : List ℕ) where
+  pub with-fault : (n place : ℕ) → o ≡ fault n place → (refusal n place ≡ withRoom (length lent) o) × (lent ≡ written lent o)
+  unfolding withRoom written
+  with-fault n place e = (rw e refl, rw e refl)
+
+  module _ (m : ℕ) (h : Rows o m) where
+    pub with-little : length lent / 4 < m → (refusal 29 m ≡ withRoom (length lent) o) × (lent ≡ written lent o)
+    with-little l =
+        let z : length lent % 4 < 4 = mod-lt (length lent) (omega arith) in
+        let r : length lent < rowWidth * length (h .all) = omega (arith, div-add-mod' (length lent) 4, z, h .counted, l) in
+        (room-lacks (h .all) (length lent) m (h .counted) r ∙ ap (withRoom (length lent)) (sym (h .is)), rows-kept (h .all) lent r ∙ ap (written lent) (sym (h .is)))
+
+    pub with-room : (after : List ℕ) → m ≤ length lent / 4 → Fills o lent after → (accepted m ≡ withRoom (length lent) o) × (after ≡ written lent o)
+    with-room after l f =
+        let r : rowWidth * length (h .all) ≤ length lent = omega (arith, div-add-mod' (length lent) 4, h .counted, l) in
+        (room-fits (h .all) (length lent) m (h .counted) r ∙ ap (withRoom (length lent)) (sym (h .is)), f (h .all) (h .is) ∙ (rows-filled (h .all) lent r ∙ ap (written lent) (sym (h .is))))
+
+-- ---- the order of refusals
+module _ (table : List ℕ) (o : List ℕ) (n : ℕ) (m : List ℕ) where
+  pub too-long : messageLimit < length m → roomFree (recordsAt table o n) m ≡ fault 21 messageLimit
+  unfolding roomFree
+  too-long h = rw (lt-leb (length m) messageLimit h, roomFree) refl
+
+  scanned : length m ≤ messageLimit → roomFree (recordsAt table o n) m ≡ afterScan (schemaOf (recordsAt table o n)) m (cut m .lexemes) (scanFault (cut m))
+  unfolding roomFree
+  scanned h = rw (le-leb (length m) messageLimit h, roomFree) refl
+
+  pub bad-byte : (r : Scanned) (at : ℕ) → length m ≤ messageLimit → foundOf r ≡ scanFault (cut m) → r ≡ Fault at → roomFree (recordsAt table o n) m ≡ fault 22 at
+  unfolding afterScan
+  bad-byte r at h e q = scanned h ∙ ap (afterScan (schemaOf (recordsAt table o n)) m (cut m .lexemes)) (sym e ∙ ap foundOf q)
+
+  pub no-bad : (r : Scanned) → length m ≤ messageLimit → foundOf r ≡ scanFault (cut m) → r ≡ Clean → roomFree (recordsAt table o n) m ≡ reading table o n m
+  unfolding afterScan
+  no-bad r h e q = scanned h ∙ ap (afterScan (schemaOf (recordsAt table o n)) m (cut m .lexemes)) (sym e ∙ ap foundOf q)
+
+-- nothing was lent
+pub none-more : (ys e : List ℕ) → length ys ≡ 0 → ys ++ e ≡ e
+none-more [] e h = refl
+none-more (y ∷ ys) e h = absurd (omega arith)

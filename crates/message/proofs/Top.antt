@@ -1,0 +1,64 @@
+-- Number 20, and what the reader's answer promises.
+use mathlib.Core.Path.{_≡_, refl, ap, sym, _∙_, subst}
+use mathlib.Core.Bool.{Bool, true, false}
+use mathlib.Core.List.{List, [], _∷_}
+use Prim.Native.Nat.{ℕ, _^_, _≤_, _<_}
+use native.Mathlib.Omega.{arith}
+use lib.Dec.{leb}
+use lib.ListN.{length, getD}
+use borrow.Author.Tests.{leb-true}
+use Rattle.classes.specs.Bytes.{IsBytes}
+use Rattle.numbers.specs.Limits.{parameterLimit}
+use Rattle.schema.specs.Record.{Record}
+use Rattle.schema.proofs.CountLaws.{clash-bool, and-both}
+use Rattle.definition_rules.specs.Table.{Maybe, none, just, decode}
+use Rattle.table_rules.specs.RecordRules.{recordRules, tableRules}
+use Rattle.table_rules.proofs.Theorems.{bytes-records}
+use Rattle.message_rules.specs.Verdict.{Answer, accepted, refusal, RoomFree, withRoom, written, roomFree, orEmpty, recordsIn, readWith, rowsWith, readAnswer, rowsAfter}
+use Rattle.message_rules.specs.Promise.{ReadPromise}
+use Rattle.message_rules.proofs.Compiled.{read-promise}
+use Rattle.records.specs.Stored.{recordsAt}
+use Rattle.walk.specs.declared.Walk.{Walk}
+use Rattle.walk.specs.declared.Walk.the-variants.{Count, Bad}
+use Rattle.walk.specs.Walked.{Counted, Uncounted, Walked}
+
+-- ---- 20
+
+pub bad-table : (table message lent : List ℕ) → false ≡ tableRules parameterLimit table → (refusal 20 0 ≡ readAnswer table message (length lent)) × (lent ≡ rowsAfter table message lent)
+unfolding readAnswer rowsAfter
+bad-table table message lent e = (rw (← e, readAnswer), rw (← e, rowsAfter))
+
+-- the records that were walked are the table's
+records-are : (table offs : List ℕ) (n : ℕ) → Counted table offs n → recordsIn table ≡ recordsAt table offs n
+unfolding recordsIn orEmpty
+records-are table offs n c = ap orEmpty (c .these)
+
+pub good-table : (table message lent after offs : List ℕ) (n : ℕ) (a : Answer) → true ≡ tableRules parameterLimit table → Counted table offs n → a ≡ withRoom (length lent) (roomFree (recordsAt table offs n) message) → after ≡ written lent (roomFree (recordsAt table offs n) message) → (a ≡ readAnswer table message (length lent)) × (after ≡ rowsAfter table message lent)
+unfolding readAnswer rowsAfter readWith rowsWith
+good-table table message lent after offs n a e c x y =
+    let q = records-are table offs n c in
+    (x ∙ rw (← e, readAnswer, q), y ∙ rw (← e, rowsAfter, q))
+
+few : (limit : ℕ) (rs : List Record) → recordRules limit rs ≡ true → length rs ≤ limit
+unfolding recordRules
+few limit rs e = and-both (leb 1 (length rs)) _ e (λ a b. and-both (leb (length rs) limit) _ b (λ c d. leb-true (length rs) limit c))
+
+-- a table that keeps the rules is walked to its end
+pub walked : {X : Type 0} (table : List ℕ) → true ≡ tableRules parameterLimit table → Uncounted table → X
+walked table e u =
+    let x = bytes-records table (sym e) in
+    absurd (let f = few parameterLimit (x .0) (x .2) in let g = u (x .0) (x .1) in omega arith)
+
+pub counted : (table offs : List ℕ) (w : Walk) (n : ℕ) → Walked table offs w → w ≡ Count n → Counted table offs n
+unfolding Walked
+counted table offs w n x e = subst (Walked table offs) e x
+
+pub uncounted : (table offs : List ℕ) (w : Walk) → Walked table offs w → w ≡ Bad → Uncounted table
+unfolding Walked
+uncounted table offs w x e = subst (Walked table offs) e x
+
+-- ---- the promise
+
+pub promised : (table message lent after : List ℕ) (a : Answer) → ((i : ℕ) → getD table i 0 < 2 ^ 8) → (a ≡ readAnswer table message (length lent)) × (after ≡ rowsAfter table message lent) → (a ≡ readAnswer table message (length lent)) × ((after ≡ rowsAfter table message lent) × ReadPromise table message lent a after)
+promised table message lent after a h x =
+    (x .0, (x .1, subst (λ b. ReadPromise table message lent b after) (sym (x .0)) (subst (λ l. ReadPromise table message lent (readAnswer table message (length lent)) l) (sym (x .1)) (read-promise table message lent h))))

@@ -1,0 +1,44 @@
+-- The code's answers in the paper's terms, and what the two passes ensure.
+use mathlib.Core.Path.{_≡_}
+use mathlib.Core.List.{List}
+use Prim.Native.Nat.{ℕ}
+use lib.ListN.{length}
+use lib.Seq.{sets}
+use Rattle.numbers.specs.Limits.{openLimit}
+use Rattle.schema.specs.Schema.{schemaOf}
+use Rattle.records.specs.Stored.{recordsAt}
+use Rattle.message_rules.specs.Scan.{cut, tokensOf}
+use Rattle.schema.specs.Parse.{parse}
+use Rattle.message_rules.specs.Rows.{Row, cells}
+use Rattle.message_rules.specs.Verdict.{RoomFree, fault, rows, outcome, Answer, accepted, refusal}
+use Rattle.turns.specs.declared.Frame.{Frame}
+use Rattle.turns.specs.declared.Got.{Got}
+use Rattle.turns.specs.declared.Got.the-variants as got
+use Rattle.message.specs.declared.Verdict.{Verdict}
+use Rattle.message.specs.declared.Verdict.the-variants.{Accepted, Refused}
+
+-- "Success gives the row count"; a refusal its number and place
+abbrev pub answerOf : Verdict → Answer
+answerOf (Accepted n) = accepted n
+answerOf (Refused n place) = refusal n place
+
+abbrev pub rootFrame : Frame
+rootFrame = record { base = 0; at = 0; row = 1; parameter = 0; parent = 0; depth = 17 }
+
+-- what the tokens of a message without number 22 make
+abbrev pub reading : List ℕ → List ℕ → ℕ → List ℕ → RoomFree
+reading t o n message = outcome message (cut message .lexemes) (parse (schemaOf (recordsAt t o n)) openLimit (tokensOf (cut message .lexemes)))
+
+-- the rows of a reading, counted
+pub record Rows (o : RoomFree) (m : ℕ) : Type 0 where
+  pub all : List Row
+  pub is : o ≡ rows all
+  pub counted : m ≡ length all
+
+abbrev pub Counted : RoomFree → Got → Type 0
+Counted o (got.Done u m) = Rows o m
+Counted o (got.Refused n q) = o ≡ fault n q
+
+-- the rows of a reading, stored from the start
+abbrev pub Fills : RoomFree → List ℕ → List ℕ → Type 0
+Fills o before after = (rs : List Row) → o ≡ rows rs → after ≡ sets before 0 (cells rs)

@@ -1,0 +1,163 @@
+// A message read by a compiled table, and a row's bytes.
+ghost use mathlib.Core.Path.{_≡_};
+ghost use mathlib.Core.List.{List};
+ghost use Prim.Native.Nat.{_≤_, _<_};
+ghost use lib.ListN.{length};
+ghost use lib.Seq.{sets};
+ghost use Rattle.numbers.specs.Limits.{messageLimit, parameterLimit};
+ghost use Rattle.records.specs.Stored.{recordsAt};
+ghost use Rattle.message_rules.specs.RowBytes.{rowBytes};
+ghost use Rattle.message_rules.specs.Rows.{Row, cells};
+ghost use Rattle.message_rules.specs.Verdict.{roomFree, withRoom, written, readAnswer, rowsAfter};
+ghost use Rattle.message_rules.specs.Promise.{ReadPromise};
+ghost use Rattle.message.specs.Reads.{answerOf, rootFrame, reading, Counted, Fills};
+use rows::Row;
+use tokens::Scanned;
+use turns::Frame;
+use turns::Got;
+use walk::Walk;
+
+// The rows' count, or a number and a place.
+pub enum Verdict {
+    Accepted(usize),
+    Refused(u32, usize),
+}
+
+const MESSAGE_LIMIT: usize = 16_384;
+
+const ROW_WIDTH: usize = 4;
+
+const NO_ROW: usize = 4_294_967_295;
+
+fn wide(x: u32) -> usize
+    ensures { λ r. ⌜ r ≡ x ⌝ }
+{
+    x as usize
+}
+
+// A row's part of the message itself, empty where the row or its span isn't there. Any row may be asked for.
+pub fn row_bytes<'a>(message: &'a [u8], rows: &[u32], row: usize) -> &'a [u8]
+    ensures { λ r. ⌜ now r ≡ rowBytes (now (message .entry)) (now (rows .entry)) row ⌝ }
+{
+    if rows.len() / ROW_WIDTH <= row {
+        return &message[0..0];
+    }
+    let start = wide(rows[ROW_WIDTH * row + 2]);
+    let end = wide(rows[ROW_WIDTH * row + 3]);
+    if end < start {
+        return &message[0..0];
+    }
+    if message.len() < end {
+        return &message[0..0];
+    }
+    &message[start..end]
+}
+
+// The frame of the root's body, with the depth of 16 braces.
+fn root() -> Frame
+    ensures { λ r. ⌜ r ≡ rootFrame ⌝ }
+{
+    Frame {
+        base: 0,
+        at: 0,
+        row: 1,
+        parameter: 0,
+        parent: 0,
+        depth: 17,
+    }
+}
+
+// The first pass, over no rows: how many there are, or the refusal. The records are at most 256, as a table's are.
+fn count(table: &[u8], offs: &[u32], n: usize, message: &[u8], rows: &mut [u32]) -> Got
+    requires { ⌜ (length (now message) ≤ messageLimit) × (n ≤ parameterLimit) ⌝ }
+    ensures { λ r. ⌜ Counted (reading (now (table .entry)) (now (offs .entry)) n (now (message .entry))) r ⌝ }
+    ensures { λ _. ⌜ now (rows .exit) ≡ now (rows .entry) ⌝ }
+{
+    reader::body(table, offs, n, message, &mut rows[0..0], root(), false)
+}
+
+// The second pass, which fills the rows.
+fn fill(table: &[u8], offs: &[u32], n: usize, message: &[u8], rows: &mut [u32])
+    requires { ⌜ (length (now message) ≤ messageLimit) × (n ≤ parameterLimit) ⌝ }
+    ensures { λ _. ⌜ Fills (reading (now (table .entry)) (now (offs .entry)) n (now (message .entry))) (now (rows .entry)) (now (rows .exit)) ⌝ }
+{
+    rows::put_row(
+        rows,
+        0,
+        Row {
+            parameter: 0,
+            parent: NO_ROW,
+            start: 0,
+            end: message.len(),
+        },
+    );
+    reader::body(table, offs, n, message, rows, root(), false);
+}
+
+// A message read by the n records at these offsets of the table: 21, 22, then the leftmost of 23 to 28, then 29.
+// The records are at most 256, as a table's are.
+fn read_records(table: &[u8], offs: &[u32], n: usize, message: &[u8], rows: &mut [u32]) -> Verdict
+    requires { ⌜ n ≤ parameterLimit ⌝ }
+    ensures { λ r. ⌜ answerOf r ≡ withRoom (length (now (rows .entry))) (roomFree (recordsAt (now (table .entry)) (now (offs .entry)) n) (now (message .entry))) ⌝ }
+    ensures { λ _. ⌜ now (rows .exit) ≡ written (now (rows .entry)) (roomFree (recordsAt (now (table .entry)) (now (offs .entry)) n) (now (message .entry))) ⌝ }
+{
+    if MESSAGE_LIMIT < message.len() {
+        return Verdict::Refused(21, MESSAGE_LIMIT);
+    }
+    match tokens::scan_fault(message) {
+        Scanned::Fault(at) => {
+            return Verdict::Refused(22, at);
+        }
+        Scanned::Clean => {
+            return read_tokens(table, offs, n, message, rows);
+        }
+    }
+}
+
+// The same for a message that has no number 22.
+fn read_tokens(table: &[u8], offs: &[u32], n: usize, message: &[u8], rows: &mut [u32]) -> Verdict
+    requires { ⌜ (length (now message) ≤ messageLimit) × (n ≤ parameterLimit) ⌝ }
+    ensures { λ r. ⌜ answerOf r ≡ withRoom (length (now (rows .entry))) (reading (now (table .entry)) (now (offs .entry)) n (now (message .entry))) ⌝ }
+    ensures { λ _. ⌜ now (rows .exit) ≡ written (now (rows .entry)) (reading (now (table .entry)) (now (offs .entry)) n (now (message .entry))) ⌝ }
+{
+    match count(table, offs, n, message, rows) {
+        Got::Done(_, m) => {
+            if rows.len() / ROW_WIDTH < m {
+                return Verdict::Refused(29, m);
+            }
+            fill(table, offs, n, message, rows);
+            return Verdict::Accepted(m);
+        }
+        Got::Refused(k, q) => {
+            return Verdict::Refused(k, q);
+        }
+    }
+}
+
+fn blank_offsets() -> [u32; 256]
+    ensures { λ r. ⌜ 256 ≡ length r ⌝ }
+{
+    [0; 256]
+}
+
+// Reads a message by a table. The answer and the lent numbers after are those of the definitions, and they mean what the
+// paper asks: 20 exactly when no definition compiles to the table; accepted exactly when a lawful reading exists and its
+// rows fit, with that reading's rows; never a second reading; 29 with the number of rows that don't fit; else no lawful reading.
+pub fn read(table: &[u8], message: &[u8], rows: &mut [u32]) -> Verdict
+    ensures { λ r. ⌜ answerOf r ≡ readAnswer (now (table .entry)) (now (message .entry)) (length (now (rows .entry))) ⌝ }
+    ensures { λ _. ⌜ now (rows .exit) ≡ rowsAfter (now (table .entry)) (now (message .entry)) (now (rows .entry)) ⌝ }
+    ensures { λ r. ⌜ ReadPromise (now (table .entry)) (now (message .entry)) (now (rows .entry)) (answerOf r) (now (rows .exit)) ⌝ }
+{
+    if table::table_ok(table) {
+        let mut offs = blank_offsets();
+        match walk::offsets(table, &mut offs) {
+            Walk::Count(n) => {
+                return read_records(table, &offs, n, message, rows);
+            }
+            Walk::Bad => {
+                return Verdict::Refused(20, 0);
+            }
+        }
+    }
+    Verdict::Refused(20, 0)
+}
