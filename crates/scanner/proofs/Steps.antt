@@ -11,6 +11,7 @@ use lib.Seq.{drop-cons, drop-drop, take-all, length-take-le}
 use borrow.Author.Tests.{eq-eqb, ne-eqb}
 use Rattle.classes.specs.Lists.{pick, runOf}
 use Rattle.classes.specs.Bytes.{isRunByte, isBlank, isMark}
+use Rattle.classes.proofs.Rows.{run-within}
 use Rattle.definition_rules.specs.Words.{ByteClass, inRun, blank, single, slash, other, classOf}
 use Rattle.definition_rules.specs.Scan.{run, mark, Item, gap, item, bad, outside, lineComment, opening, comment, star, startsWith, scan}
 use Rattle.definition_rules.proofs.TableLaws.{All}
@@ -26,11 +27,11 @@ use Rattle.scanner.proofs.LiveLaws.{live-ahead}
 
 -- ---- what a byte begins
 
-class-run : (b : ℕ) → isRunByte b ≡ true → classOf b ≡ inRun
+pub class-run : (b : ℕ) → isRunByte b ≡ true → classOf b ≡ inRun
 unfolding classOf
 class-run b r = rw (r, classOf)
 
-not-run : (b : ℕ) → isRunByte b ≡ false → classOf b ≡ inRun → ⊥
+pub not-run : (b : ℕ) → isRunByte b ≡ false → classOf b ≡ inRun → ⊥
 unfolding classOf
 not-run b r e = by (isBlank b) (isMark b) (eqb b 47) (rw (r, classOf) at e)
   where
@@ -40,45 +41,23 @@ not-run b r e = by (isBlank b) (isMark b) (eqb b 47) (rw (r, classOf) at e)
     by false false true q = absurd (let n : _≡_ {A = ℕ} 0 1 = cc in omega arith)
     by false false false q = absurd (let n : _≡_ {A = ℕ} 0 1 = cc in omega arith)
 
-class-blank : (b : ℕ) → isRunByte b ≡ false → isBlank b ≡ true → classOf b ≡ blank
+pub class-blank : (b : ℕ) → isRunByte b ≡ false → isBlank b ≡ true → classOf b ≡ blank
 unfolding classOf
 class-blank b r k = rw (r, k, classOf)
 
-class-single : (b : ℕ) → isRunByte b ≡ false → isBlank b ≡ false → isMark b ≡ true → classOf b ≡ single
+pub class-single : (b : ℕ) → isRunByte b ≡ false → isBlank b ≡ false → isMark b ≡ true → classOf b ≡ single
 unfolding classOf
 class-single b r k m = rw (r, k, m, classOf)
 
-class-other : (b : ℕ) → isRunByte b ≡ false → isBlank b ≡ false → isMark b ≡ false → (b ≡ 47 → ⊥) → classOf b ≡ other
+pub class-other : (b : ℕ) → isRunByte b ≡ false → isBlank b ≡ false → isMark b ≡ false → (b ≡ 47 → ⊥) → classOf b ≡ other
 unfolding classOf
 class-other b r k m s = rw (r, k, m, ne-eqb b 47 s, classOf)
 
-class-slash : (b : ℕ) → b ≡ 47 → classOf b ≡ slash
+pub class-slash : (b : ℕ) → b ≡ 47 → classOf b ≡ slash
 unfolding classOf isRunByte isBlank isMark
 class-slash b e = rw e
 
 -- ---- a run
-
-module _ (f : ℕ → Bool) (text : List ℕ) (at : ℕ) where
-  pub run-more : at < length text → f (getD text at 0) ≡ true → at + runOf f (drop at text) ≡ at + 1 + runOf f (drop (at + 1) text)
-  unfolding runOf
-  run-more h t = rw (add-one at, drop-cons text at 0 h, t, runOf) (omega arith)
-
-  pub run-stop : at < length text → f (getD text at 0) ≡ false → at + runOf f (drop at text) ≡ at
-  unfolding runOf
-  run-stop h t = rw (drop-cons text at 0 h, t, runOf) (omega arith)
-
-  pub run-ends : length text ≤ at → at + runOf f (drop at text) ≡ at
-  unfolding runOf
-  run-ends h = rw (drop-of-length-le text h) (omega arith)
-
-run-fits : (s : List ℕ) → runOf isRunByte s ≤ length s
-unfolding runOf
-run-fits [] = omega arith
-run-fits (b ∷ s) = by (isRunByte b) (run-fits s)
-  where
-    by : (t : Bool) → runOf isRunByte s ≤ length s → elim t [ true ↦ suc (runOf isRunByte s) | false ↦ 0 ] ≤ suc (length s)
-    by true h = omega arith
-    by false h = omega arith
 
 run-all : (s : List ℕ) → All (λ c. classOf c ≡ inRun) (take (runOf isRunByte s) s)
 unfolding runOf All
@@ -112,7 +91,7 @@ module _ (text : List ℕ) (at : ℕ) (h : at < length text) where
       let b : ℕ = getD text at 0 in
       let n : ℕ = runOf isRunByte s in
       let q2 : e ≡ suc at + n = q ∙ rw (add-one at) in
-      let f : n ≤ length s = run-fits s in
+      let f : n ≤ length s = run-within isRunByte s in
       let l : length s ≡ length text - suc at = length-drop (suc at) text in
       let m : length (take n s) ≡ n = length-take-le n s f in
       let w : part text at e ≡ b ∷ take n s = let z : e - at ≡ suc n = omega arith in rw (z, drop-cons text at 0 h) in
@@ -155,7 +134,7 @@ module _ (text : List ℕ) (at : ℕ) where
   unfolding scan
   line-ends h = rw (drop-of-length-le text h)
 
-comment-step : (q p b c : ℕ) (s : List ℕ) → (eqb b 42 && eqb c 47) ≡ false → scan (comment q) p (b ∷ c ∷ s) ≡ scan (comment q) (suc p) (c ∷ s)
+pub comment-step : (q p b c : ℕ) (s : List ℕ) → (eqb b 42 && eqb c 47) ≡ false → scan (comment q) p (b ∷ c ∷ s) ≡ scan (comment q) (suc p) (c ∷ s)
 unfolding scan pick
 comment-step q p b c s t = by (eqb b 42) (eqb c 47) (eqb c 42) t
   where
@@ -164,7 +143,7 @@ comment-step q p b c s t = by (eqb b 42) (eqb c 47) (eqb c 42) t
     by true false z e = refl
     by false y z e = refl
 
-comment-stop : (q p b c : ℕ) (s : List ℕ) → (eqb b 42 && eqb c 47) ≡ true → scan (comment q) p (b ∷ c ∷ s) ≡ scan outside (suc (suc p)) s
+pub comment-stop : (q p b c : ℕ) (s : List ℕ) → (eqb b 42 && eqb c 47) ≡ true → scan (comment q) p (b ∷ c ∷ s) ≡ scan outside (suc (suc p)) s
 unfolding scan pick
 comment-stop q p b c s t = by (eqb b 42) (eqb c 47) (eqb c 42) t
   where

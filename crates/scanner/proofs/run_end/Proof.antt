@@ -5,7 +5,7 @@ use lib.ListN.{length, drop}
 use borrow.Author.Needs.{needs}
 use Rattle.classes.specs.Lists.{runOf}
 use Rattle.classes.specs.Bytes.{isRunByte}
-use Rattle.scanner.proofs.Steps.{run-more, run-stop, run-ends}
+use Rattle.classes.proofs.Rows.{run-more, run-stop, run-end}
 use Rattle.scanner.proofs.run_end.Statement.{statement}
 use Rattle.scanner.proofs.run_end.Tie as tie
 
@@ -37,7 +37,7 @@ returns : tie.Need-returns Inv-loop μ-loop
 returns c = sym (c .before .before .before .before .loop .inv .0 ∙ run-stop isRunByte _ _ (c .before .before .before .loop-test .taken) (sym (c .before .is-run-byte .ensures) ∙ c .if1 .left))
 
 returns-2 : tie.Need-returns-2 Inv-loop μ-loop
-returns-2 c = sym (c .before .loop .inv .0 ∙ run-ends isRunByte _ _ (c .loop-test .left))
+returns-2 c = sym (c .before .loop .inv .0 ∙ run-end isRunByte _ _ (c .loop-test .left))
 
 pub run-end-spec : {M : Type 1} → statement M
 run-end-spec =
