@@ -113,6 +113,19 @@ pub data Answer : Type 0 where
   compiled : ℕ → Answer
   refusal : ℕ → ℕ → Answer
 
+-- the paper's number of an answer, 0 for success; a refusal's place; the table's length
+unfoldable pub numberOf : Answer → ℕ
+numberOf (compiled n) = 0
+numberOf (refusal n p) = n
+
+unfoldable pub placeOf : Answer → ℕ
+placeOf (compiled n) = 0
+placeOf (refusal n p) = p
+
+unfoldable pub countOf : Answer → ℕ
+countOf (compiled n) = n
+countOf (refusal n p) = 0
+
 -- 11: "table longer than the lent buffer", "bytes needed"
 unfoldable pub answerOf : ℕ → Verdict → Answer
 answerOf room (refused n p) = refusal n p

@@ -6,7 +6,7 @@ use native.Mathlib.Omega.{arith}
 use lib.ListN.{length, getD}
 use Rattle.schema.specs.Reading.{Sort, body, Tree, unknownWord, unknownString, unknownBraces, unknownPair, unknownLast, unknownMore, leaf, braced, chosenVoid, chosen, chosenInt, last, more, listed, stopped, itemized, noItem, voidItem, listItem, unknownItem, unknownListItem, leavesThen, leaves}
 use Rattle.message_rules.specs.Scan.{Lexeme, Spelled, tokensOf}
-use Rattle.message_rules.specs.Rows.{Row, rowCount, placeOf, rowOver, rowsOf, messageRows}
+use Rattle.message_rules.specs.Rows.{Row, rowCount, lexemeAt, rowOver, rowsOf, messageRows}
 use Rattle.schema.specs.Reading.{width}
 use Rattle.message_rules.proofs.RowLaws.{rows-counted}
 use Rattle.message_rules.proofs.Spans.{Ordered, spelled-ordered, ordered-at, ordered-up, Covers, part, row-inside, tokens-length}
@@ -67,7 +67,7 @@ holds-self r rs = shift (r ∷ []) rs
 module _ (ls : List Lexeme) (at end : ℕ) (o : Ordered at ls end) (all : List Row) where
   -- tokens of a row lie in the row's span
   own : (i m p up k w : ℕ) → i + m ≤ length ls → 1 ≤ m → i ≤ k → k + w ≤ i + m → Covers ls at end o (rowOver ls i m p up .start) (rowOver ls i m p up .end) k w
-  unfolding rowOver placeOf
+  unfolding rowOver lexemeAt
   own i m p up k w there one a b =
       record {
         there = omega arith;

@@ -8,7 +8,7 @@ use Rattle.numbers.specs.Limits.{noRow}
 use Rattle.schema.specs.Token.{Token, word, string, equals, comma, opening, closing}
 use Rattle.schema.specs.Reading.{Sort, unknownValue, unknownList, value, list, body, items, Tree, unknownWord, unknownString, unknownBraces, unknownPair, unknownLast, unknownMore, leaf, braced, chosenVoid, chosen, chosenInt, last, more, listed, stopped, itemized, noItem, voidItem, listItem, unknownItem, unknownListItem, leavesThen, balancedFrom, count, fieldsOf, InRange, Full, For, Law}
 use Rattle.message_rules.specs.Scan.{Lexeme, lexeme, spelledThen, spelledLength, Spelled, tokensOf}
-use Rattle.message_rules.specs.Rows.{Row, rowCount, placeOf, rowOver, rowsOf, messageRows}
+use Rattle.message_rules.specs.Rows.{Row, rowCount, lexemeAt, rowOver, rowsOf, messageRows}
 use Rattle.schema.specs.Reading.{width}
 use Rattle.schema.proofs.Complete.{leaves-width, value-wide, list-wide}
 
@@ -35,8 +35,8 @@ spelled-ordered at bytes (l ∷ ls) h =
     let e : l .end + length (h .1) ≡ at + length bytes = omega (arith, spelled-length (l .token) (h .1), length-append (h .0) (spelledThen (l .token) (h .1)), ap length (h .2)) in
     (omega arith, omega arith, rw e at (spelled-ordered (l .end) (h .1) ls (h .8)))
 
-pub ordered-at : (at end : ℕ) (ls : List Lexeme) → Ordered at ls end → (i : ℕ) → i < length ls → (at ≤ placeOf ls i .start) × (placeOf ls i .start ≤ placeOf ls i .end) × (placeOf ls i .end ≤ end)
-unfolding Ordered placeOf
+pub ordered-at : (at end : ℕ) (ls : List Lexeme) → Ordered at ls end → (i : ℕ) → i < length ls → (at ≤ lexemeAt ls i .start) × (lexemeAt ls i .start ≤ lexemeAt ls i .end) × (lexemeAt ls i .end ≤ end)
+unfolding Ordered lexemeAt
 ordered-at at end [] h i m = absurd (omega arith)
 ordered-at at end (l ∷ ls) h zero m = (h .0, h .1, ordered-le (l .end) end ls (h .2))
   where
@@ -46,8 +46,8 @@ ordered-at at end (l ∷ ls) h zero m = (h .0, h .1, ordered-le (l .end) end ls 
 ordered-at at end (l ∷ ls) h (suc i) m = let g = ordered-at (l .end) end ls (h .2) i (omega arith) in (omega (arith, h .0, h .1), g .1, g .2)
 
 -- a later token ends later
-pub ordered-up : (at end : ℕ) (ls : List Lexeme) → Ordered at ls end → (i j : ℕ) → i ≤ j → j < length ls → (placeOf ls i .start ≤ placeOf ls j .start) × (placeOf ls i .end ≤ placeOf ls j .end)
-unfolding Ordered placeOf
+pub ordered-up : (at end : ℕ) (ls : List Lexeme) → Ordered at ls end → (i j : ℕ) → i ≤ j → j < length ls → (lexemeAt ls i .start ≤ lexemeAt ls j .start) × (lexemeAt ls i .end ≤ lexemeAt ls j .end)
+unfolding Ordered lexemeAt
 ordered-up at end [] h i j k m = absurd (omega arith)
 ordered-up at end (l ∷ ls) h zero zero k m = (omega arith, omega arith)
 ordered-up at end (l ∷ ls) h zero (suc j) k m = let g = ordered-at (l .end) end ls (h .2) j (omega arith) in (omega (arith, h .1), omega arith)
@@ -68,14 +68,14 @@ module _ (ls : List Lexeme) (at end : ℕ) (o : Ordered at ls end) (s e : ℕ) w
   -- the n tokens from the i-th on are there and lie between s and e
   pub record Covers (i n : ℕ) : Type 0 where
     pub there : i + n ≤ length ls
-    pub above : (j : ℕ) → i ≤ j → j < i + n → s ≤ placeOf ls j .start
-    pub below : (j : ℕ) → i ≤ j → j < i + n → placeOf ls j .end ≤ e
+    pub above : (j : ℕ) → i ≤ j → j < i + n → s ≤ lexemeAt ls j .start
+    pub below : (j : ℕ) → i ≤ j → j < i + n → lexemeAt ls j .end ≤ e
 
   pub part : (i n k m : ℕ) → Covers i n → i ≤ k → k + m ≤ i + n → Covers k m
   part i n k m c a b = record { there = omega (arith, c .there); above = λ j x y. c .above j (omega arith) (omega arith); below = λ j x y. c .below j (omega arith) (omega arith) }
 
   pub row-inside : (i n p up : ℕ) → 1 ≤ n → Covers i n → (s ≤ rowOver ls i n p up .start) × (rowOver ls i n p up .start ≤ rowOver ls i n p up .end) × (rowOver ls i n p up .end ≤ e)
-  unfolding rowOver placeOf
+  unfolding rowOver lexemeAt
   row-inside i n p up m c =
       let there : i + n ≤ length ls = c .there in
       let a = ordered-at at end ls o i (omega arith) in
@@ -139,9 +139,9 @@ message-inside message ls t h all =
     )
 
 -- the rows under a struct's or a union's value lie in its span: those of the tokens i to i + n - 1, all of which are there
-pub part-inside : {z : Sort} (message : List ℕ) (ls : List Lexeme) → Spelled 0 message ls → (t : Tree z) (i n p up a m : ℕ) → i ≤ a → a + width t ≤ i + n → i + n ≤ length ls → 1 ≤ n → Inside (placeOf ls i .start) (placeOf ls (i + n - 1) .end) (rowsOf ls t a m p up)
+pub part-inside : {z : Sort} (message : List ℕ) (ls : List Lexeme) → Spelled 0 message ls → (t : Tree z) (i n p up a m : ℕ) → i ≤ a → a + width t ≤ i + n → i + n ≤ length ls → 1 ≤ n → Inside (lexemeAt ls i .start) (lexemeAt ls (i + n - 1) .end) (rowsOf ls t a m p up)
 part-inside message ls h t i n p up a m x y there pos =
     let o = spelled-ordered 0 message ls h in
     let end = 0 + length message in
-    rows-inside ls 0 end o (placeOf ls i .start) (placeOf ls (i + n - 1) .end) t a m p up
+    rows-inside ls 0 end o (lexemeAt ls i .start) (lexemeAt ls (i + n - 1) .end) t a m p up
     (record { there = omega arith; above = λ j u v. ordered-up 0 end ls o i j (omega arith) (omega arith) .0; below = λ j u v. ordered-up 0 end ls o j (i + n - 1) (omega arith) (omega arith) .1 })

@@ -29,7 +29,7 @@ use Rattle.definition_rules.specs.Compile.{Answer, compiled, refusal, leastOf, 
 use Rattle.table_rules.specs.RecordRules.{isOpen, closedTo, inExtension, pushIf, mayStand, standsIn, ordered, kindsOfRecords, isSingleValue, countsFine, rangeFine, isTopAt, targetFine, showsName, labelFine, topFine, recordFine, everyRecord, noneBroken, keyIf, shownNames, allNew, recordChecks, recordRules, rulesOf, tableRules}
 use Rattle.message_rules.specs.Scan.{beginsOf, cutToken, cutRest, cutFrom, tokensOf as lexemeTokens, openAfter as openAfterToken, isOpening, tooDeep as braceTooDeep, either, scanFault}
 use Rattle.schema.specs.Reading.{width}
-use Rattle.message_rules.specs.Rows.{rowCount, placeOf, rowOver, rowsOf, messageRows, cells}
+use Rattle.message_rules.specs.Rows.{rowCount, lexemeAt, rowOver, rowsOf, messageRows, cells}
 use Rattle.schema.specs.Parse.{then, need, whether, onEquals, afterToken, bracesAt, pairWith, unknownAt, afterUnknown, unknownsAt, judged, simpleAt, shut, structAt, alternative, bareFor, choose, unionAt, noneAt, byKind, valueAt, mayGrow, listEnds, afterValue, listAt, requiredOf, endNumber, bodyEnds, unknownAfter, itemAt, itemsAt, listThen, listsAt, bodyAt}
 use Rattle.message_rules.specs.Verdict.{Answer as ReadAnswer, accepted, refusal as refusedAt, startOr, placeAt as placeIn, outcome, afterScan, roomFree, withRoom, written, readWith, rowsWith, orEmpty as noRecords, recordsIn, readAnswer, rowsAfter}
 
@@ -98,7 +98,7 @@ unfolding bytesOf tableFrom pick every some notEmpty sameBytes isBlank isDigit i
 tableOfText text = tableFrom (compileAnswer (bytesOf text) 200) (tableAfter (bytesOf text) lentBytes)
 
 unfoldable pub agrees : Case → Bool
-unfolding tableOfText textRefusedAs nthRecord numbersOf acceptedAs messageRefusedAs runOf isWordByte isStringByte leap daysOf isDate isTime isBool wordForm wordWithin formThenRange valueNumber isVoid kindFor coreOf numbersWhere first firstWhere schemaOf same times has allIn numberUp flag1 flag2 flag4 get16 get32 getBytes want decodeRecord mapMaybe decodeUpTo decode isOpen closedTo inExtension pushIf mayStand standsIn ordered kindsOfRecords isSingleValue countsFine rangeFine isTopAt targetFine showsName labelFine topFine recordFine everyRecord noneBroken keyIf shownNames allNew recordChecks recordRules rulesOf tableRules beginsOf cutToken cutRest cutFrom lexemeTokens openAfterToken isOpening braceTooDeep either scanFault width rowCount placeOf rowOver rowsOf messageRows cells then need whether onEquals afterToken bracesAt pairWith unknownAt afterUnknown unknownsAt judged simpleAt shut structAt alternative bareFor choose unionAt noneAt byKind valueAt mayGrow listEnds afterValue listAt requiredOf endNumber bodyEnds unknownAfter itemAt itemsAt listThen listsAt bodyAt startOr placeIn outcome afterScan roomFree withRoom written readWith rowsWith noRecords recordsIn readAnswer rowsAfter
+unfolding tableOfText textRefusedAs nthRecord numbersOf acceptedAs messageRefusedAs runOf isWordByte isStringByte leap daysOf isDate isTime isBool wordForm wordWithin formThenRange valueNumber isVoid kindFor coreOf numbersWhere first firstWhere schemaOf same times has allIn numberUp flag1 flag2 flag4 get16 get32 getBytes want decodeRecord mapMaybe decodeUpTo decode isOpen closedTo inExtension pushIf mayStand standsIn ordered kindsOfRecords isSingleValue countsFine rangeFine isTopAt targetFine showsName labelFine topFine recordFine everyRecord noneBroken keyIf shownNames allNew recordChecks recordRules rulesOf tableRules beginsOf cutToken cutRest cutFrom lexemeTokens openAfterToken isOpening braceTooDeep either scanFault width rowCount lexemeAt rowOver rowsOf messageRows cells then need whether onEquals afterToken bracesAt pairWith unknownAt afterUnknown unknownsAt judged simpleAt shut structAt alternative bareFor choose unionAt noneAt byKind valueAt mayGrow listEnds afterValue listAt requiredOf endNumber bodyEnds unknownAfter itemAt itemsAt listThen listsAt bodyAt startOr placeIn outcome afterScan roomFree withRoom written readWith rowsWith noRecords recordsIn readAnswer rowsAfter
 agrees (refusedText text n p) = textRefusedAs (compileAnswer (bytesOf text) 200) (tableAfter (bytesOf text) lentBytes) n p
 agrees (tabled text k n i bytes) = eqb (length (recordsIn (tableOfText text))) k && eqb (length (tableOfText text)) n && sameBytes (nthRecord i (tableOfText text)) bytes
 agrees (read text message rs) = acceptedAs (readAnswer (tableOfText text) (bytesOf message) 30) (rowsAfter (tableOfText text) (bytesOf message) lentNumbers) rs

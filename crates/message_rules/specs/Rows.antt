@@ -39,13 +39,13 @@ rowCount (unknownItem w i) = rowCount i
 rowCount (unknownListItem w l i) = rowCount i
 
 -- where the i-th token starts and ends
-unfoldable pub placeOf : List Lexeme → ℕ → Lexeme
-placeOf ls i = getD ls i (lexeme equals 0 0)
+unfoldable pub lexemeAt : List Lexeme → ℕ → Lexeme
+lexemeAt ls i = getD ls i (lexeme equals 0 0)
 
 -- a row over n tokens from the i-th on
 unfoldable pub rowOver : List Lexeme → ℕ → ℕ → ℕ → ℕ → Row
-unfolding placeOf
-rowOver ls i n p up = record { parameter = p; parent = up; start = placeOf ls i .start; end = placeOf ls (i + n - 1) .end }
+unfolding lexemeAt
+rowOver ls i n p up = record { parameter = p; parent = up; start = lexemeAt ls i .start; end = lexemeAt ls (i + n - 1) .end }
 
 -- "in order of place, parents first": the rows of a tree whose first leaf is the i-th token and whose first row is the n-th;
 -- p is the parameter that a value or list is of, up the row above

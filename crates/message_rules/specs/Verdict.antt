@@ -63,6 +63,19 @@ pub data Answer : Type 0 where
   accepted : ℕ → Answer
   refusal : ℕ → ℕ → Answer
 
+-- the paper's number of an answer, 0 for success; a refusal's place; how many rows
+unfoldable pub numberOf : Answer → ℕ
+numberOf (accepted n) = 0
+numberOf (refusal n p) = n
+
+unfoldable pub placeOf : Answer → ℕ
+placeOf (accepted n) = 0
+placeOf (refusal n p) = p
+
+unfoldable pub countOf : Answer → ℕ
+countOf (accepted n) = n
+countOf (refusal n p) = 0
+
 -- "29: rows don't fit, rows needed": room is how many numbers are lent
 unfoldable pub withRoom : ℕ → RoomFree → Answer
 withRoom room (fault n place) = refusal n place

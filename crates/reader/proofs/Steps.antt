@@ -16,7 +16,7 @@ use Rattle.schema.specs.Reading.{Sort, value, list, body, items, Tree, braced, 
 use Rattle.message_rules.specs.Scan.{lexeme, tokensOf}
 use Rattle.message_rules.specs.Scan.{Lexeme as Lex}
 use Rattle.schema.specs.Parse.{Result, refused, got, then, need, shut, structAt, unionAt, noneAt, simpleAt, byKind, valueAt, mayGrow, afterValue, listAt, wholeList, itemsAt, listThen, listsAt, wholeValue, bodyAt}
-use Rattle.message_rules.specs.Rows.{Row, rowCount, placeOf, rowOver, rowsOf, cells}
+use Rattle.message_rules.specs.Rows.{Row, rowCount, lexemeAt, rowOver, rowsOf, cells}
 use Rattle.schema.specs.Reading.{width}
 use Rattle.message_rules.specs.Verdict.{startOr}
 use Rattle.message_rules.proofs.RowLaws.{rows-counted}
@@ -259,7 +259,7 @@ field-any o s f at q before after (Refused n p) h = h
 module _ (S : Schema) (n : ℕ) (s : List ℕ) (f : Frame) (inside : Bool) (ks : List ℕ) (marks : List Bool) (before after : List ℕ) where
   -- a void field's item
   pub item-void : (q a e : ℕ) → VoidItem S n s f inside ks q a e → Marks marks (q ∷ ks) → after ≡ sets before (rowWidth * f .row) (cells (record { parameter = q; parent = f .parent; start = f .base + a; end = f .base + e } ∷ [])) → Itemed S s f inside ks marks before after e (f .row + 1)
-  unfolding width rowsOf rowOver placeOf
+  unfolding width rowsOf rowOver lexemeAt
   item-void q a e v k w =
       let b = step-within (f .base) s (f .at) (word (v .text)) a e (v .step) in
       let x = step-lex (f .base) s (f .at) (word (v .text)) a e (v .step) in
@@ -341,12 +341,12 @@ body-ends S s f inside before after g d h =
     go (Refused n q) h i = stopped-same i h
 
 -- ---- structs
-place-first : (base : ℕ) (x : List Lex) (a e : ℕ) {t : Token} {y : List Lex} → x ≡ lexeme t (base + a) (base + e) ∷ y → placeOf x 0 .start ≡ base + a
-unfolding placeOf
+place-first : (base : ℕ) (x : List Lex) (a e : ℕ) {t : Token} {y : List Lex} → x ≡ lexeme t (base + a) (base + e) ∷ y → lexemeAt x 0 .start ≡ base + a
+unfolding lexemeAt
 place-first base x a e h = rw h refl
 
-place-last : (base : ℕ) (x : List Lex) (i j : ℕ) → j ≡ i → (a e : ℕ) {t : Token} {y : List Lex} → drop i x ≡ lexeme t (base + a) (base + e) ∷ y → placeOf x j .end ≡ base + e
-unfolding placeOf
+place-last : (base : ℕ) (x : List Lex) (i j : ℕ) → j ≡ i → (a e : ℕ) {t : Token} {y : List Lex} → drop i x ≡ lexeme t (base + a) (base + e) ∷ y → lexemeAt x j .end ≡ base + e
+unfolding lexemeAt
 place-last base x i j q a e h = sym (ap (λ (l : Lex). l .end) (place-at i x 0 j (omega (arith, q)))) ∙ rw h refl
 
 closing-shut : (b : Tree body) (x y : List Token) → x ≡ closing ∷ y → shut b x ≡ got (braced b) y
@@ -392,10 +392,10 @@ module _ (S : Schema) (s : List ℕ) (f : Frame) (u a e : ℕ) (before mid after
         let x = lexemesAt (f .base) s (f .at) in
         let b = step-within (f .base) s (f .at) opening a e w in
         let c = step-within (f .base) s (e + v .at) closing (k .place) at (k .step) in
-        let first : placeOf x 0 .start ≡ f .base + a = place-first (f .base) x a e (step-lex (f .base) s (f .at) opening a e w) in
-        let final : placeOf x (0 + (width t + 2) - 1) .end ≡ f .base + at = place-last (f .base) x (1 + width t) (0 + (width t + 2) - 1) (omega arith) (k .place) at (sym inside-left ∙ step-lex (f .base) s (e + v .at) closing (k .place) at (k .step)) in
+        let first : lexemeAt x 0 .start ≡ f .base + a = place-first (f .base) x a e (step-lex (f .base) s (f .at) opening a e w) in
+        let final : lexemeAt x (0 + (width t + 2) - 1) .end ≡ f .base + at = place-last (f .base) x (1 + width t) (0 + (width t + 2) - 1) (omega arith) (k .place) at (sym inside-left ∙ step-lex (f .base) s (e + v .at) closing (k .place) at (k .step)) in
         let same-place : width t + 2 - 1 ≡ 0 + (width t + 2) - 1 = omega arith in
-        let final′ : placeOf x (width t + 2 - 1) .end ≡ f .base + at = ap (λ (j : ℕ). placeOf x j .end) same-place ∙ final in
+        let final′ : lexemeAt x (width t + 2 - 1) .end ≡ f .base + at = ap (λ (j : ℕ). lexemeAt x j .end) same-place ∙ final in
         let same-width : 1 + width t + 1 ≡ width t + 2 = omega arith in
         let y : rowsOf x t 1 (suc (f .row)) (f .parameter) (f .row) ≡ rowsOf (lexemesAt (f .base + e) (take (length s - e) (drop e s)) 0) t 0 (f .row + 1) u (f .row) =
         rw (part-start (f .base) s e, step-left (f .base) s (f .at) opening a e w, add-one (f .row)) (body-any x t 1 (suc (f .row)) (f .parameter) u (f .row) ∙ sym (rows-at 1 x t 0 1 (suc (f .row)) u (f .row) (omega arith))) in
@@ -504,7 +504,7 @@ module _ (S : Schema) (s : List ℕ) (f : Frame) (at row q up n : ℕ) (before a
       l : lexemesAt (f .base) s e ≡ drop 2 (lexemesAt (f .base) s at)
       l = step-left (f .base) s (w .past) equals (w .place) e (w .second) ∙ (ap (drop 1) (step-left (f .base) s at (word (w .text)) a (w .past) (w .first)) ∙ drop-drop 1 1 (lexemesAt (f .base) s at))
 
-      p : placeOf (lexemesAt (f .base) s at) 0 .start ≡ f .base + a
+      p : lexemeAt (lexemesAt (f .base) s at) 0 .start ≡ f .base + a
       p = place-first (f .base) (lexemesAt (f .base) s at) a (w .past) (step-lex (f .base) s at (word (w .text)) a (w .past) (w .first))
 
       go : (fuel : ℕ) → length (tokensAt (f .base) s at) < fuel → Chain (valuesOf S (f .depth) (f .parameter) (here s f)) (valueAt S (bodyAt S (f .depth) true) fuel q (tokensAt (f .base) s at)) (lexemesAt (f .base) s (f .at)) (lexemesAt (f .base) s at) before after (f .row) (f .parameter) (f .parent) row q up → Down S s f e (row + 1) c row n before mid
@@ -543,7 +543,7 @@ module _ (S : Schema) (s : List ℕ) (f : Frame) (at row q up n : ℕ) (before a
       go (suc fuel) l z = down-read (valueAt S (bodyAt S (f .depth) true) (suc fuel) q (tokensAt (f .base) s at)) z mid final g (h fuel (no-union (S .kind (S .core q)) u)) e
 
   whole-read : (u c a e : ℕ) (mid : List ℕ) (fuel : ℕ) → u ≡ S .core q → isUnion (S .kind u) ≡ true → Whole S n s (chainOf f at row q up) u c a e → (g : Got) → WholeAt (chainOf f at row q up) c a e after mid g → EndsValue (valueAt S (bodyAt S (f .depth) true) (suc fuel) q (tokensAt (f .base) s at)) s (chainOf f at row q up) after mid g
-  unfolding rowOver placeOf
+  unfolding rowOver lexemeAt
   whole-read u c a e mid fuel i k w (Done v m) t =
       let x = step-lex (f .base) s at (word (w .text)) a e (w .step) in
       let b = step-within (f .base) s at (word (w .text)) a e (w .step) in

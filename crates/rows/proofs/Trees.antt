@@ -8,18 +8,18 @@ use lib.Seq.{getD-drop}
 use Rattle.schema.specs.Token.{equals}
 use Rattle.schema.specs.Reading.{Sort, unknownValue, unknownList, value, list, body, items, Tree, unknownWord, unknownString, unknownBraces, unknownPair, unknownLast, unknownMore, leaf, braced, chosenVoid, chosen, chosenInt, last, more, listed, stopped, itemized, noItem, voidItem, listItem, unknownItem, unknownListItem}
 use Rattle.message_rules.specs.Scan.{Lexeme, lexeme}
-use Rattle.message_rules.specs.Rows.{Row, rowCount, placeOf, rowOver, rowsOf}
+use Rattle.message_rules.specs.Rows.{Row, rowCount, lexemeAt, rowOver, rowsOf}
 use Rattle.schema.specs.Reading.{width}
 
-pub place-at : (i : ℕ) (ls : List Lexeme) (j k : ℕ) → k ≡ i + j → placeOf (drop i ls) j ≡ placeOf ls k
-unfolding placeOf
+pub place-at : (i : ℕ) (ls : List Lexeme) (j k : ℕ) → k ≡ i + j → lexemeAt (drop i ls) j ≡ lexemeAt ls k
+unfolding lexemeAt
 place-at i ls j k h = rw h (getD-drop i ls j (lexeme equals 0 0))
 
 over-at : (i : ℕ) (ls : List Lexeme) (j k n p up : ℕ) → k ≡ i + j → 1 ≤ n → rowOver (drop i ls) j n p up ≡ rowOver ls k n p up
 unfolding rowOver
 over-at i ls j k n p up h o =
-    let a : placeOf (drop i ls) j ≡ placeOf ls k = place-at i ls j k h in
-    let b : placeOf (drop i ls) (j + n - 1) ≡ placeOf ls (k + n - 1) = place-at i ls (j + n - 1) (k + n - 1) (omega (arith, h, o)) in
+    let a : lexemeAt (drop i ls) j ≡ lexemeAt ls k = place-at i ls j k h in
+    let b : lexemeAt (drop i ls) (j + n - 1) ≡ lexemeAt ls (k + n - 1) = place-at i ls (j + n - 1) (k + n - 1) (omega (arith, h, o)) in
     rw (a, b) refl
 
 pub rows-at : {s : Sort} (i : ℕ) (ls : List Lexeme) (t : Tree s) (j k n p up : ℕ) → k ≡ i + j → rowsOf (drop i ls) t j n p up ≡ rowsOf ls t k n p up

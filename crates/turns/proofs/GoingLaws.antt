@@ -12,7 +12,7 @@ use Rattle.schema.specs.Reading.{Sort, value, list, body, items, Tree, chosen}
 use Rattle.message_rules.specs.Scan.{tokensOf}
 use Rattle.message_rules.specs.Scan.{Lexeme as Lex}
 use Rattle.schema.specs.Parse.{Result, refused, got, then}
-use Rattle.message_rules.specs.Rows.{Row, rowCount, placeOf, rowOver, rowsOf, cells}
+use Rattle.message_rules.specs.Rows.{Row, rowCount, lexemeAt, rowOver, rowsOf, cells}
 use Rattle.schema.specs.Reading.{width}
 use Rattle.message_rules.proofs.RowLaws.{rows-counted}
 use Rattle.unknown.specs.Along.{Tail, here, Stopped}
@@ -149,19 +149,19 @@ module _ {o o′ : Result (Tree value)} {x y : List Lex} {before after : List �
   -- one choice deeper: the row of the choice with its start, and the end left open
   pub chain-on : {o″ : Result (Tree value)} {z : List Lex} {last : List ℕ} (c : ℕ) (w : List ℕ)
       → o′ ≡ then o″ (λ t r. got (chosen c w t) r) → z ≡ drop 2 y
-      → last ≡ sets after (rowWidth * next) (cells (record { parameter = q; parent = above; start = placeOf y 0 .start; end = 0 } ∷ []))
+      → last ≡ sets after (rowWidth * next) (cells (record { parameter = q; parent = above; start = lexemeAt y 0 .start; end = 0 } ∷ []))
       → Chain o o″ x z before last row p up (next + 1) c next
   unfolding ended rowsOf rowOver width
   chain-on {o″} {z} {last} c w e l s =
-      let r0 : Row = record { parameter = q; parent = above; start = placeOf y 0 .start; end = 0 } in
+      let r0 : Row = record { parameter = q; parent = above; start = lexemeAt y 0 .start; end = 0 } in
       record {
         tokens = g .tokens + 2;
         left = l ∙ (ap (drop 2) (g .left) ∙ drop-drop 2 (g .tokens) x);
-        acc = g .acc ++ (record { parameter = q; parent = above; start = placeOf y 0 .start; end = 0 } ∷ []);
+        acc = g .acc ++ (record { parameter = q; parent = above; start = lexemeAt y 0 .start; end = 0 } ∷ []);
         refuses = λ n r h. g .refuses n r (e ∙ then-refused o″ (λ t r. got (chosen c w t) r) n r h);
         gets = λ t r h v.
             let a = g .gets (chosen c w t) r (e ∙ then-got o″ (λ t r. got (chosen c w t) r) t r h) (omega arith) in
-            let b : placeOf y (2 + width t - 1) ≡ placeOf z (width t - 1) = rw l (sym (place-at 2 y (width t - 1) (2 + width t - 1) (omega (arith, v)))) in
+            let b : lexemeAt y (2 + width t - 1) ≡ lexemeAt z (width t - 1) = rw l (sym (place-at 2 y (width t - 1) (2 + width t - 1) (omega (arith, v)))) in
             let d : 0 + (2 + width t) - 1 ≡ 2 + width t - 1 = omega arith in
             let m : suc next ≡ next + 1 = omega arith in
             let f : rowsOf y t (2 + 0) (next + 1) c next ≡ rowsOf z t 0 (next + 1) c next = rw l (sym (rows-at 2 y t 0 (2 + 0) (next + 1) c next (omega arith))) in
@@ -169,17 +169,17 @@ module _ {o o′ : Result (Tree value)} {x y : List Lex} {before after : List �
               tree = a .tree;
               is = a .is;
               wide = omega (arith, a .wide);
-              rows = a .rows ∙ rw (b, d, b, m, f, ended-append (placeOf z (width t - 1) .end) (g .acc) (record { parameter = q; parent = above; start = placeOf y 0 .start; end = 0 } ∷ []))
-                  (sym (append-assoc (ended (placeOf z (width t - 1) .end) (g .acc)) (record { parameter = q; parent = above; start = placeOf y 0 .start; end = placeOf z (width t - 1) .end } ∷ []) (rowsOf z t 0 (next + 1) c next)));
+              rows = a .rows ∙ rw (b, d, b, m, f, ended-append (lexemeAt z (width t - 1) .end) (g .acc) (record { parameter = q; parent = above; start = lexemeAt y 0 .start; end = 0 } ∷ []))
+                  (sym (append-assoc (ended (lexemeAt z (width t - 1) .end) (g .acc)) (record { parameter = q; parent = above; start = lexemeAt y 0 .start; end = lexemeAt z (width t - 1) .end } ∷ []) (rowsOf z t 0 (next + 1) c next)));
             };
-        written = s ∙ (rw (g .written) (rows-append before row next (g .acc) (record { parameter = q; parent = above; start = placeOf y 0 .start; end = 0 } ∷ []) (g .sized)));
+        written = s ∙ (rw (g .written) (rows-append before row next (g .acc) (record { parameter = q; parent = above; start = lexemeAt y 0 .start; end = 0 } ∷ []) (g .sized)));
         sized = omega (arith, g .sized, length-append (g .acc) (r0 ∷ []));
       }
 
   -- what the chain holds is read, and its rows get their end
-  pub chain-read : {z : List Lex} {last final : List ℕ} {m e : ℕ} (r : Read o′ y z after last next q above m) → 1 ≤ width (r .tree) → placeOf y (width (r .tree) - 1) .end ≡ e
+  pub chain-read : {z : List Lex} {last final : List ℕ} {m e : ℕ} (r : Read o′ y z after last next q above m) → 1 ≤ width (r .tree) → lexemeAt y (width (r .tree) - 1) .end ≡ e
       → final ≡ withEnds last row (next - row) e
-      → (s : Read o x z before final row p up m) × (1 ≤ width (s .tree)) × (placeOf x (width (s .tree) - 1) .end ≡ e)
+      → (s : Read o x z before final row p up m) × (1 ≤ width (s .tree)) × (lexemeAt x (width (s .tree) - 1) .end ≡ e)
   chain-read {z} {last} {final} {m} {e} r v f w =
       let a = g .gets (r .tree) (tokensOf z) (r .is) v in
       let c : length (rowsOf x (a .tree) 0 row p up) ≡ rowCount (a .tree) = rows-counted x (a .tree) 0 row p up in
@@ -187,7 +187,7 @@ module _ {o o′ : Result (Tree value)} {x y : List Lex} {before after : List �
       let l : next - row ≡ length (g .acc) = omega (arith, g .sized) in
       let h : last ≡ sets before (rowWidth * row) (cells (g .acc ++ rowsOf y (r .tree) 0 next q above)) = r .written ∙ (rw (g .written) (rows-append before row next (g .acc) (rowsOf y (r .tree) 0 next q above) (g .sized))) in
       let k : rowsOf x (a .tree) 0 row p up ≡ ended e (g .acc) ++ rowsOf y (r .tree) 0 next q above = rw (← f) (a .rows) in
-      let pl : placeOf y (width (r .tree) - 1) ≡ placeOf x (width (a .tree) - 1) = rw (g .left) (place-at (g .tokens) x (width (r .tree) - 1) (width (a .tree) - 1) (omega (arith, a .wide, v))) in (
+      let pl : lexemeAt y (width (r .tree) - 1) ≡ lexemeAt x (width (a .tree) - 1) = rw (g .left) (place-at (g .tokens) x (width (r .tree) - 1) (width (a .tree) - 1) (omega (arith, a .wide, v))) in (
         record {
           tree = a .tree;
           is = a .is;

@@ -20,7 +20,7 @@ use Rattle.message_rules.specs.Scan.{lexeme, tokensOf}
 use Rattle.message_rules.specs.Scan.{Lexeme as Lex}
 use Rattle.schema.specs.Parse.{Result, refused, got, then, need, whether, onEquals, judged, simpleAt, noneAt, shut, structAt, alternative, bareFor, choose, unionAt, mayGrow, listEnds, afterValue, requiredOf, endNumber, bodyEnds, unknownsAt, wholeList, unknownAfter, itemAt, itemsAt, listThen, listsAt}
 use Rattle.schema.specs.Reading.{width}
-use Rattle.message_rules.specs.Rows.{rowCount, placeOf, rowOver, rowsOf, cells}
+use Rattle.message_rules.specs.Rows.{rowCount, lexemeAt, rowOver, rowsOf, cells}
 use Rattle.message_rules.specs.Verdict.{startOr}
 use Rattle.schema.proofs.Sound.{unknowns-sound}
 use Rattle.schema.proofs.Complete.{leaves-width}
@@ -176,7 +176,7 @@ module _ (S : Schema) (s : List ℕ) (f : Frame) (u : ℕ) (t : Token) (a e numb
   is-judged = ap (simpleAt S u) (step-tokens (f .base) s (f .at) t a e w) ∙ (j (tokensAt (f .base) s e) ∙ rw (← m) refl)
 
   leaf-done : (at next : ℕ) → Leaf f number a e before after at next → EndedValue (simpleAt S u (tokensAt (f .base) s (f .at))) s f before after at next
-  unfolding need width rowCount rowsOf rowOver placeOf
+  unfolding need width rowCount rowsOf rowOver lexemeAt
   leaf-done at next l =
       let x = step-lex (f .base) s (f .at) t a e w in
       let z : eqb number 0 ≡ true = eq-eqb number 0 (l .fits) in

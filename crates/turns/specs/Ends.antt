@@ -10,7 +10,7 @@ use Rattle.message_rules.specs.Scan.{tokensOf}
 use Rattle.message_rules.specs.Scan.{Lexeme as Lex}
 use Rattle.schema.specs.Parse.{Result, refused, got}
 use Rattle.schema.specs.Reading.{width}
-use Rattle.message_rules.specs.Rows.{rowCount, placeOf, rowsOf, cells}
+use Rattle.message_rules.specs.Rows.{rowCount, lexemeAt, rowsOf, cells}
 use Rattle.tokens.specs.Cursor.{lexemesAt}
 use Rattle.unknown.specs.Along.{Stopped}
 use Rattle.turns.specs.declared.Frame.{Frame}
@@ -51,7 +51,7 @@ Ends o s f before after least (Refused n q) = Stopped o (lexemesAt (f .base) s (
 pub record EndedValue (o : Result (Tree value)) (s : List ℕ) (f : Frame) (before after : List ℕ) (at next : ℕ) : Type 0 where
   pub ended : Ended o s f before after 1 at next
   pub wide : 1 ≤ width (ended .read .tree)
-  pub last : placeOf (lexemesAt (f .base) s (f .at)) (width (ended .read .tree) - 1) .end ≡ f .base + at
+  pub last : lexemeAt (lexemesAt (f .base) s (f .at)) (width (ended .read .tree) - 1) .end ≡ f .base + at
 
 abbrev pub EndsValue : Result (Tree value) → List ℕ → Frame → List ℕ → List ℕ → Got → Type 0
 EndsValue o s f before after (Done u next) = EndedValue o s f before after (u .at) next

@@ -9,7 +9,7 @@ use Rattle.schema.specs.Token.{Token}
 use Rattle.schema.specs.Reading.{Sort, value, Tree}
 use Rattle.message_rules.specs.Scan.{Lexeme as Lex}
 use Rattle.schema.specs.Parse.{Result, refused, got}
-use Rattle.message_rules.specs.Rows.{Row, placeOf, rowsOf, cells}
+use Rattle.message_rules.specs.Rows.{Row, lexemeAt, rowsOf, cells}
 use Rattle.schema.specs.Reading.{width}
 use Rattle.rows.specs.Filled.{ended}
 
@@ -35,7 +35,7 @@ pub record Enclosed (o : Result (Tree value)) (n : ℕ) (acc : List Row) (x y : 
   pub tree : Tree value
   pub is : o ≡ got tree z
   pub wide : width tree ≡ n + width t
-  pub rows : rowsOf x tree 0 row p up ≡ ended (placeOf y (width t - 1) .end) acc ++ rowsOf y t 0 next q above
+  pub rows : rowsOf x tree 0 row p up ≡ ended (lexemeAt y (width t - 1) .end) acc ++ rowsOf y t 0 next q above
 
 pub record Chain (o o′ : Result (Tree value)) (x y : List Lex) (before after : List ℕ) (row p up next q above : ℕ) : Type 0 where
   pub tokens : ℕ
