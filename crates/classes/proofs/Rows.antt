@@ -1,5 +1,5 @@
 -- Rows of bytes from a place on: one byte more, the byte that decides, and the end.
-use Prim.Native.Nat.{ℕ, suc, _+_, _-_, _≤_, _<_}
+use Prim.Native.Nat.{ℕ, zero, suc, _+_, _-_, _≤_, _<_}
 use mathlib.Core.Bool.{Bool, true, false, and-false}
 use mathlib.Core.List.{List, [], _∷_}
 use mathlib.Core.Path.{_≡_, refl, ap}
@@ -65,6 +65,15 @@ same-length [] [] h = absurd (h refl)
 same-length [] (b ∷ l) h = refl
 same-length (a ∷ k) [] h = refl
 same-length (a ∷ k) (b ∷ l) h = rw (same-length k l (λ e. h (ap suc e))) (and-false (eqb a b))
+
+-- a byte that differs
+pub same-not : (a b : List ℕ) (i : ℕ) → (getD a i 0 ≡ getD b i 0 → ⊥) → sameBytes a b ≡ false
+unfolding sameBytes
+same-not [] [] i h = absurd (h refl)
+same-not [] (b ∷ l) i h = refl
+same-not (a ∷ k) [] i h = refl
+same-not (a ∷ k) (b ∷ l) zero h = rw (ne-eqb a b h)
+same-not (a ∷ k) (b ∷ l) (suc i) h = rw (same-not k l i h) (and-false (eqb a b))
 
 -- the part of a slice from a place to its end
 pub rest-all : (s : List ℕ) (i : ℕ) → take (length s - i) (drop i s) ≡ drop i s

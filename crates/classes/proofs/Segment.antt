@@ -7,6 +7,8 @@ use mathlib.Core.Logic.{⊎-elim}
 use native.Mathlib.Omega.{arith}
 use native.Mathlib.Nat.{eq-or-lt-of-le}
 use lib.Dec.{T, eqb, eqb→eq}
+use borrow.Author.Tests.{ne-eqb}
+use Rattle.classes.specs.Bytes.{isBlank, isWordByte, isPlain}
 
 -- b is none of the keys, the last one first
 abbrev pub Other : List ℕ → ℕ → Type 0
@@ -62,3 +64,13 @@ segment f ks {v} {b} low high o l u t = from f ks v b o (high - low) low t l (om
 -- the arm with no lower bound
 pub below : (f : ℕ → Bool) (ks : List ℕ) {v : Bool} {b : ℕ} (high : ℕ) → Other ks b → b < high → T (all f ks v 0 high) → v ≡ f b
 below f ks {v} {b} high o u t = from f ks v b o high 0 t (omega arith) (omega arith)
+
+-- a byte that is no `=` and no `,`
+pub plain-else : (b : ℕ) (x y : Bool) → x ≡ isBlank b → y ≡ isWordByte b → (b ≡ 61 → ⊥) → (b ≡ 44 → ⊥) → x || y ≡ isPlain b
+unfolding isPlain
+plain-else b x y e f h k = rw (e, f, ne-eqb b 61 h, ne-eqb b 44 k) (same (isBlank b) (isWordByte b))
+  where
+    same : (p q : Bool) → p || q ≡ p || (q || false)
+    same true q = refl
+    same false true = refl
+    same false false = refl

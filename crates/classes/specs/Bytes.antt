@@ -54,6 +54,10 @@ isTagByte b = isNameByte b || eqb b 46
 unfoldable pub isWordByte : ℕ → Bool
 isWordByte b = between 0x21 0x7E b && not (eqb b 61 || (eqb b 44 || (eqb b 34 || (eqb b 39 || (eqb b 123 || (eqb b 125 || (eqb b 40 || (eqb b 41 || eqb b 63))))))))
 
+-- a byte that number 22 passes over: a blank, a word's byte, `=` or `,`
+unfoldable pub isPlain : ℕ → Bool
+isPlain b = isBlank b || (isWordByte b || (eqb b 61 || eqb b 44))
+
 -- "a string (`"`, bytes 0x20 to 0x7E but `"`, `"`)"
 unfoldable pub isStringByte : ℕ → Bool
 isStringByte b = between 0x20 0x7E b && not (eqb b 34)

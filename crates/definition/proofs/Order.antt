@@ -24,7 +24,7 @@ use Rattle.declared.specs.Cells.{cellAt, notedFrom}
 use Rattle.declared.specs.Places.{atIf, lesser, leastPlace, leastFrom}
 use Rattle.declared.proofs.PlaceLaws.{least-append, from-same}
 use Rattle.records.specs.Stored.{recordIn, recordsAt}
-use Rattle.record_checks.specs.Sweeps.{Found}
+use Rattle.record_checks.specs.Rounds.{Found}
 use Rattle.record_faults.specs.RecordFaults.{faultAt}
 use Rattle.record_faults.proofs.FaultLaws.{spots-from}
 use Rattle.writer.specs.Written.{Wrote, recordsIn as writtenRecords}

@@ -79,7 +79,8 @@ fn record_fault(text: &[u8], cells: &[u32], table: &[u8], offs: &[u32], n: usize
         }
         Place::Nowhere => {}
     }
-    record_checks::finites(table, offs, n, &mut have);
+    let mut next = blank_marks();
+    record_checks::finites(table, offs, n, &mut have, &mut next);
     match record_faults::least_fault(cells, table, offs, &have, n, 10) {
         Place::At(p) => Stop::Fault(10, p),
         Place::Nowhere => Stop::Clear,

@@ -5,3 +5,4 @@ mod Judging
 -- laws that other crates cite
 pub mod Laws
 pub mod Marked
+pub mod IntLists

@@ -12,6 +12,7 @@ ghost use Rattle.schema.specs.Parse.{mayGrow};
 ghost use Rattle.records.specs.Stored.{recordIn, recordsAt};
 ghost use Rattle.lookup.specs.Questions.{schemaAt, nth, foundOf, shapeOf, untaggedFrom, textToken, lengthLies, intLies};
 ghost use Rattle.lookup.specs.Seen.{noMarks, isRequiredOf, isMissing, completeFrom};
+ghost use Rattle.lookup.specs.IntList.{IntsOf};
 
 // What a search finds.
 pub enum Found {
@@ -108,6 +109,36 @@ pub fn optional(table: &[u8], offs: &[u32], n: usize, p: usize) -> bool
     records::extension_at(table, offs, p) | records::plugin_at(table, offs, p)
 }
 
+// What a list of ints takes: the range, counted from the least i32, and how many. Without on it is another list.
+pub struct Ints {
+    pub on: bool,
+    pub least: u32,
+    pub most: u32,
+    pub hi: usize,
+}
+
+// What the list of p takes.
+pub fn ints_of(table: &[u8], offs: &[u32], n: usize, p: usize) -> Ints
+    ensures { λ r. ⌜ IntsOf (schemaAt (now (table .entry)) (now (offs .entry)) n) p r ⌝ }
+{
+    let u = core(table, offs, n, p);
+    let most_values = hi(table, offs, n, p);
+    if n <= u {
+        return Ints {
+            on: false,
+            least: 0,
+            most: 0,
+            hi: most_values,
+        };
+    }
+    Ints {
+        on: records::kind_at(table, offs, u) == 3,
+        least: records::least_at(table, offs, u),
+        most: records::most_at(table, offs, u),
+        hi: most_values,
+    }
+}
+
 // ---- the fields of p
 
 fn is_untagged_of(table: &[u8], offs: &[u32], p: usize, i: usize) -> bool
@@ -131,8 +162,8 @@ fn is_tagged_of(table: &[u8], offs: &[u32], p: usize, i: usize) -> bool
 fn is_tagged_as(table: &[u8], offs: &[u32], p: usize, word: &[u8], i: usize) -> bool
     ensures { λ r. ⌜ r ≡ isTaggedAs p (now (word .entry)) (recordIn (now (table .entry)) (now (offs .entry)) i) ⌝ }
 {
-    if is_tagged_of(table, offs, p, i) {
-        return classes::same_bytes(records::label_at(table, offs, i), word);
+    if classes::same_bytes(records::label_at(table, offs, i), word) {
+        return is_tagged_of(table, offs, p, i);
     }
     false
 }

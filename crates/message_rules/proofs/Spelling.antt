@@ -36,7 +36,7 @@ blank-not : (b : ℕ) → 33 ≤ b → isBlank b ≡ false
 unfolding isBlank
 blank-not b m = rw (ne-eqb b 32 (λ e. omega arith), ne-eqb b 9 (λ e. omega arith), ne-eqb b 13 (λ e. omega arith)) (ne-eqb b 10 (λ e. omega arith))
 
-word-not-blank : (b : ℕ) → isWordByte b ≡ true → isBlank b ≡ false
+pub word-not-blank : (b : ℕ) → isWordByte b ≡ true → isBlank b ≡ false
 unfolding isWordByte
 word-not-blank b e = and-both (between 33 126 b) _ e (λ a c. and-both (leb 33 b) (leb b 126) a (λ x y. blank-not b (leb-true 33 b x)))
 

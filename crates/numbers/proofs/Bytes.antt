@@ -21,6 +21,10 @@ module _ (s : List ℕ) (at : ℕ) (h : length s ≤ at) where
   pub set16-past : (v : ℕ) → set16 s at v ≡ s
   set16-past v = rw (set-out s at (v % 256) h) (set-out s (at + 1) (v / 256) (omega arith))
 
+-- the last byte stands alone
+pub le16-last : (s : List ℕ) (at : ℕ) → length s ≤ at + 1 → getD s at 0 ≡ le16 s at
+le16-last s at h = omega (arith, List·getD-eq-default s 0 {n = at + 1} h)
+
 pub le32-past : (s : List ℕ) (at : ℕ) → length s ≤ at → le32 s at ≡ 0
 le32-past s at h = omega (arith, le16-past s at h, le16-past s (at + 2) (omega arith))
 

@@ -123,11 +123,22 @@ module _ (w : List ℕ) (h : getD w 0 0 ≡ 45 → ⊥) where
   unfolding biasedInt
   biased-plain k = no-minus biasedInt (λ v. bias + numberOf v) (λ b l e. rw (biasedInt, e)) w (λ z. absurd (k z)) h
 
-  pub within-plain : (least most n : ℕ) → (length w ≡ 0 → ⊥) → n ≡ min cap (numberOf w) → least ≤ intMost → most ≤ intMost → intWithin least most w ≡ between least most (bias + n)
+  pub within-number : (least most : ℕ) → (length w ≡ 0 → ⊥) → intWithin least most w ≡ between least most (bias + numberOf w)
   unfolding intWithin
-  within-plain least most n k e l m =
-      no-minus (intWithin least most) (λ v. between least most (bias + numberOf v)) (λ b l e. rw (intWithin, e)) w (λ z. absurd (k z)) h ∙
-      rw e (sym (capped-within least most (numberOf w) l m))
+  within-number least most k = no-minus (intWithin least most) (λ v. between least most (bias + numberOf v)) (λ b l e. rw (intWithin, e)) w (λ z. absurd (k z)) h
+
+  pub within-plain : (least most n : ℕ) → (length w ≡ 0 → ⊥) → n ≡ min cap (numberOf w) → least ≤ intMost → most ≤ intMost → intWithin least most w ≡ between least most (bias + n)
+  within-plain least most n k e l m = within-number least most k ∙ rw e (sym (capped-within least most (numberOf w) l m))
+
+clash : {X : Type 0} → false ≡ true → X
+clash e = let x : _≡_ {A = ℕ} 0 1 = cc in absurd (omega arith)
+
+-- digits without leading zero begin with no `-`
+pub natural-first : (w : List ℕ) → isNatural w ≡ true → (getD w 0 0 ≡ 45 → ⊥) × (length w ≡ 0 → ⊥)
+unfolding isNatural isDigit
+natural-first [] e = clash e
+natural-first (b ∷ []) e = (λ z. clash (rw z at e), λ z. omega arith)
+natural-first (b ∷ c ∷ l) e = (λ z. clash (rw z at e), λ z. omega arith)
 
 -- an int within the limits has its number there
 biased-most : (minus p : Bool) (a n : ℕ) → a ≤ intMost → elim minus [ true ↦ p | false ↦ between 0 intMost n ] ≡ true → elim minus [ true ↦ a | false ↦ n ] ≤ intMost

@@ -42,6 +42,9 @@ use Rattle.turns.specs.declared.Frame.{Frame}
 use Rattle.turns.specs.declared.Got.{Got}
 use Rattle.turns.specs.declared.Got.the-variants.{Done, Refused}
 use Rattle.turns.specs.Ends.{Room, Read, Moved, Ended, Ends, EndedValue, EndsValue}
+use Rattle.lookup.specs.IntList.{IntsOf}
+use Rattle.lookup.specs.declared.Ints.{Ints}
+use Rattle.turns.specs.Quickly.{QuickOn}
 use Rattle.turns.specs.Going.{Going, Chain}
 use Rattle.turns.specs.Turns.{Values, endOf, Shut, ShutAt, Deeper, Whole, Grows, VoidItem, ListItem, Passes}
 use Rattle.turns.proofs.GoingLaws.{stopped-before, stopped-then, stopped-same, then-refused, then-got, read-same, going-same, going-start, going-stopped, going-on, going-read, going-step, chain-start, chain-stopped, chain-on, chain-read}
@@ -448,6 +451,14 @@ module _ (S : Schema) (s : List ℕ) (f : Frame) (before after : List ℕ) (g : 
   unfolding byKind
   plain-struct u c e h fuel n = value-same s f before after g (value-is S (bodyAt S (f .depth) true) fuel (f .parameter) (here s f) schema.struct (rw c at e)) (rw c at h)
 
+-- a value of a list of ints that is plain digits with a comma behind
+pub quick-element : (S : Schema) (s : List ℕ) (f : Frame) (c : ℕ) (before after : List ℕ) (u : Cursor) (m : ℕ) → QuickOn S s f c before after (u .at) m → ElementAt S s f c before after (On u m)
+unfolding byKind
+quick-element S s f c before after u m q =
+    element-more S s f c before after (record { at = q .end }) m
+    (value-same s f before after (Done (record { at = q .end }) m) (value-is S (bodyAt S (f .depth) true) (length (here s f)) (f .parameter) (here s f) schema.simple (q .simple)) (q .value))
+    (u .at) (q .more)
+
 -- ---- choices
 pub is-union : (k : schema.Kind) → isUnion k ≡ true → k ≡ schema.union
 unfolding isUnion
@@ -601,6 +612,9 @@ module _ {S : Schema} {s : List ℕ} {f g : Frame} {before after : List ℕ} {c 
 
   pub listing-depth : g .depth ≡ f .depth
   listing-depth = ap (λ (z : Frame). z .depth) (i .same)
+
+  pub listing-ints : (e : Ints) → IntsOf S (f .parameter) e → IntsOf S (g .parameter) e
+  listing-ints e h = subst (λ q. IntsOf S q e) (sym listing-named) h
 
   pub listing-turn : (mid : List ℕ) (t : Turn) (u : Cursor) (m : ℕ) → ElementAt S s g c after mid t → t ≡ On u m → (g .at < u .at) × (u .at ≤ length s)
   listing-turn mid t u m h e = let w : (fuel : ℕ) → Fewer s g (u .at) × Turned (listAt S (valuesOf S (g .depth)) (suc fuel) (g .parameter) c (here s g)) (listAt S (valuesOf S (g .depth)) fuel (g .parameter) (suc c) (tokensAt (g .base) s (u .at))) s g (g .parameter) after mid (u .at) m = subst (ElementAt S s g c after mid) e h in (omega (arith, w 0 .1 .moved .far), w 0 .1 .moved .within)

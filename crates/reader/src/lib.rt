@@ -8,10 +8,12 @@ ghost use lib.ListN.{length};
 ghost use Rattle.numbers.specs.Limits.{messageLimit};
 ghost use Rattle.schema.specs.Parse.{structAt, wholeValue, wholeList, itemsAt, listsAt, bodyAt};
 ghost use Rattle.lookup.specs.Questions.{schemaAt};
+ghost use Rattle.lookup.specs.IntList.{IntsOf};
 ghost use Rattle.lookup.specs.Seen.{Marks};
 ghost use Rattle.turns.specs.Ends.{Room, Ends, EndsValue};
 ghost use Rattle.reader.specs.Turning.{valuesOf, here, ElementAt, FieldAt, ItemTurn, Marked, PlainAt, closedRows, endPlace, WholeAt, isUnion, movedOf, fieldOf, underOf, innerOf, deeperOf, openRow};
 use lookup::Found;
+use lookup::Ints;
 use lookup::Shape;
 use rows::Row;
 use tokens::Cursor;
@@ -21,6 +23,7 @@ use turns::Frame;
 use turns::Got;
 use turns::Item;
 use turns::Opened;
+use turns::Quick;
 use turns::Start;
 
 // One turn of a loop: on from a cursor with the next row, or out.
@@ -290,17 +293,40 @@ fn element(
     }
 }
 
+// The same, quickly where the value is plain digits of a list of ints.
+fn next_element(
+    table: &[u8],
+    offs: &[u32],
+    n: usize,
+    s: &[u8],
+    rows: &mut [u32],
+    f: Frame,
+    c: usize,
+    e: Ints,
+) -> Turn
+    requires { ⌜ Room f (length (now s)) n ⌝ }
+    requires { ⌜ (f .parameter < n) × (c < 4294967296) ⌝ }
+    requires { ⌜ IntsOf (schemaAt (now table) (now offs) n) (f .parameter) e ⌝ }
+    ensures { λ r. ⌜ ElementAt (schemaAt (now (table .entry)) (now (offs .entry)) n) (now (s .entry)) f c (now (rows .entry)) (now (rows .exit)) r ⌝ }
+{
+    match turns::quick_int(table, offs, n, s, rows, f, c, e) {
+        Quick::On(v, m) => Turn::On(v, m),
+        Quick::Slow => element(table, offs, n, s, rows, f, c),
+    }
+}
+
 fn list(table: &[u8], offs: &[u32], n: usize, s: &[u8], rows: &mut [u32], f: Frame) -> Got
     requires { ⌜ Room f (length (now s)) n ⌝ }
     requires { ⌜ f .parameter < n ⌝ }
     ensures { λ r. ⌜ Ends (wholeList (schemaAt (now (table .entry)) (now (offs .entry)) n) (valuesOf (schemaAt (now (table .entry)) (now (offs .entry)) n) (f .depth)) (f .parameter) (here (now (s .entry)) f)) (now (s .entry)) f (now (rows .entry)) (now (rows .exit)) 1 r ⌝ }
 {
+    let e = lookup::ints_of(table, offs, n, f.parameter);
     let mut g = f;
     let mut c: usize = 0;
     loop {
-        match element(table, offs, n, s, rows, g, c) {
-            Turn::On(v, m) => {
-                g = moved(g, v.at, m);
+        match next_element(table, offs, n, s, rows, g, c, e) {
+            Turn::On(v, next) => {
+                g = moved(g, v.at, next);
                 c += 1;
             }
             Turn::Out(o) => {

@@ -64,3 +64,17 @@ module _ (rs : List Record) (i : ℕ) (r : Record) (k : ℕ) (u : r .untagged �
   pub untagged-field : (k ≡ 9 → ⊥) → misplacedUntagged rs i r ≡ misplacedField rs i r
   unfolding pick
   untagged-field z = untagged-by false (ne-eqb k 9 z)
+
+-- three parts, the last one known first
+pub three-last : {x y a b s t : Bool} → x ≡ a → y ≡ b → t ≡ s → t ≡ true → x && y ≡ a && (b && s)
+three-last {x} {y} {a} {b} {s} {t} e f g h = rw (e, f) (go a b s (sym g ∙ h))
+  where
+    go : (a b s : Bool) → s ≡ true → a && b ≡ a && (b && s)
+    go true true s z = sym z
+    go true false s z = refl
+    go false b s z = refl
+
+pub three-stop : {s t : Bool} (a b : Bool) → t ≡ s → t ≡ false → false ≡ a && (b && s)
+three-stop true true g h = sym h ∙ g
+three-stop true false g h = refl
+three-stop false b g h = refl

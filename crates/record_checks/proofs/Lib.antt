@@ -2,6 +2,5 @@
 pub mod Parents
 -- loops over records
 mod Any
--- number 10: one step, and the sweeps
-mod Steps
-mod Sweeping
+-- number 10: its rounds
+mod Gathering

@@ -1,16 +1,16 @@
 // The checks of a definition that read only records, over a table's bytes. In all of them offs holds
 // the records' offsets, n is how many there are, and i is the number of the record that is judged.
 ghost use mathlib.Core.Path.{_≡_};
-ghost use mathlib.Core.Bool.{false, true, _&&_};
-ghost use Prim.Native.Nat.{_≤_, _<_};
+ghost use mathlib.Core.Bool.{false};
+ghost use mathlib.Core.List.{[]};
+ghost use Prim.Native.Nat.{_≤_};
 ghost use lib.ListN.{length, getD, set};
 ghost use Rattle.schema.specs.Record.{isTop};
-ghost use Rattle.schema.specs.Schema.{isUnder};
-ghost use Rattle.definition_rules.specs.Finite.{canDoWithout, endsNeeds, structStep, unionStep, finiteStep, isEndless};
+ghost use Rattle.definition_rules.specs.Finite.{canDoWithout, endsNeeds, isEndless};
 ghost use Rattle.definition_rules.specs.Faults.{voidMany, anyBefore, parentKind, beside as isBeside, misplacedField, misplacedAlternative, misplacedUntagged, numberTag, voidTop, pluginUndotted, rule7Broken, hasWireTag, tagRepeated, rootNoStruct};
 ghost use Rattle.records.specs.Stored.{recordIn, recordsAt};
 ghost use Rattle.record_checks.specs.Besides.{isSuch};
-ghost use Rattle.record_checks.specs.Sweeps.{needOf, isAdded, added, swept, sweepAdds, Empty, Found};
+ghost use Rattle.record_checks.specs.Rounds.{stepOver, stepWith, gathered, Over, Kept, Empty, Found};
 
 // What is asked of the other records of a body, or of the other tops.
 enum Such {
@@ -18,13 +18,6 @@ enum Such {
     Tagged,
     Untagged,
     SameTag,
-}
-
-// What a record means for a struct's value: nothing, that no later field is needed, or that there is none yet.
-enum Need {
-    Pass,
-    Done,
-    Lacking,
 }
 
 // ---- parents
@@ -68,16 +61,13 @@ fn has_wire_tag(table: &[u8], offs: &[u32], i: usize) -> bool
 fn same_tag(table: &[u8], offs: &[u32], i: usize, j: usize) -> bool
     ensures { λ r. ⌜ r ≡ isSuch Such.SameTag (recordIn (now (table .entry)) (now (offs .entry)) i) (recordIn (now (table .entry)) (now (offs .entry)) j) ⌝ }
 {
-    if !has_wire_tag(table, offs, j) {
-        return false;
-    }
-    if !beside(table, offs, i, j) {
-        return false;
-    }
-    classes::same_bytes(
+    if classes::same_bytes(
         records::label_at(table, offs, j),
         records::label_at(table, offs, i),
-    )
+    ) {
+        return has_wire_tag(table, offs, j) & beside(table, offs, i, j);
+    }
+    false
 }
 
 fn is_such(table: &[u8], offs: &[u32], i: usize, j: usize, such: Such) -> bool
@@ -238,11 +228,11 @@ fn has(have: &[bool], i: usize) -> bool
     false
 }
 
-fn add(have: &mut [bool], i: usize)
-    ensures { λ _. ⌜ now (have .exit) ≡ set (now (have .entry)) i true ⌝ }
+fn put(marks: &mut [bool], i: usize, mark: bool)
+    ensures { λ _. ⌜ now (marks .exit) ≡ set (now (marks .entry)) i mark ⌝ }
 {
-    if i < have.len() {
-        have[i] = true;
+    if i < marks.len() {
+        marks[i] = mark;
     }
 }
 
@@ -260,74 +250,13 @@ fn ends_needs(table: &[u8], offs: &[u32], i: usize) -> bool
     records::untagged_at(table, offs, i) & (records::lo_count_at(table, offs, i) == 0)
 }
 
-fn need_of(table: &[u8], offs: &[u32], have: &[bool], p: usize, i: usize) -> Need
-    ensures { λ r. ⌜ r ≡ needOf (now (have .entry)) p i (recordIn (now (table .entry)) (now (offs .entry)) i) ⌝ }
-{
-    if !records::is_under(table, offs, i, p) {
-        return Need::Pass;
-    }
-    if ends_needs(table, offs, i) {
-        return Need::Done;
-    }
-    if can_do_without(table, offs, i) {
-        return Need::Pass;
-    }
-    if has(have, i) {
-        return Need::Pass;
-    }
-    Need::Lacking
-}
-
-// Each field that the struct p can't do without has a value.
-fn struct_step(table: &[u8], offs: &[u32], n: usize, have: &[bool], p: usize) -> bool
-    ensures { λ r. ⌜ r ≡ structStep (now (have .entry)) p 0 (recordsAt (now (table .entry)) (now (offs .entry)) n) ⌝ }
-{
-    let mut i: usize = 0;
-    while i < n {
-        match need_of(table, offs, have, p, i) {
-            Need::Pass => {
-                i += 1;
-            }
-            Need::Done => {
-                return true;
-            }
-            Need::Lacking => {
-                return false;
-            }
-        }
-    }
-    true
-}
-
-fn gives_value(table: &[u8], offs: &[u32], have: &[bool], p: usize, i: usize) -> bool
-    ensures { λ r. ⌜ r ≡ (isUnder p (recordIn (now (table .entry)) (now (offs .entry)) i .parent) && getD (now (have .entry)) i false) ⌝ }
-{
-    records::is_under(table, offs, i, p) & has(have, i)
-}
-
-// Some alternative of the union p has a value.
-fn union_step(table: &[u8], offs: &[u32], n: usize, have: &[bool], p: usize) -> bool
-    ensures { λ r. ⌜ r ≡ unionStep (now (have .entry)) p 0 (recordsAt (now (table .entry)) (now (offs .entry)) n) ⌝ }
-{
-    let mut i: usize = 0;
-    while i < n {
-        if gives_value(table, offs, have, p, i) {
-            return true;
-        }
-        i += 1;
-    }
-    false
-}
-
-fn finite_step(table: &[u8], offs: &[u32], n: usize, have: &[bool], i: usize) -> bool
-    ensures { λ r. ⌜ r ≡ finiteStep (recordsAt (now (table .entry)) (now (offs .entry)) n) (now (have .entry)) i (recordIn (now (table .entry)) (now (offs .entry)) i) ⌝ }
+// What a step gives the record i before any other is looked at: a struct asks for nothing yet, a union has no choice.
+fn alone(table: &[u8], offs: &[u32], have: &[bool], i: usize) -> bool
+    ensures { λ r. ⌜ r ≡ stepOver (now (have .entry)) i (recordIn (now (table .entry)) (now (offs .entry)) i) i [] ⌝ }
 {
     let k = records::kind_at(table, offs, i);
-    if k == 8 {
-        return struct_step(table, offs, n, have, i);
-    }
     if k == 9 {
-        return union_step(table, offs, n, have, i);
+        return false;
     }
     if k == 10 {
         let t = records::target_at(table, offs, i);
@@ -336,32 +265,71 @@ fn finite_step(table: &[u8], offs: &[u32], n: usize, have: &[bool], i: usize) ->
     true
 }
 
-// Adds i where a step gives it a value, and says whether it was added.
-fn add_if(table: &[u8], offs: &[u32], n: usize, have: &mut [bool], i: usize) -> bool
-    requires { ⌜ i < n ⌝ }
-    ensures { λ r. ⌜ r ≡ isAdded (recordsAt (now (table .entry)) (now (offs .entry)) n) (now (have .entry)) i ⌝ }
-    ensures { λ _. ⌜ now (have .exit) ≡ added (recordsAt (now (table .entry)) (now (offs .entry)) n) (now (have .entry)) i ⌝ }
+// The marks before any record is joined to the one it stands in.
+fn begin(table: &[u8], offs: &[u32], n: usize, have: &[bool], next: &mut [bool])
+    requires { ⌜ n ≤ length (now next) ⌝ }
+    ensures { λ _. ⌜ Over (now (table .entry)) (now (offs .entry)) n (now (have .entry)) n (now (next .exit)) ⌝ }
 {
-    if has(have, i) {
-        return false;
+    let mut i: usize = 0;
+    while i < n {
+        let mark = alone(table, offs, have, i);
+        next[i] = mark;
+        i += 1;
     }
-    if finite_step(table, offs, n, have, i) {
-        add(have, i);
-        return true;
-    }
-    false
 }
 
-// One sweep, from the last record to the first, and whether it added any.
-fn sweep(table: &[u8], offs: &[u32], n: usize, have: &mut [bool]) -> bool
-    ensures { λ r. ⌜ r ≡ sweepAdds (recordsAt (now (table .entry)) (now (offs .entry)) n) n (now (have .entry)) ⌝ }
-    ensures { λ _. ⌜ now (have .exit) ≡ swept (recordsAt (now (table .entry)) (now (offs .entry)) n) n (now (have .entry)) ⌝ }
+// What a step gives the record p by i, which stands in its body, and by those after i, which give it rest.
+fn joined(table: &[u8], offs: &[u32], have: &[bool], p: usize, i: usize, rest: bool) -> bool
+    ensures { λ r. ⌜ r ≡ stepWith (now (have .entry)) (recordIn (now (table .entry)) (now (offs .entry)) p .kind) i (recordIn (now (table .entry)) (now (offs .entry)) i) rest ⌝ }
 {
-    let mut more = false;
+    let k = records::kind_at(table, offs, p);
+    if k == 8 {
+        return ends_needs(table, offs, i)
+            | ((can_do_without(table, offs, i) | has(have, i)) & rest);
+    }
+    if k == 9 {
+        return has(have, i) | rest;
+    }
+    rest
+}
+
+// Joins i to what next has for the record that i stands in.
+fn gather_one(table: &[u8], offs: &[u32], have: &[bool], next: &mut [bool], i: usize)
+    ensures { λ _. ⌜ now (next .exit) ≡ gathered (now (table .entry)) (now (offs .entry)) (now (have .entry)) i (recordIn (now (table .entry)) (now (offs .entry)) i .parent) (now (next .entry)) ⌝ }
+{
+    let p = records::parent_at(table, offs, i);
+    if p == 65_535 {
+        return;
+    }
+    let rest = has(next, p);
+    let mark = joined(table, offs, have, p, i, rest);
+    put(next, p, mark);
+}
+
+// What a step gives each record, gathered from the last record to the first.
+fn gather(table: &[u8], offs: &[u32], n: usize, have: &[bool], next: &mut [bool])
+    requires { ⌜ n ≤ length (now next) ⌝ }
+    ensures { λ _. ⌜ Over (now (table .entry)) (now (offs .entry)) n (now (have .entry)) 0 (now (next .exit)) ⌝ }
+{
+    begin(table, offs, n, have, next);
     let mut i = n;
     while 0 < i {
         i -= 1;
-        more = more | add_if(table, offs, n, have, i);
+        gather_one(table, offs, have, next, i);
+    }
+}
+
+// Copies the first n marks, and says whether any was another before.
+fn keep(n: usize, next: &[bool], have: &mut [bool]) -> bool
+    requires { ⌜ (n ≤ length (now next)) × (n ≤ length (now have)) ⌝ }
+    ensures { λ r. ⌜ Kept n (now (next .entry)) (now (have .entry)) (now (have .exit)) r ⌝ }
+{
+    let mut more = false;
+    let mut i: usize = 0;
+    while i < n {
+        more = more | (have[i] != next[i]);
+        have[i] = next[i];
+        i += 1;
     }
     more
 }
@@ -376,14 +344,21 @@ fn clear(have: &mut [bool])
     }
 }
 
-// Which records have a finite value, if there is room for all.
-pub fn finites(table: &[u8], offs: &[u32], n: usize, have: &mut [bool])
-    ensures { λ _. ⌜ (n ≤ length (now (have .entry)) → Found (recordsAt (now (table .entry)) (now (offs .entry)) n) (now (have .exit))) ⌝ }
+// Which records have a finite value, if there is room for all: at most n rounds of steps, until one changes nothing.
+pub fn finites(table: &[u8], offs: &[u32], n: usize, have: &mut [bool], next: &mut [bool])
+    ensures { λ _. ⌜ (n ≤ length (now (have .entry)) → n ≤ length (now (next .entry)) → Found (recordsAt (now (table .entry)) (now (offs .entry)) n) (now (have .exit))) ⌝ }
 {
+    if have.len() < n {
+        return;
+    }
+    if next.len() < n {
+        return;
+    }
     clear(have);
     let mut k: usize = 0;
     while k < n {
-        if sweep(table, offs, n, have) {
+        gather(table, offs, n, have, next);
+        if keep(n, next, have) {
             k += 1;
         } else {
             return;

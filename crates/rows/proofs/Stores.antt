@@ -5,7 +5,7 @@ use Prim.Native.Nat.{ℕ, zero, suc, _+_, _-_, _*_, _<_, _≤_}
 use native.Mathlib.Nat.{add-zero}
 use native.Mathlib.Omega.{arith}
 use lib.ListN.{length, set}
-use lib.Seq.{sets, set-comm, set-set}
+use lib.Seq.{sets, set-comm, set-set, set-out}
 use Rattle.numbers.specs.Limits.{rowWidth}
 use Rattle.message_rules.specs.Rows.{Row, cells}
 use Rattle.message_rules.proofs.RowLaws.{cells-counted}
@@ -17,6 +17,12 @@ row-cells e i a b c d =
     let q : i + 2 ≡ suc (suc i) = omega arith in
     let r : i + 3 ≡ suc (suc (suc i)) = omega arith in
     rw (p, q, r)
+
+-- a row past the end is not stored
+pub row-out : (e : List ℕ) (i a b c d : ℕ) → length e ≤ i → e ≡ sets e i (a ∷ b ∷ c ∷ d ∷ [])
+row-out e i a b c d h =
+    sym (rw (set-out e i a h, set-out e (i + 1) b (omega arith), set-out e (i + 2) c (omega arith), set-out e (i + 3) d (omega arith)) refl)
+    ∙ row-cells e i a b c d
 
 sets-append : (xs ys e : List ℕ) (i : ℕ) → sets (sets e i xs) (i + length xs) ys ≡ sets e i (xs ++ ys)
 sets-append [] ys e i = rw (add-zero i)

@@ -35,6 +35,16 @@ pub fn put_row(rows: &mut [u32], row: usize, r: Row)
     ensures { λ _. ⌜ now (rows .exit) ≡ sets (now (rows .entry)) (rowWidth * row) (cells (rowOf r ∷ [])) ⌝ }
 {
     let i = ROW_WIDTH * row;
+    if rows.len() <= i {
+        return;
+    }
+    if ROW_WIDTH <= rows.len() - i {
+        rows[i] = r.parameter as u32;
+        rows[i + 1] = r.parent as u32;
+        rows[i + 2] = r.start as u32;
+        rows[i + 3] = r.end as u32;
+        return;
+    }
     put(rows, i, r.parameter);
     put(rows, i + 1, r.parent);
     put(rows, i + 2, r.start);

@@ -18,7 +18,7 @@ use Rattle.table_rules.proofs.Theorems.{rules-iff}
 use Rattle.table_rules.specs.RecordRules.{noneBroken, recordChecks, recordRules, rulesOf, tableRules}
 use Rattle.records.specs.Stored.{recordIn, recordsFrom, recordsAt}
 use Rattle.records.proofs.Laws.{length-records, records-more, records-end, records-all}
-use Rattle.record_checks.specs.Sweeps.{Found}
+use Rattle.record_checks.specs.Rounds.{Found}
 use Rattle.definition_rules.specs.Faults.{voidMany, rule7Broken, tagRepeated, rootNoStruct}
 use Rattle.walk.specs.declared.Walk.{Walk}
 use Rattle.walk.specs.declared.Walk.the-variants.{Count, Bad}

@@ -70,7 +70,8 @@ fn checks_fine(table: &[u8], offs: &[u32], n: usize) -> bool
     if !none_broken(table, offs, n, &have, Check::Root) {
         return false;
     }
-    record_checks::finites(table, offs, n, &mut have);
+    let mut next = none_yet();
+    record_checks::finites(table, offs, n, &mut have, &mut next);
     none_broken(table, offs, n, &have, Check::Finite)
 }
 

@@ -37,7 +37,7 @@ word-byte : (b : ℕ) → 33 ≤ b → b ≤ 126 → (b ≡ 61 → ⊥) → (b �
 unfolding isWordByte
 word-byte b l h n1 n2 n3 n4 n5 n6 n7 n8 n9 = rw (le-leb 33 b l, le-leb b 126 h, ne-eqb b 61 n1, ne-eqb b 44 n2, ne-eqb b 34 n3, ne-eqb b 39 n4, ne-eqb b 123 n5, ne-eqb b 125 n6, ne-eqb b 40 n7, ne-eqb b 41 n8, ne-eqb b 63 n9)
 
-digit-word : (b : ℕ) → isDigit b ≡ true → isWordByte b ≡ true
+pub digit-word : (b : ℕ) → isDigit b ≡ true → isWordByte b ≡ true
 digit-word b e =
     let h = digit-range b e in
     word-byte b (omega arith) (omega arith) (λ z. omega arith) (λ z. omega arith) (λ z. omega arith) (λ z. omega arith) (λ z. omega arith) (λ z. omega arith) (λ z. omega arith) (λ z. omega arith) (λ z. omega arith)

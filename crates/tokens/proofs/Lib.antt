@@ -2,3 +2,5 @@
 pub mod CutAt
 pub mod Steps
 pub mod Heads
+pub mod Plain
+pub mod Naturals

@@ -74,7 +74,7 @@ reads-back base s at p l q r = go l r
     go (Bad a) r = e ∙ r
 
 -- number 22
-fault-word : (t : Token) (a e n : ℕ) (c : Cut) → isOpening t ≡ false → faultFrom n (putFirst (lexeme t a e) c) ≡ faultFrom (openAfter n t) c
+pub fault-word : (t : Token) (a e n : ℕ) (c : Cut) → isOpening t ≡ false → faultFrom n (putFirst (lexeme t a e) c) ≡ faultFrom (openAfter n t) c
 unfolding faultFrom tooDeep
 fault-word t a e n c q = rw (q, tooDeep) refl
 

@@ -18,3 +18,8 @@ pub record ScanOn (s : List ℕ) (i n j m : ℕ) : Type 0 where
 abbrev pub ScanTurn : List ℕ → ℕ → ℕ → Turn → Type 0
 ScanTurn s i n (On u m) = ScanOn s i n (u .at) m
 ScanTurn s i n (Out f) = foundOf f ≡ faultFrom n (cutAt 0 s i)
+
+-- the bytes from i to j change nothing for number 22
+pub record PlainEnd (s : List ℕ) (i j : ℕ) : Type 0 where
+  pub is : (n : ℕ) → faultFrom n (cutAt 0 s i) ≡ faultFrom n (cutAt 0 s j)
+  pub least : i ≤ j

@@ -1,13 +1,15 @@
 // The tokens of a message, read by a cursor over its bytes, and number 22.
 ghost use mathlib.Core.Path.{_≡_};
-ghost use Prim.Native.Nat.{ℕ, _≤_};
+ghost use Prim.Native.Nat.{ℕ, _≤_, _<_};
+ghost use lib.ListN.{length};
 ghost use Rattle.numbers.specs.Limits.{openLimit};
 ghost use Rattle.classes.specs.Bytes.{isBlank, isWordByte, isStringByte};
 ghost use Rattle.message_rules.specs.Scan.{cut, scanFault};
 ghost use Rattle.tokens.specs.Cursor.{rowEnd, cutAt, restAt, Reads};
 ghost use Rattle.tokens.specs.Head.{HeadAt};
 ghost use Rattle.tokens.specs.Scanned.{foundOf};
-ghost use Rattle.tokens.specs.Turn.{ScanTurn};
+ghost use Rattle.tokens.specs.Digits.{DigitsEnd, DigitsAt};
+ghost use Rattle.tokens.specs.Turn.{ScanTurn, PlainEnd};
 
 // How many braces may be open.
 const OPEN_LIMIT: usize = 16;
@@ -193,6 +195,59 @@ impl Cursor {
     }
 }
 
+// A word of digits without leading zero that a comma follows at once: its end, and its number.
+pub enum Digits {
+    Other,
+    Number(usize, u64),
+}
+
+// The word of digits from at to i, whose number is sum.
+fn digits_end(s: &[u8], at: usize, i: usize, sum: u64) -> Digits
+    requires { ⌜ i < length (now s) ⌝ }
+    ensures { λ r. ⌜ DigitsEnd (now (s .entry)) at i sum r ⌝ }
+{
+    if s[i] != b',' {
+        return Digits::Other;
+    }
+    if i <= at {
+        return Digits::Other;
+    }
+    if i - at == 1 {
+        return Digits::Number(i, sum);
+    }
+    if s[at] == b'0' {
+        return Digits::Other;
+    }
+    Digits::Number(i, sum)
+}
+
+// The digits that stand at a place. Other where the word is too long for an int, too.
+pub fn digits_at(s: &[u8], at: usize) -> Digits
+    ensures { λ r. ⌜ DigitsAt (now (s .entry)) at r ⌝ }
+{
+    let mut sum: u64 = 0;
+    let mut i = at;
+    while i < s.len() {
+        let b = s[i];
+        if classes::is_digit(b) {
+            if 0xFFFF_FFFF < sum {
+                return Digits::Other;
+            }
+            sum = sum * 10 + wide(b - 48);
+            i += 1;
+        } else {
+            return digits_end(s, at, i, sum);
+        }
+    }
+    Digits::Other
+}
+
+fn wide(b: u8) -> u64
+    ensures { λ r. ⌜ (r ≡ b) × (r < 256) ⌝ }
+{
+    b as u64
+}
+
 // Whether number 22 is due, and where.
 pub enum Scanned {
     Clean,
@@ -231,6 +286,22 @@ fn scan_turn(s: &[u8], u: Cursor, deep: usize) -> Turn
     }
 }
 
+// Past the bytes from at on that change nothing for number 22.
+fn plain_end(s: &[u8], at: usize) -> usize
+    ensures { λ r. ⌜ PlainEnd (now (s .entry)) at r ⌝ }
+{
+    let mut i = at;
+    while i < s.len() {
+        let b = s[i];
+        if classes::is_plain(b) {
+            i += 1;
+        } else {
+            return i;
+        }
+    }
+    i
+}
+
 // 22: a byte in no token and no blank, or a brace that opens with 16 open, whichever is first.
 pub fn scan_fault(message: &[u8]) -> Scanned
     ensures { λ r. ⌜ foundOf r ≡ scanFault (cut (now (message .entry))) ⌝ }
@@ -238,7 +309,8 @@ pub fn scan_fault(message: &[u8]) -> Scanned
     let mut u = Cursor { at: 0 };
     let mut deep: usize = 0;
     loop {
-        match scan_turn(message, u, deep) {
+        let at = plain_end(message, u.at);
+        match scan_turn(message, Cursor { at: at }, deep) {
             Turn::On(v, n) => {
                 u = v;
                 deep = n;

@@ -1,3 +1,4 @@
 -- Laws that other crates' proofs may cite.
 pub mod GoingLaws
 pub mod Parts
+pub mod Quicks

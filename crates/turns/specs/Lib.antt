@@ -2,3 +2,4 @@
 pub mod Ends
 pub mod Going
 pub mod Turns
+pub mod Quickly

@@ -8,11 +8,16 @@ ghost use Rattle.schema.specs.Parse.{simpleAt, noneAt};
 ghost use Rattle.tokens.specs.Cursor.{part};
 ghost use Rattle.unknown.specs.Along.{tokensAt};
 ghost use Rattle.lookup.specs.Questions.{schemaAt};
+ghost use mathlib.Core.Bool.{true};
+ghost use Rattle.lookup.specs.IntList.{IntsOf};
 ghost use Rattle.turns.specs.Ends.{Room, EndsValue};
+ghost use Rattle.turns.specs.Quickly.{Takes, QuickAt};
 ghost use Rattle.turns.specs.Turns.{unfitOf, LeafAt, NoValue, OpenedAt, ShutAt, ChoiceAt, ChosenAt, AfterAt, endNumberAt, endAt, StartAt, ItemAt, KnownAt, UnknownAt, bareAt};
 use lookup::Found;
+use lookup::Ints;
 use rows::Row;
 use tokens::Cursor;
+use tokens::Digits;
 use unknown::Passed;
 
 // Where a reader stands: at in s, the next row, the parameter that is read, the row above, how many braces may still open.
@@ -281,6 +286,62 @@ pub fn after_value(
         return After::Last;
     }
     After::Refused(25, base + h.start)
+}
+
+// The value of a list of ints after c others, where it is plain digits and a comma follows at once: the cursor past
+// the comma, and the next row. Slow where it is not, or the list takes another value: nothing is written then.
+pub enum Quick {
+    On(Cursor, usize),
+    Slow,
+}
+
+// The number v is a value of the list, and c values may be followed by another.
+fn takes(e: Ints, v: u64, c: usize) -> bool
+    ensures { λ r. ⌜ (r ≡ true → Takes e v c) ⌝ }
+{
+    if 0xFFFF_FFFF < v {
+        return false;
+    }
+    numbers::lies_within(0x8000_0000 + v, e.least, e.most) & lookup::may_grow(e.hi, c)
+}
+
+pub fn quick_int(
+    table: &[u8],
+    offs: &[u32],
+    n: usize,
+    s: &[u8],
+    rows: &mut [u32],
+    f: Frame,
+    c: usize,
+    e: Ints,
+) -> Quick
+    requires { ⌜ Room f (length (now s)) n ⌝ }
+    requires { ⌜ (f .parameter < n) × (c < 4294967296) ⌝ }
+    requires { ⌜ IntsOf (schemaAt (now table) (now offs) n) (f .parameter) e ⌝ }
+    ensures { λ r. ⌜ QuickAt (schemaAt (now (table .entry)) (now (offs .entry)) n) (now (s .entry)) f c (now (rows .entry)) (now (rows .exit)) r ⌝ }
+{
+    if !e.on {
+        return Quick::Slow;
+    }
+    match tokens::digits_at(s, f.at) {
+        Digits::Other => Quick::Slow,
+        Digits::Number(end, v) => {
+            if !takes(e, v, c + 1) {
+                return Quick::Slow;
+            }
+            rows::put_row(
+                rows,
+                f.row,
+                Row {
+                    parameter: f.parameter,
+                    parent: f.parent,
+                    start: f.base + f.at,
+                    end: f.base + end,
+                },
+            );
+            Quick::On(Cursor { at: end + 1 }, f.row + 1)
+        }
+    }
 }
 
 // ---- bodies

@@ -3,6 +3,7 @@
 use crate::frames;
 use crate::record::{self, Record, BOOL, INT, STRUCT, UNION, VOID};
 use crate::{definition, Row};
+use std::io::{self, Write};
 use Part::{Compiled, Made, Plain};
 use Want::{Bytes, Count, Length, Refused, Rows, Taken};
 
@@ -104,6 +105,14 @@ impl Case {
                 (format!("bytes{space}{hex}"), String::new())
             }
         }
+    }
+}
+
+/// Writes every case's frame to standard output.
+pub fn run() {
+    let mut out = io::stdout().lock();
+    for case in CASES {
+        out.write_all(&case.frame()).expect("standard output");
     }
 }
 

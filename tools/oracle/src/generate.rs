@@ -1658,3 +1658,18 @@ pub fn run(seed: u64, count: u64) {
     }
     out.flush().expect("standard output");
 }
+
+#[cfg(test)]
+mod tests {
+    use super::*;
+
+    #[test]
+    fn a_stream_begins_with_every_worked_case() {
+        let mut stream = Stream::new(1);
+        for case in cases::CASES {
+            let mut bytes = vec![];
+            stream.frame().write(&mut bytes).unwrap();
+            assert_eq!(bytes, case.frame(), "{}", case.point);
+        }
+    }
+}

@@ -1,5 +1,8 @@
 //! An independent reference for Lumas definitions, compiled tables and messages.
 
+#![deny(unsafe_code)]
+
+pub mod bench;
 pub mod brute;
 pub mod cases;
 pub mod definition;
@@ -8,6 +11,7 @@ pub mod forms;
 pub mod frames;
 pub mod generate;
 pub mod message;
+pub mod plain;
 pub mod record;
 pub mod table;
 pub mod text;

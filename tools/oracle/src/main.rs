@@ -5,9 +5,19 @@ use std::process::ExitCode;
 
 const USAGE: &str = "\
 usage: oracle answer                 answer the frames of standard input, a line for each
-       oracle generate SEED COUNT    write frames to standard output
+       oracle cases                  write the worked cases as frames to standard output
+       oracle generate SEED COUNT    write frames to standard output, the worked cases first
        oracle brute SEED COUNT       compare the reference with plain enumerations
+       oracle bench [--plain]        time the proved and the plain reader, or the plain one alone
        oracle --help                 this page
+";
+
+const NO_LIBRARY: &str = "\
+oracle: this program has no proved reader linked. In the repository,
+    rt staticlib exports
+    cd tools/oracle && cargo run --release --offline --features bench -- bench
+build and time both (tools/bench does so); LUMAS_LIB names another folder of libexports.a.
+`oracle bench --plain` times the plain reader alone.
 ";
 
 fn main() -> ExitCode {
@@ -15,11 +25,17 @@ fn main() -> ExitCode {
     let words: Vec<&str> = words.iter().map(String::as_str).collect();
     match words.as_slice() {
         ["answer"] => answer(),
+        ["cases"] => {
+            oracle::cases::run();
+            ExitCode::SUCCESS
+        }
         ["generate", seed, count] => with_numbers(seed, count, |seed, count| {
             oracle::generate::run(seed, count);
             true
         }),
         ["brute", seed, count] => with_numbers(seed, count, oracle::brute::run),
+        ["bench"] => bench(false),
+        ["bench", "--plain"] => bench(true),
         ["--help" | "-h"] => {
             print!("{USAGE}");
             ExitCode::SUCCESS
@@ -37,6 +53,19 @@ fn answer() -> ExitCode {
             eprintln!("oracle: {error}");
             ExitCode::FAILURE
         }
+    }
+}
+
+/// Times the readers; without a library only the plain one can be timed.
+fn bench(plain_only: bool) -> ExitCode {
+    if !plain_only && !oracle::bench::has_library() {
+        eprint!("{NO_LIBRARY}");
+        return ExitCode::from(2);
+    }
+    if oracle::bench::run(plain_only) {
+        ExitCode::SUCCESS
+    } else {
+        ExitCode::FAILURE
     }
 }
 

@@ -1,21 +1,32 @@
 use mathlib.Core.List.{List, [], _∷_}
-use Prim.Native.Nat.{ℕ}
 use Rattle.classes.specs.Bytes.{isBlank}
 use Rattle.classes.proofs.Segment.{segment, below}
 use Rattle.classes.proofs.is_blank.Statement.{statement}
 use Rattle.classes.proofs.is_blank.Tie as tie
 
--- the bytes that stand alone, the last one first
-abbrev keys : List ℕ
-keys = 32 ∷ 13 ∷ []
+returns : tie.Need-returns
+unfolding isBlank
+returns c = rw (c .match .keys1)
+
+returns-2 : tie.Need-returns-2
+unfolding isBlank
+returns-2 c = rw (c .match .keys2)
+
+returns-3 : tie.Need-returns-3
+unfolding isBlank
+returns-3 c = search (segment isBlank (32 ∷ 13 ∷ []))
+
+returns-4 : tie.Need-returns-4
+unfolding isBlank
+returns-4 c = search (below isBlank (32 ∷ 13 ∷ []))
+
+returns-5 : tie.Need-returns-5
+unfolding isBlank
+returns-5 c = search (segment isBlank (32 ∷ 13 ∷ []))
+
+returns-6 : tie.Need-returns-6
+unfolding isBlank
+returns-6 c = search (segment isBlank [])
 
 pub is-blank-spec : {M : Type 1} → statement M
-unfolding isBlank
-is-blank-spec =
-    tie.close
-    (tie.spec
-    (λ c. rw (c .match .keys1))
-    (λ c. rw (c .match .keys2))
-    (λ c. search (segment isBlank keys))
-    (λ c. search (below isBlank keys))
-    (λ c. search (segment isBlank keys)))
+is-blank-spec = tie.close (tie.spec returns returns-2 returns-3 returns-4 returns-5 returns-6)

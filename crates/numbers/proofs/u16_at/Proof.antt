@@ -1,19 +1,63 @@
 use mathlib.Core.Path.{sym}
-use Rattle.numbers.proofs.Bytes.{le16-past}
+use native.Mathlib.Omega.{arith}
+use Rattle.numbers.proofs.Bytes.{le16-past, le16-last}
 use borrow.Author.Needs.{needs}
 use Rattle.numbers.proofs.u16_at.Statement.{statement}
 use Rattle.numbers.proofs.u16_at.Tie as tie
+
+returns : tie.Need-returns
+returns c = sym (le16-past (c .before .before .args .s .now) _ (c .if1 .taken))
+
+sub-if2 : tie.Need-sub-if2
+sub-if2 c = search needs
+
+shared-slice-read-wide16 : tie.Need-shared-slice-read-wide16
+shared-slice-read-wide16 c = search needs
+
+wide16-requires : tie.Need-wide16-requires
+wide16-requires c κs = search needs
+
+returns-2 : tie.Need-returns-2
+returns-2 c = rw (c .wide16 .ensures .0) (le16-last (c .before .before .before .before .before .args .s .now) _ (omega (arith, c .before .before .if2 .taken)))
+
+shared-slice-read-wide16-2 : tie.Need-shared-slice-read-wide16-2
+shared-slice-read-wide16-2 c = search needs
+
+wide16-requires-2 : tie.Need-wide16-requires-2
+wide16-requires-2 c κs = search needs
+
+add-wide16 : tie.Need-add-wide16
+add-wide16 c = search needs
+
+shared-slice-read-wide16-3 : tie.Need-shared-slice-read-wide16-3
+shared-slice-read-wide16-3 c = search needs
+
+wide16-requires-3 : tie.Need-wide16-requires-3
+wide16-requires-3 c κs = search needs
+
+mul-result : tie.Need-mul-result
+mul-result c = search needs
+
+add-result : tie.Need-add-result
+add-result c = search needs
+
+returns-3 : tie.Need-returns-3
+returns-3 c = search needs
 
 pub u16-at-spec : {M : Type 1} → statement M
 u16-at-spec =
     tie.close
     (tie.spec
-    (λ c. sym (le16-past (c .before .before .args .s .now) _ (c .if1 .taken)))
-    (λ c κs. search needs)
-    (λ c κs. search needs)
-    (λ c. search needs)
-    (λ c κs. search needs)
-    (λ c κs. search needs)
-    (λ c. search needs)
-    (λ c. search needs)
-    (λ c. search needs))
+    returns
+    sub-if2
+    shared-slice-read-wide16
+    wide16-requires
+    returns-2
+    shared-slice-read-wide16-2
+    wide16-requires-2
+    add-wide16
+    shared-slice-read-wide16-3
+    wide16-requires-3
+    mul-result
+    add-result
+    returns-3)

@@ -4,35 +4,25 @@ use denote.Ref.{now}
 use borrow.Author.Needs.{needs}
 use Rattle.reader.proofs.close_chain.Statement.{statement}
 use Rattle.reader.proofs.close_chain.Tie as tie
-use Rattle.reader.proofs.close_chain.Reads as reads
-use Rattle.reader.proofs.close_chain.Lts as lts
-use Rattle.rows.proofs.put_ends.Reads as put-ends-reads
 
--- src/lib.rt:107:19
 enum-known-g : tie.Need-enum-known-g
 enum-known-g c = search needs
 
--- src/lib.rt:108:46
 add-put-ends : tie.Need-add-put-ends
 add-put-ends c = let h = rw (c .before .before .before .g .given .1) at (c .before .before .before .before .before .before .pre) in omega (arith, h)
 
--- src/lib.rt:108:13
 put-ends-requires : tie.Need-put-ends-requires
 put-ends-requires c κs = let h = rw (c .before .before .before .g .given .1) at (c .before .before .before .before .before .before .pre) in omega (arith, h)
 
--- src/lib.rt:111:22
 enum-known-g-2 : tie.Need-enum-known-g-2
 enum-known-g-2 c = search needs
 
--- src/lib.rt:101:1
 same-length : tie.Need-same-length
 same-length c = search needs
 
--- src/lib.rt:101:1
 returns : tie.Need-returns
 returns c = (sym (c .before .before .before .before .before .before .g .given .1), rw (c .before .before .before .before .before .before .g .given .1) (c .before .before .put-ends .ensures))
 
--- src/lib.rt:101:1
 returns-2 : tie.Need-returns-2
 returns-2 c = (sym (c .before .g2 .given .1), rw (c .before .g2 .given .1))
 

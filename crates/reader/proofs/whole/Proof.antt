@@ -5,43 +5,31 @@ use Rattle.rows.proofs.Stores.{rows-append}
 use borrow.Author.Needs.{needs}
 use Rattle.reader.proofs.whole.Statement.{statement}
 use Rattle.reader.proofs.whole.Tie as tie
-use Rattle.reader.proofs.whole.Reads as reads
-use Rattle.reader.proofs.whole.Lts as lts
-use Rattle.rows.proofs.put_row.Reads as put-row-reads
 
--- src/lib.rt:94:15
 add-end : tie.Need-add-end
 add-end c = search needs
 
--- src/lib.rt:95:85
 add-put-row : tie.Need-add-put-row
 add-put-row c = search needs
 
--- src/lib.rt:95:5
 put-row-requires : tie.Need-put-row-requires
 put-row-requires c κs = search needs
 
--- src/lib.rt:96:25
 add-put-row-2 : tie.Need-add-put-row-2
 add-put-row-2 c = search needs
 
--- src/lib.rt:96:74
 add-t15 : tie.Need-add-t15
 add-t15 c = search needs
 
--- src/lib.rt:96:5
 put-row-requires-2 : tie.Need-put-row-requires-2
 put-row-requires-2 c κs = search needs
 
--- src/lib.rt:97:21
 add-t11 : tie.Need-add-t11
 add-t11 c = search needs
 
--- src/lib.rt:88:1
 same-length : tie.Need-same-length
 same-length c = search needs
 
--- src/lib.rt:88:1
 returns : tie.Need-returns
 returns c = record { same = refl; written = c .before .before .put-row2 .ensures ∙ rw (c .before .before .before .before .before .before .before .put-row .ensures) (rows-append _ _ _ _ _ refl); sized = refl }
 

@@ -1,10 +1,10 @@
+use borrow.Author.Needs.{needs}
 use mathlib.Core.Path.{_≡_, refl}
-use mathlib.Core.Bool.{false}
+use mathlib.Core.Bool.{Bool, false}
 use Prim.Native.Nat.{ℕ, _-_, _<_}
 use native.Mathlib.Omega.{arith}
 use lib.ListN.{length, getD, length-set}
-use borrow.Author.Needs.{needs}
-use Rattle.record_checks.proofs.Sweeping.{clear-more, clear-end}
+use Rattle.record_checks.proofs.Gathering.{set-below, clear-end}
 use Rattle.record_checks.proofs.clear.Statement.{statement}
 use Rattle.record_checks.proofs.clear.Tie as tie
 
@@ -27,7 +27,7 @@ loop-less : tie.Need-loop-less Inv-loop μ-loop
 loop-less c = search needs
 
 loop-again : tie.Need-loop-again Inv-loop μ-loop
-loop-again c = (clear-more (c .before .loop .have) (c .before .loop .i) (c .before .loop .inv .0) (c .loop-test .taken), simp length-set (c .before .loop .inv .1))
+loop-again c = (set-below (c .before .loop .have) (c .before .loop .i) false (c .loop-test .taken) (λ (k : ℕ) (b : Bool). b ≡ false) (c .before .loop .inv .0) refl, simp length-set (c .before .loop .inv .1))
 
 same-length : tie.Need-same-length Inv-loop μ-loop
 same-length c = search needs

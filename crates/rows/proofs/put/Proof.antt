@@ -3,30 +3,22 @@ use lib.Seq.{set-out}
 use borrow.Author.Needs.{needs}
 use Rattle.rows.proofs.put.Statement.{statement}
 use Rattle.rows.proofs.put.Tie as tie
-use Rattle.rows.proofs.put.Reads as reads
-use Rattle.rows.proofs.put.Lts as lts
 
--- src/lib.rt:27:19
 cast-rows : tie.Need-cast-rows
 cast-rows c = search needs
 
--- src/lib.rt:27:9
 mul-rows : tie.Need-mul-rows
 mul-rows c = search needs
 
--- src/lib.rt:27:9
 slice-write-rows : tie.Need-slice-write-rows
 slice-write-rows c = search needs
 
--- src/lib.rt:22:1
 same-length : tie.Need-same-length
 same-length c = search needs
 
--- src/lib.rt:22:1
 returns : tie.Need-returns
 returns c = search needs
 
--- src/lib.rt:22:1
 returns-2 : tie.Need-returns-2
 returns-2 c = sym (set-out _ _ _ (c .if1 .left))
 

@@ -7,9 +7,6 @@ use Rattle.rows.specs.Filled.{withEnds}
 use Rattle.rows.proofs.Stores.{ends-none, ends-more}
 use Rattle.rows.proofs.put_ends.Statement.{statement}
 use Rattle.rows.proofs.put_ends.Tie as tie
-use Rattle.rows.proofs.put_ends.Reads as reads
-use Rattle.rows.proofs.put_ends.Lts as lts
-use Rattle.rows.proofs.put.Reads as put-reads
 
 abbrev Inv-loop : tie.InvT-loop
 Inv-loop rows₀ first last end k₀ rows k = (withEnds rows k (last - k) end ≡ withEnds rows₀ first (last - first) end) × (length rows ≡ length rows₀)
@@ -17,39 +14,30 @@ Inv-loop rows₀ first last end k₀ rows k = (withEnds rows k (last - k) end �
 abbrev μ-loop : tie.MeasureT-loop
 μ-loop rows₀ first last end k₀ rows k = last - k
 
--- src/lib.rt:50:5
 loop-holds : tie.Need-loop-holds Inv-loop μ-loop
 loop-holds c = search needs
 
--- src/lib.rt:51:19
 mul-put : tie.Need-mul-put Inv-loop μ-loop
 mul-put c = search needs
 
--- src/lib.rt:51:19
 add-put : tie.Need-add-put Inv-loop μ-loop
 add-put c = search needs
 
--- src/lib.rt:51:9
 put-requires : tie.Need-put-requires Inv-loop μ-loop
 put-requires c κs = search needs
 
--- src/lib.rt:52:9
 add-k : tie.Need-add-k Inv-loop μ-loop
 add-k c = search needs
 
--- src/lib.rt:50:5
 loop-less : tie.Need-loop-less Inv-loop μ-loop
 loop-less c = search needs
 
--- src/lib.rt:50:5
 loop-again : tie.Need-loop-again Inv-loop μ-loop
 loop-again c = (rw (c .before .before .put .ensures) (sym (ends-more _ _ _ _ (c .before .before .before .before .loop-test .taken)) ∙ c .before .before .before .before .before .loop .inv .0), rw (c .before .before .put .ensures) (simp length-set (c .before .before .before .before .before .loop .inv .1)))
 
--- src/lib.rt:45:1
 same-length : tie.Need-same-length Inv-loop μ-loop
 same-length c = search needs
 
--- src/lib.rt:45:1
 returns : tie.Need-returns Inv-loop μ-loop
 returns c = sym (ends-none _ _ _ _ (omega (arith, c .loop-test .left))) ∙ c .before .loop .inv .0
 

@@ -46,8 +46,14 @@ none-broken-requires-4 c κs = search needs
 returns-4 : tie.Need-returns-4
 returns-4 c = sym (broken-root (recordsAt (c .before .before .before .before .before .before .before .before .before .before .before .before .before .before .before .args .table .now) (c .before .before .before .before .before .before .before .before .before .before .before .before .before .before .before .args .offs .now) (c .before .before .before .before .before .before .before .before .before .before .before .before .before .before .before .args .n)) (c .before .before .before .before .before .before .before .before .before .before .before .before .none-yet .result) (sym (c .before .before .before .before .before .before .before .before .before .before .none-broken .ensures) ∙ not-false _ (c .before .before .before .before .before .before .before .before .before .if1 .left)) (sym (c .before .before .before .before .before .before .before .none-broken2 .ensures) ∙ not-false _ (c .before .before .before .before .before .before .if2 .left)) (sym (c .before .before .before .before .none-broken3 .ensures) ∙ not-false _ (c .before .before .before .if3 .left)) (sym (c .before .none-broken4 .ensures) ∙ not-true _ (c .if4 .taken)))
 
+none-yet-requires-2 : tie.Need-none-yet-requires-2
+none-yet-requires-2 c κs = search needs
+
 slice-aggregate-finites : tie.Need-slice-aggregate-finites
 slice-aggregate-finites c = search needs
+
+slice-aggregate-finites-2 : tie.Need-slice-aggregate-finites-2
+slice-aggregate-finites-2 c = search needs
 
 finites-requires : tie.Need-finites-requires
 finites-requires c κs = search needs
@@ -59,7 +65,7 @@ none-broken-requires-5 : tie.Need-none-broken-requires-5
 none-broken-requires-5 c κs = search needs
 
 returns-5 : tie.Need-returns-5
-returns-5 c = c .none-broken5 .ensures ∙ all-finite (recordsAt (c .before .before .before .before .before .before .before .before .before .before .before .before .before .before .before .before .before .before .before .before .args .table .now) (c .before .before .before .before .before .before .before .before .before .before .before .before .before .before .before .before .before .before .before .before .args .offs .now) (c .before .before .before .before .before .before .before .before .before .before .before .before .before .before .before .before .before .before .before .before .args .n)) (c .before .before .before .before .before .before .before .before .before .before .before .before .before .before .before .before .before .none-yet .result) (c .before .before .before .finites .last .1 .1 .1 .0) (sym (c .before .before .before .before .before .before .before .before .before .before .before .before .before .before .before .none-broken .ensures) ∙ not-false _ (c .before .before .before .before .before .before .before .before .before .before .before .before .before .before .if1 .left)) (sym (c .before .before .before .before .before .before .before .before .before .before .before .before .none-broken2 .ensures) ∙ not-false _ (c .before .before .before .before .before .before .before .before .before .before .before .if2 .left)) (sym (c .before .before .before .before .before .before .before .before .before .none-broken3 .ensures) ∙ not-false _ (c .before .before .before .before .before .before .before .before .if3 .left)) (sym (c .before .before .before .before .before .before .none-broken4 .ensures) ∙ not-false _ (c .before .before .before .before .before .if4 .left)) (c .before .before .before .finites .ensures (omega (arith, c .before .before .before .before .before .before .before .before .before .before .before .before .before .before .before .before .before .none-yet .ensures, c .before .before .before .before .before .before .before .before .before .before .before .before .before .before .before .before .before .before .before .before .pre)))
+returns-5 c = c .none-broken5 .ensures ∙ all-finite (recordsAt (c .before .before .before .before .before .before .before .before .before .before .before .before .before .before .before .before .before .before .before .before .before .before .before .args .table .now) (c .before .before .before .before .before .before .before .before .before .before .before .before .before .before .before .before .before .before .before .before .before .before .before .args .offs .now) (c .before .before .before .before .before .before .before .before .before .before .before .before .before .before .before .before .before .before .before .before .before .before .before .args .n)) (c .before .before .before .before .before .before .before .before .before .before .before .before .before .before .before .before .before .before .before .before .none-yet .result) (c .before .before .before .before .finites .last .1 .1 .1 .0) (sym (c .before .before .before .before .before .before .before .before .before .before .before .before .before .before .before .before .before .before .none-broken .ensures) ∙ not-false _ (c .before .before .before .before .before .before .before .before .before .before .before .before .before .before .before .before .before .if1 .left)) (sym (c .before .before .before .before .before .before .before .before .before .before .before .before .before .before .before .none-broken2 .ensures) ∙ not-false _ (c .before .before .before .before .before .before .before .before .before .before .before .before .before .before .if2 .left)) (sym (c .before .before .before .before .before .before .before .before .before .before .before .before .none-broken3 .ensures) ∙ not-false _ (c .before .before .before .before .before .before .before .before .before .before .before .if3 .left)) (sym (c .before .before .before .before .before .before .before .before .before .none-broken4 .ensures) ∙ not-false _ (c .before .before .before .before .before .before .before .before .if4 .left)) (c .before .before .before .before .finites .ensures (omega (arith, c .before .before .before .before .before .before .before .before .before .before .before .before .before .before .before .before .before .before .before .before .none-yet .ensures, c .before .before .before .before .before .before .before .before .before .before .before .before .before .before .before .before .before .before .before .before .before .before .before .pre)) (omega (arith, c .before .before .before .before .before .before .before .none-yet2 .ensures, c .before .before .before .before .before .before .before .before .before .before .before .before .before .before .before .before .before .before .before .before .before .before .before .pre)))
 
 pub checks-fine-spec : {M : Type 1} → statement M
 checks-fine-spec =
@@ -78,7 +84,9 @@ checks-fine-spec =
     slice-aggregate-none-broken-4
     none-broken-requires-4
     returns-4
+    none-yet-requires-2
     slice-aggregate-finites
+    slice-aggregate-finites-2
     finites-requires
     slice-aggregate-none-broken-5
     none-broken-requires-5

@@ -10,9 +10,6 @@ use Rattle.tokens.specs.Scanned.{faultFrom}
 use Rattle.tokens.proofs.Steps.{scan-start, scan-go, scan-out}
 use Rattle.tokens.proofs.scan_fault.Statement.{statement}
 use Rattle.tokens.proofs.scan_fault.Tie as tie
-use Rattle.tokens.proofs.scan_fault.Reads as reads
-use Rattle.tokens.proofs.scan_fault.Lts as lts
-use Rattle.tokens.proofs.scan_turn.Reads as scan-turn-reads
 
 abbrev Inv-loop : tie.InvT-loop
 Inv-loop message u₀ deep₀ u deep = (scanFault (cut message) ≡ faultFrom deep (cutAt 0 message (u .at))) × (deep ≤ openLimit)
@@ -20,33 +17,29 @@ Inv-loop message u₀ deep₀ u deep = (scanFault (cut message) ≡ faultFrom de
 abbrev μ-loop : tie.MeasureT-loop
 μ-loop message u₀ deep₀ u deep = length message - u .at
 
--- src/lib.rt:168:5
 loop-holds : tie.Need-loop-holds Inv-loop μ-loop
 loop-holds c = (scan-start _, omega arith)
 
--- src/lib.rt:169:15
-scan-turn-requires : tie.Need-scan-turn-requires Inv-loop μ-loop
-scan-turn-requires c κs = c .loop .inv .1
+plain-end-requires : tie.Need-plain-end-requires Inv-loop μ-loop
+plain-end-requires c κs = search needs
 
--- src/lib.rt:170:22
+scan-turn-requires : tie.Need-scan-turn-requires Inv-loop μ-loop
+scan-turn-requires c κs = c .before .loop .inv .1
+
 enum-known-v : tie.Need-enum-known-v Inv-loop μ-loop
 enum-known-v c = search needs
 
--- src/lib.rt:168:5
 loop-less : tie.Need-loop-less Inv-loop μ-loop
-loop-less c = omega (arith, scan-go _ _ _ (c .before .before .before .scan-turn .result) _ _ (c .before .before .before .scan-turn .ensures) (c .before .v .given .1) .less, scan-go _ _ _ (c .before .before .before .scan-turn .result) _ _ (c .before .before .before .scan-turn .ensures) (c .before .v .given .1) .within)
+loop-less c = omega (arith, scan-go _ _ _ (c .before .before .before .scan-turn .result) _ _ (c .before .before .before .scan-turn .ensures) (c .before .v .given .1) .less, scan-go _ _ _ (c .before .before .before .scan-turn .result) _ _ (c .before .before .before .scan-turn .ensures) (c .before .v .given .1) .within, (c .before .before .before .before .plain-end .ensures) .least)
 
--- src/lib.rt:168:5
 loop-again : tie.Need-loop-again Inv-loop μ-loop
-loop-again c = (c .before .before .before .before .loop .inv .0 ∙ scan-go _ _ _ (c .before .before .before .scan-turn .result) _ _ (c .before .before .before .scan-turn .ensures) (c .before .v .given .1) .is, scan-go _ _ _ (c .before .before .before .scan-turn .result) _ _ (c .before .before .before .scan-turn .ensures) (c .before .v .given .1) .few)
+loop-again c = (c .before .before .before .before .before .loop .inv .0 ∙ ((c .before .before .before .before .plain-end .ensures) .is _ ∙ scan-go _ _ _ (c .before .before .before .scan-turn .result) _ _ (c .before .before .before .scan-turn .ensures) (c .before .v .given .1) .is), scan-go _ _ _ (c .before .before .before .scan-turn .result) _ _ (c .before .before .before .scan-turn .ensures) (c .before .v .given .1) .few)
 
--- src/lib.rt:174:23
 enum-known-f : tie.Need-enum-known-f Inv-loop μ-loop
 enum-known-f c = search needs
 
--- src/lib.rt:175:17
 returns : tie.Need-returns Inv-loop μ-loop
-returns c = scan-out _ _ _ (c .before .before .before .scan-turn .result) _ _ (c .before .before .before .scan-turn .ensures) (c .before .f .given .1) (c .before .before .before .before .loop .inv .0)
+returns c = scan-out _ _ _ (c .before .before .before .scan-turn .result) _ _ (c .before .before .before .scan-turn .ensures) (c .before .f .given .1) (c .before .before .before .before .before .loop .inv .0 ∙ (c .before .before .before .before .plain-end .ensures) .is _)
 
 pub scan-fault-spec : {M : Type 1} → statement M
 scan-fault-spec =
@@ -55,6 +48,7 @@ scan-fault-spec =
     Inv-loop
     μ-loop
     loop-holds
+    plain-end-requires
     scan-turn-requires
     enum-known-v
     loop-less

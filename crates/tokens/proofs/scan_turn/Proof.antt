@@ -5,91 +5,67 @@ use Rattle.tokens.proofs.Steps.{scan-word, scan-string, scan-equals, sc
 use borrow.Author.Needs.{needs}
 use Rattle.tokens.proofs.scan_turn.Statement.{statement}
 use Rattle.tokens.proofs.scan_turn.Tie as tie
-use Rattle.tokens.proofs.scan_turn.Reads as reads
-use Rattle.tokens.proofs.scan_turn.Lts as lts
-use Rattle.tokens.proofs.Cursor.next.Reads as next-reads
 
--- src/lib.rt:140:11
 next-requires : tie.Need-next-requires
 next-requires c κs = search needs
 
--- src/lib.rt:141:25
 enum-known-v : tie.Need-enum-known-v
 enum-known-v c = search needs
 
--- src/lib.rt:142:25
 enum-known-v-2 : tie.Need-enum-known-v-2
 enum-known-v-2 c = search needs
 
--- src/lib.rt:143:27
 enum-known-v-3 : tie.Need-enum-known-v-3
 enum-known-v-3 c = search needs
 
--- src/lib.rt:144:26
 enum-known-v-4 : tie.Need-enum-known-v-4
 enum-known-v-4 c = search needs
 
--- src/lib.rt:145:25
 enum-known-a : tie.Need-enum-known-a
 enum-known-a c = search needs
 
--- src/lib.rt:147:17
 returns : tie.Need-returns
 returns c = scan-deep _ _ _ (c .before .before .before .before .next .result) (c .before .before .before .before .before .before .pre) (c .before .before .before .before .next .ensures 0) _ _ (c .before .before .a .given .1) (c .if1 .taken)
 
--- src/lib.rt:149:25
 add-t16 : tie.Need-add-t16
 add-t16 c = search needs
 
--- src/lib.rt:151:28
 enum-known-v-5 : tie.Need-enum-known-v-5
 enum-known-v-5 c = search needs
 
--- src/lib.rt:153:17
 returns-2 : tie.Need-returns-2
 returns-2 c = scan-closing _ _ _ (c .before .before .before .before .next .result) (c .before .before .before .before .before .before .pre) (c .before .before .before .before .next .ensures 0) _ _ _ (c .before .before .v5 .given .1) (omega (arith, c .if2 .taken))
 
--- src/lib.rt:155:25
 sub-t18 : tie.Need-sub-t18
 sub-t18 c = search needs
 
--- src/lib.rt:157:34
 enum-told : tie.Need-enum-told
 enum-told c = search needs
 
--- src/lib.rt:158:21
 enum-known-a-2 : tie.Need-enum-known-a-2
 enum-known-a-2 c = search needs
 
--- src/lib.rt:136:1
 returns-3 : tie.Need-returns-3
 returns-3 c = scan-word _ _ _ (c .before .before .before .next .result) (c .before .before .before .before .before .pre) (c .before .before .before .next .ensures 0) _ _ (c .before .v .given .1)
 
--- src/lib.rt:136:1
 returns-4 : tie.Need-returns-4
 returns-4 c = scan-string _ _ _ (c .before .before .before .next .result) (c .before .before .before .before .before .pre) (c .before .before .before .next .ensures 0) _ _ (c .before .v2 .given .1)
 
--- src/lib.rt:136:1
 returns-5 : tie.Need-returns-5
 returns-5 c = scan-equals _ _ _ (c .before .before .before .next .result) (c .before .before .before .before .before .pre) (c .before .before .before .next .ensures 0) _ _ (c .before .v3 .given .1)
 
--- src/lib.rt:136:1
 returns-6 : tie.Need-returns-6
 returns-6 c = scan-comma _ _ _ (c .before .before .before .next .result) (c .before .before .before .before .before .pre) (c .before .before .before .next .ensures 0) _ _ (c .before .v4 .given .1)
 
--- src/lib.rt:136:1
 returns-7 : tie.Need-returns-7
 returns-7 c = scan-opening _ _ _ (c .before .before .before .before .next .result) (c .before .before .before .before .before .before .pre) (c .before .before .before .before .next .ensures 0) _ _ (c .before .before .a .given .1) (c .if1 .left)
 
--- src/lib.rt:136:1
 returns-8 : tie.Need-returns-8
 returns-8 c = scan-closing _ _ _ (c .before .before .before .before .next .result) (c .before .before .before .before .before .before .pre) (c .before .before .before .before .next .ensures 0) _ _ _ (c .before .before .v5 .given .1) refl
 
--- src/lib.rt:136:1
 returns-9 : tie.Need-returns-9
 returns-9 c = scan-end _ _ _ (c .before .before .next .result) (c .before .before .before .before .pre) (c .before .before .next .ensures 0) (c .enum-told .given .1)
 
--- src/lib.rt:136:1
 returns-10 : tie.Need-returns-10
 returns-10 c = scan-bad _ _ _ (c .before .before .before .next .result) (c .before .before .before .before .before .pre) (c .before .before .before .next .ensures 0) _ (c .before .a2 .given .1)
 

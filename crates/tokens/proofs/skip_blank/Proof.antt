@@ -7,9 +7,6 @@ use Rattle.classes.proofs.Rows.{run-more, run-stop, run-end}
 use Rattle.tokens.specs.Cursor.{rowEnd}
 use Rattle.tokens.proofs.skip_blank.Statement.{statement}
 use Rattle.tokens.proofs.skip_blank.Tie as tie
-use Rattle.tokens.proofs.skip_blank.Reads as reads
-use Rattle.tokens.proofs.skip_blank.Lts as lts
-use Rattle.classes.proofs.is_blank.Reads as is-blank-reads
 
 abbrev Inv-loop : tie.InvT-loop
 Inv-loop s at i₀ i = rowEnd isBlank s i ≡ rowEnd isBlank s at
@@ -17,35 +14,27 @@ Inv-loop s at i₀ i = rowEnd isBlank s i ≡ rowEnd isBlank s at
 abbrev μ-loop : tie.MeasureT-loop
 μ-loop s at i₀ i = length s - i
 
--- src/lib.rt:35:5
 loop-holds : tie.Need-loop-holds Inv-loop μ-loop
 loop-holds c = search needs
 
--- src/lib.rt:36:17
 shared-slice-read-b : tie.Need-shared-slice-read-b Inv-loop μ-loop
 shared-slice-read-b c = search needs
 
--- src/lib.rt:37:12
 is-blank-requires : tie.Need-is-blank-requires Inv-loop μ-loop
 is-blank-requires c κs = search needs
 
--- src/lib.rt:38:13
 add-i : tie.Need-add-i Inv-loop μ-loop
 add-i c = search needs
 
--- src/lib.rt:35:5
 loop-less : tie.Need-loop-less Inv-loop μ-loop
 loop-less c = search needs
 
--- src/lib.rt:35:5
 loop-again : tie.Need-loop-again Inv-loop μ-loop
 loop-again c = sym (run-more isBlank _ _ (c .before .before .before .loop-test .taken) (sym (c .before .is-blank .ensures) ∙ c .if1 .taken)) ∙ c .before .before .before .before .loop .inv
 
--- src/lib.rt:40:13
 returns : tie.Need-returns Inv-loop μ-loop
 returns c = sym (run-stop isBlank _ _ (c .before .before .before .loop-test .taken) (sym (c .before .is-blank .ensures) ∙ c .if1 .left)) ∙ c .before .before .before .before .loop .inv
 
--- src/lib.rt:31:1
 returns-2 : tie.Need-returns-2 Inv-loop μ-loop
 returns-2 c = sym (run-end isBlank _ _ (c .loop-test .left)) ∙ c .before .loop .inv
 

@@ -7,9 +7,6 @@ use Rattle.classes.proofs.Rows.{run-more, run-stop, run-end}
 use Rattle.tokens.specs.Cursor.{rowEnd}
 use Rattle.tokens.proofs.word_end.Statement.{statement}
 use Rattle.tokens.proofs.word_end.Tie as tie
-use Rattle.tokens.proofs.word_end.Reads as reads
-use Rattle.tokens.proofs.word_end.Lts as lts
-use Rattle.classes.proofs.is_word_byte.Reads as is-word-byte-reads
 
 abbrev Inv-loop : tie.InvT-loop
 Inv-loop s at i₀ i = rowEnd isWordByte s i ≡ rowEnd isWordByte s at
@@ -17,35 +14,27 @@ Inv-loop s at i₀ i = rowEnd isWordByte s i ≡ rowEnd isWordByte s at
 abbrev μ-loop : tie.MeasureT-loop
 μ-loop s at i₀ i = length s - i
 
--- src/lib.rt:50:5
 loop-holds : tie.Need-loop-holds Inv-loop μ-loop
 loop-holds c = search needs
 
--- src/lib.rt:51:17
 shared-slice-read-b : tie.Need-shared-slice-read-b Inv-loop μ-loop
 shared-slice-read-b c = search needs
 
--- src/lib.rt:52:12
 is-word-byte-requires : tie.Need-is-word-byte-requires Inv-loop μ-loop
 is-word-byte-requires c κs = search needs
 
--- src/lib.rt:53:13
 add-i : tie.Need-add-i Inv-loop μ-loop
 add-i c = search needs
 
--- src/lib.rt:50:5
 loop-less : tie.Need-loop-less Inv-loop μ-loop
 loop-less c = search needs
 
--- src/lib.rt:50:5
 loop-again : tie.Need-loop-again Inv-loop μ-loop
 loop-again c = sym (run-more isWordByte _ _ (c .before .before .before .loop-test .taken) (sym (c .before .is-word-byte .ensures) ∙ c .if1 .taken)) ∙ c .before .before .before .before .loop .inv
 
--- src/lib.rt:55:13
 returns : tie.Need-returns Inv-loop μ-loop
 returns c = sym (run-stop isWordByte _ _ (c .before .before .before .loop-test .taken) (sym (c .before .is-word-byte .ensures) ∙ c .if1 .left)) ∙ c .before .before .before .before .loop .inv
 
--- src/lib.rt:46:1
 returns-2 : tie.Need-returns-2 Inv-loop μ-loop
 returns-2 c = sym (run-end isWordByte _ _ (c .loop-test .left)) ∙ c .before .loop .inv
 

@@ -5,50 +5,34 @@ use Rattle.turns.proofs.Parts.{value-grows, value-long, value-last, val
 use borrow.Author.Needs.{needs}
 use Rattle.turns.proofs.after_value.Statement.{statement}
 use Rattle.turns.proofs.after_value.Tie as tie
-use Rattle.turns.proofs.after_value.Reads as reads
-use Rattle.turns.proofs.after_value.Lts as lts
-use Rattle.lookup.proofs.hi.Reads as hi-reads
-use Rattle.lookup.proofs.lo.Reads as lo-reads
-use Rattle.lookup.proofs.may_grow.Reads as may-grow-reads
-use Rattle.tokens.proofs.Cursor.head.Reads as head-reads
 
--- src/lib.rt:217:9
 head-requires : tie.Need-head-requires
 head-requires c κs = search needs
 
--- src/lib.rt:220:29
 hi-requires : tie.Need-hi-requires
 hi-requires c κs = search needs
 
--- src/lib.rt:220:12
 may-grow-requires : tie.Need-may-grow-requires
 may-grow-requires c κs = search needs
 
--- src/lib.rt:221:13
 returns : tie.Need-returns
 returns c = value-grows _ _ _ _ _ _ (c .before .before .before .before .before .before .head .result) (c .before .before .before .before .before .before .head .ensures _) (c .before .before .before .if1 .taken) (rw (← c .before .before .hi .ensures) (sym (c .before .may-grow .ensures) ∙ c .if2 .taken))
 
--- src/lib.rt:223:35
 add-t13 : tie.Need-add-t13
 add-t13 c = omega (arith, c .before .before .before .before .before .before .before .head .ensures 0 .within, c .before .before .before .before .before .before .before .before .before .before .before .pre)
 
--- src/lib.rt:223:9
 returns-2 : tie.Need-returns-2
 returns-2 c = value-long _ _ _ _ _ _ (c .before .before .before .before .before .before .before .head .result) (c .before .before .before .before .before .before .before .head .ensures _) (c .before .before .before .before .if1 .taken) (rw (← c .before .before .before .hi .ensures) (sym (c .before .before .may-grow .ensures) ∙ c .before .if2 .left))
 
--- src/lib.rt:225:8
 lo-requires : tie.Need-lo-requires
 lo-requires c κs = search needs
 
--- src/lib.rt:226:9
 returns-3 : tie.Need-returns-3
 returns-3 c = value-last _ _ _ _ _ _ (c .before .before .before .before .before .head .result) (c .before .before .before .before .before .head .ensures _) (c .before .before .if1 .left) (rw (← c .before .lo .ensures) (c .if3 .taken))
 
--- src/lib.rt:228:24
 add-t14 : tie.Need-add-t14
 add-t14 c = omega (arith, c .before .before .before .before .before .before .head .ensures 0 .within, c .before .before .before .before .before .before .before .before .before .before .pre)
 
--- src/lib.rt:213:1
 returns-4 : tie.Need-returns-4
 returns-4 c = value-short _ _ _ _ _ _ (c .before .before .before .before .before .before .head .result) (c .before .before .before .before .before .before .head .ensures _) (c .before .before .before .if1 .left) (rw (← c .before .before .lo .ensures) (c .before .if3 .left))
 

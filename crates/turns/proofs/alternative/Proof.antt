@@ -5,65 +5,46 @@ use Rattle.turns.proofs.Parts.{found-at, found-none, alternative-none, 
 use borrow.Author.Needs.{needs}
 use Rattle.turns.proofs.alternative.Statement.{statement}
 use Rattle.turns.proofs.alternative.Tie as tie
-use Rattle.turns.proofs.alternative.Reads as reads
-use Rattle.turns.proofs.alternative.Lts as lts
-use Rattle.lookup.proofs.find.Reads as find-reads
-use Rattle.lookup.proofs.is_void.Reads as is-void-reads
-use Rattle.tokens.proofs.Cursor.head.Reads as head-reads
 
--- src/lib.rt:151:43
 sub-find : tie.Need-sub-find
 sub-find c = search needs
 
--- src/lib.rt:151:43
 part-find-start : tie.Need-part-find-start
 part-find-start c = search needs
 
--- src/lib.rt:151:43
 part-find-end : tie.Need-part-find-end
 part-find-end c = search needs
 
--- src/lib.rt:151:11
 find-requires : tie.Need-find-requires
 find-requires c κs = search needs
 
--- src/lib.rt:152:47
 enum-told : tie.Need-enum-told
 enum-told c = search needs
 
--- src/lib.rt:152:47
 add-t19 : tie.Need-add-t19
 add-t19 c = search needs
 
--- src/lib.rt:153:19
 enum-known-q : tie.Need-enum-known-q
 enum-known-q c = search needs
 
--- src/lib.rt:154:16
 is-void-requires : tie.Need-is-void-requires
 is-void-requires c κs = search needs
 
--- src/lib.rt:155:17
 returns : tie.Need-returns
 returns c = alternative-void _ _ _ _ (c .before .before .before .before .before .before .before .before .before .before .args .f) _ _ _ _ (found-at (c .before .before .before .before .before .find .result) _ _ (c .before .before .before .q .given .1) (c .before .before .before .before .before .find .ensures)) (sym (c .before .is-void .ensures) ∙ c .if1 .taken)
 
--- src/lib.rt:157:17
 head-requires : tie.Need-head-requires
 head-requires c κs = search needs
 
--- src/lib.rt:160:17
 returns-2 : tie.Need-returns-2
 returns-2 c = alternative-equals _ _ _ _ (c .before .before .before .before .before .before .before .before .before .before .before .before .before .before .args .f) _ _ _ _ (c .before .before .before .head .result) (found-at (c .before .before .before .before .before .before .before .before .before .find .result) _ _ (c .before .before .before .before .before .before .before .q .given .1) (c .before .before .before .before .before .before .before .before .before .find .ensures)) (sym (c .before .before .before .before .before .is-void .ensures) ∙ c .before .before .before .before .if1 .left) (c .before .before .before .head .ensures _) (c .if2 .taken)
 
--- src/lib.rt:162:33
 add-t22 : tie.Need-add-t22
 add-t22 c = omega (arith, c .before .before .before .before .before .head .ensures 0 .within, c .before .before .before .before .before .before .before .before .before .before .before .before .before .before .before .before .pre .0)
 
--- src/lib.rt:146:1
 returns-3 : tie.Need-returns-3
 returns-3 c = alternative-none _ _ _ _ (c .before .before .before .before .before .before .before .before .args .f) _ _ _ 0 (found-none (c .before .before .before .find .result) _ (c .before .enum-told .given .1) (c .before .before .before .find .ensures))
 
--- src/lib.rt:146:1
 returns-4 : tie.Need-returns-4
 returns-4 c = alternative-open _ _ _ _ (c .before .before .before .before .before .before .before .before .before .before .before .before .before .before .before .before .args .f) _ _ _ _ (c .before .before .before .before .before .head .result) (found-at (c .before .before .before .before .before .before .before .before .before .before .before .find .result) _ _ (c .before .before .before .before .before .before .before .before .before .q .given .1) (c .before .before .before .before .before .before .before .before .before .before .before .find .ensures)) (sym (c .before .before .before .before .before .before .before .is-void .ensures) ∙ c .before .before .before .before .before .before .if1 .left) (c .before .before .before .before .before .head .ensures _) (c .before .before .if2 .left)
 

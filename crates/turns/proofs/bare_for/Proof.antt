@@ -5,24 +5,16 @@ use Rattle.turns.proofs.Parts.{bare-like, bare-other}
 use borrow.Author.Needs.{needs}
 use Rattle.turns.proofs.bare_for.Statement.{statement}
 use Rattle.turns.proofs.bare_for.Tie as tie
-use Rattle.turns.proofs.bare_for.Reads as reads
-use Rattle.turns.proofs.bare_for.Lts as lts
-use Rattle.lookup.proofs.bare.Reads as bare-reads
-use Rattle.numbers.proofs.is_int_like.Reads as is-int-like-reads
 
--- src/lib.rt:171:8
 is-int-like-requires : tie.Need-is-int-like-requires
 is-int-like-requires c κs = search needs
 
--- src/lib.rt:172:9
 bare-requires : tie.Need-bare-requires
 bare-requires c κs = search needs
 
--- src/lib.rt:172:9
 returns : tie.Need-returns
 returns c = bare-like _ _ (c .bare .result) (c .bare .ensures) (sym (c .before .before .is-int-like .ensures) ∙ c .before .if1 .taken)
 
--- src/lib.rt:168:1
 returns-2 : tie.Need-returns-2
 returns-2 c = bare-other _ _ (sym (c .before .is-int-like .ensures) ∙ c .if1 .left)
 

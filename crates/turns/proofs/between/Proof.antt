@@ -6,42 +6,31 @@ use Prim.Native.Nat.{_-_, _+_}
 use borrow.Author.Needs.{needs}
 use Rattle.turns.proofs.between.Statement.{statement}
 use Rattle.turns.proofs.between.Tie as tie
-use Rattle.turns.proofs.between.Reads as reads
-use Rattle.turns.proofs.between.Lts as lts
 
--- src/lib.rt:81:13
 add-b : tie.Need-add-b
 add-b c = search needs
 
--- src/lib.rt:82:13
 sub-d : tie.Need-sub-d
 sub-d c = search needs
 
--- src/lib.rt:84:16
 part-result-start : tie.Need-part-result-start
 part-result-start c = search needs
 
--- src/lib.rt:84:16
 part-result-end : tie.Need-part-result-end
 part-result-end c = search needs
 
--- src/lib.rt:84:9
 returns : tie.Need-returns
 returns c = search needs
 
--- src/lib.rt:86:5
 sub-result : tie.Need-sub-result
 sub-result c = search needs
 
--- src/lib.rt:86:5
 part-result-start-2 : tie.Need-part-result-start-2
 part-result-start-2 c = search needs
 
--- src/lib.rt:86:5
 part-result-end-2 : tie.Need-part-result-end-2
 part-result-end-2 c = search needs
 
--- src/lib.rt:77:1
 returns-2 : tie.Need-returns-2
 returns-2 c = let z : c .before .before .args .e - 1 - (c .before .before .args .a + 1) ≡ 0 = omega (arith, c .before .if1 .left) in rw z refl
 

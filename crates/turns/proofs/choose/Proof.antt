@@ -5,87 +5,61 @@ use Rattle.turns.proofs.Parts.{found-at, found-none, step-of-word, int-
 use borrow.Author.Needs.{needs}
 use Rattle.turns.proofs.choose.Statement.{statement}
 use Rattle.turns.proofs.choose.Tie as tie
-use Rattle.turns.proofs.choose.Reads as reads
-use Rattle.turns.proofs.choose.Lts as lts
-use Rattle.lookup.proofs.judge.Reads as judge-reads
-use Rattle.tokens.proofs.Cursor.head.Reads as head-reads
-use Rattle.turns.proofs.alternative.Reads as alternative-reads
-use Rattle.turns.proofs.bare_for.Reads as bare-for-reads
-use Rattle.turns.proofs.unfit.Reads as unfit-reads
 
--- src/lib.rt:183:9
 head-requires : tie.Need-head-requires
 head-requires c κs = search needs
 
--- src/lib.rt:188:43
 sub-bare-for : tie.Need-sub-bare-for
 sub-bare-for c = omega (arith, step-of-word (c .before .before .before .before .before .before .before .args .f .base) (now (c .before .before .before .before .before .before .before .args .s)) (c .before .before .before .before .before .before .before .args .f .at) (c .before .before .before .head .result) (c .before .before .before .head .ensures (c .before .before .before .before .before .before .before .args .f .base)) (c .if1 .taken) .less, step-of-word (c .before .before .before .before .before .before .before .args .f .base) (now (c .before .before .before .before .before .before .before .args .s)) (c .before .before .before .before .before .before .before .args .f .at) (c .before .before .before .head .result) (c .before .before .before .head .ensures (c .before .before .before .before .before .before .before .args .f .base)) (c .if1 .taken) .within)
 
--- src/lib.rt:188:43
 part-bare-for-start : tie.Need-part-bare-for-start
 part-bare-for-start c = omega (arith, step-of-word (c .before .before .before .before .before .before .before .args .f .base) (now (c .before .before .before .before .before .before .before .args .s)) (c .before .before .before .before .before .before .before .args .f .at) (c .before .before .before .head .result) (c .before .before .before .head .ensures (c .before .before .before .before .before .before .before .args .f .base)) (c .if1 .taken) .less, step-of-word (c .before .before .before .before .before .before .before .args .f .base) (now (c .before .before .before .before .before .before .before .args .s)) (c .before .before .before .before .before .before .before .args .f .at) (c .before .before .before .head .result) (c .before .before .before .head .ensures (c .before .before .before .before .before .before .before .args .f .base)) (c .if1 .taken) .within)
 
--- src/lib.rt:188:43
 part-bare-for-end : tie.Need-part-bare-for-end
 part-bare-for-end c = omega (arith, step-of-word (c .before .before .before .before .before .before .before .args .f .base) (now (c .before .before .before .before .before .before .before .args .s)) (c .before .before .before .before .before .before .before .args .f .at) (c .before .before .before .head .result) (c .before .before .before .head .ensures (c .before .before .before .before .before .before .before .args .f .base)) (c .if1 .taken) .less, step-of-word (c .before .before .before .before .before .before .before .args .f .base) (now (c .before .before .before .before .before .before .before .args .s)) (c .before .before .before .before .before .before .before .args .f .at) (c .before .before .before .head .result) (c .before .before .before .head .ensures (c .before .before .before .before .before .before .before .args .f .base)) (c .if1 .taken) .within)
 
--- src/lib.rt:188:15
 bare-for-requires : tie.Need-bare-for-requires
 bare-for-requires c κs = search needs
 
--- src/lib.rt:189:23
 enum-known-q : tie.Need-enum-known-q
 enum-known-q c = search needs
 
--- src/lib.rt:190:63
 sub-judge : tie.Need-sub-judge
 sub-judge c = omega (arith, step-of-word (c .before .before .before .before .before .before .before .before .before .before .before .before .args .f .base) (now (c .before .before .before .before .before .before .before .before .before .before .before .before .args .s)) (c .before .before .before .before .before .before .before .before .before .before .before .before .args .f .at) (c .before .before .before .before .before .before .before .before .head .result) (c .before .before .before .before .before .before .before .before .head .ensures (c .before .before .before .before .before .before .before .before .before .before .before .before .args .f .base)) (c .before .before .before .before .before .if1 .taken) .less, step-of-word (c .before .before .before .before .before .before .before .before .before .before .before .before .args .f .base) (now (c .before .before .before .before .before .before .before .before .before .before .before .before .args .s)) (c .before .before .before .before .before .before .before .before .before .before .before .before .args .f .at) (c .before .before .before .before .before .before .before .before .head .result) (c .before .before .before .before .before .before .before .before .head .ensures (c .before .before .before .before .before .before .before .before .before .before .before .before .args .f .base)) (c .before .before .before .before .before .if1 .taken) .within)
 
--- src/lib.rt:190:63
 part-judge-start : tie.Need-part-judge-start
 part-judge-start c = omega (arith, step-of-word (c .before .before .before .before .before .before .before .before .before .before .before .before .args .f .base) (now (c .before .before .before .before .before .before .before .before .before .before .before .before .args .s)) (c .before .before .before .before .before .before .before .before .before .before .before .before .args .f .at) (c .before .before .before .before .before .before .before .before .head .result) (c .before .before .before .before .before .before .before .before .head .ensures (c .before .before .before .before .before .before .before .before .before .before .before .before .args .f .base)) (c .before .before .before .before .before .if1 .taken) .less, step-of-word (c .before .before .before .before .before .before .before .before .before .before .before .before .args .f .base) (now (c .before .before .before .before .before .before .before .before .before .before .before .before .args .s)) (c .before .before .before .before .before .before .before .before .before .before .before .before .args .f .at) (c .before .before .before .before .before .before .before .before .head .result) (c .before .before .before .before .before .before .before .before .head .ensures (c .before .before .before .before .before .before .before .before .before .before .before .before .args .f .base)) (c .before .before .before .before .before .if1 .taken) .within)
 
--- src/lib.rt:190:63
 part-judge-end : tie.Need-part-judge-end
 part-judge-end c = omega (arith, step-of-word (c .before .before .before .before .before .before .before .before .before .before .before .before .args .f .base) (now (c .before .before .before .before .before .before .before .before .before .before .before .before .args .s)) (c .before .before .before .before .before .before .before .before .before .before .before .before .args .f .at) (c .before .before .before .before .before .before .before .before .head .result) (c .before .before .before .before .before .before .before .before .head .ensures (c .before .before .before .before .before .before .before .before .before .before .before .before .args .f .base)) (c .before .before .before .before .before .if1 .taken) .less, step-of-word (c .before .before .before .before .before .before .before .before .before .before .before .before .args .f .base) (now (c .before .before .before .before .before .before .before .before .before .before .before .before .args .s)) (c .before .before .before .before .before .before .before .before .before .before .before .before .args .f .at) (c .before .before .before .before .before .before .before .before .head .result) (c .before .before .before .before .before .before .before .before .head .ensures (c .before .before .before .before .before .before .before .before .before .before .before .before .args .f .base)) (c .before .before .before .before .before .if1 .taken) .within)
 
--- src/lib.rt:190:21
 judge-requires : tie.Need-judge-requires
 judge-requires c κs = search needs
 
--- src/lib.rt:192:21
 returns : tie.Need-returns
 returns c = int-whole _ _ _ _ (c .before .before .before .before .before .before .before .before .before .before .before .before .before .before .before .args .f) _ _ _ _ (step-of-word (c .before .before .before .before .before .before .before .before .before .before .before .before .before .before .before .args .f .base) (now (c .before .before .before .before .before .before .before .before .before .before .before .before .before .before .before .args .s)) (c .before .before .before .before .before .before .before .before .before .before .before .before .before .before .before .args .f .at) (c .before .before .before .before .before .before .before .before .before .before .before .head .result) (c .before .before .before .before .before .before .before .before .before .before .before .head .ensures (c .before .before .before .before .before .before .before .before .before .before .before .before .before .before .before .args .f .base)) (c .before .before .before .before .before .before .before .before .if1 .taken)) _ (found-at (c .before .before .before .before .before .before .bare-for .result) _ _ (c .before .before .before .before .q .given .1) (c .before .before .before .before .before .before .bare-for .ensures)) _ (c .before .judge .ensures) (c .if2 .taken)
 
--- src/lib.rt:194:48
 add-t21 : tie.Need-add-t21
 add-t21 c = omega (arith, c .before .before .before .before .before .before .before .before .before .before .before .before .head .ensures 0 .within, c .before .before .before .before .before .before .before .before .before .before .before .before .before .before .before .before .pre)
 
--- src/lib.rt:194:17
 returns-2 : tie.Need-returns-2
 returns-2 c = int-stopped _ _ _ _ (c .before .before .before .before .before .before .before .before .before .before .before .before .before .before .before .before .args .f) _ _ _ _ (step-of-word (c .before .before .before .before .before .before .before .before .before .before .before .before .before .before .before .before .args .f .base) (now (c .before .before .before .before .before .before .before .before .before .before .before .before .before .before .before .before .args .s)) (c .before .before .before .before .before .before .before .before .before .before .before .before .before .before .before .before .args .f .at) (c .before .before .before .before .before .before .before .before .before .before .before .before .head .result) (c .before .before .before .before .before .before .before .before .before .before .before .before .head .ensures (c .before .before .before .before .before .before .before .before .before .before .before .before .before .before .before .before .args .f .base)) (c .before .before .before .before .before .before .before .before .before .if1 .taken)) _ (found-at (c .before .before .before .before .before .before .before .bare-for .result) _ _ (c .before .before .before .before .before .q .given .1) (c .before .before .before .before .before .before .before .bare-for .ensures)) _ (c .before .before .judge .ensures) (c .before .if2 .left)
 
--- src/lib.rt:197:17
 enum-told : tie.Need-enum-told
 enum-told c = search needs
 
--- src/lib.rt:197:17
 alternative-requires : tie.Need-alternative-requires
 alternative-requires c κs = let w = step-of-word (c .before .before .before .before .before .before .before .before .before .before .before .args .f .base) (now (c .before .before .before .before .before .before .before .before .before .before .before .args .s)) (c .before .before .before .before .before .before .before .before .before .before .before .args .f .at) (c .before .before .before .before .before .before .before .head .result) (c .before .before .before .before .before .before .before .head .ensures (c .before .before .before .before .before .before .before .before .before .before .before .args .f .base)) (c .before .before .before .before .if1 .taken) in search needs
 
--- src/lib.rt:197:17
 returns-3 : tie.Need-returns-3
 returns-3 c = chosen-ends _ _ _ _ (c .before .before .before .before .before .before .before .before .before .before .before .before .args .f) _ _ _ (step-of-word (c .before .before .before .before .before .before .before .before .before .before .before .before .args .f .base) (now (c .before .before .before .before .before .before .before .before .before .before .before .before .args .s)) (c .before .before .before .before .before .before .before .before .before .before .before .before .args .f .at) (c .before .before .before .before .before .before .before .before .head .result) (c .before .before .before .before .before .before .before .before .head .ensures (c .before .before .before .before .before .before .before .before .before .before .before .before .args .f .base)) (c .before .before .before .before .before .if1 .taken)) (found-none (c .before .before .before .bare-for .result) _ (c .before .enum-told .given .1) (c .before .before .before .bare-for .ensures)) (c .alternative .result) (c .alternative .ensures)
 
--- src/lib.rt:201:21
 unfit-requires : tie.Need-unfit-requires
 unfit-requires c κs = search needs
 
--- src/lib.rt:201:36
 add-t26 : tie.Need-add-t26
 add-t26 c = omega (arith, c .before .before .before .before .before .head .ensures 0 .within, c .before .before .before .before .before .before .before .before .before .pre)
 
--- src/lib.rt:178:1
 returns-4 : tie.Need-returns-4
 returns-4 c = union-stopped (c .before .before .before .before .before .before .before .before .before .args .f .base) (now (c .before .before .before .before .before .before .before .before .before .args .s)) (c .before .before .before .before .before .before .before .before .before .args .f .at) (c .before .before .before .before .before .head .result) (c .before .before .before .before .before .head .ensures (c .before .before .before .before .before .before .before .before .before .args .f .base)) _ _ _ (c .before .before .if1 .left) (c .before .unfit .ensures)
 

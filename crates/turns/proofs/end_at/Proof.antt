@@ -5,27 +5,19 @@ use Rattle.turns.proofs.Parts.{end-none, end-closing, end-other}
 use borrow.Author.Needs.{needs}
 use Rattle.turns.proofs.end_at.Statement.{statement}
 use Rattle.turns.proofs.end_at.Tie as tie
-use Rattle.turns.proofs.end_at.Reads as reads
-use Rattle.turns.proofs.end_at.Lts as lts
-use Rattle.turns.proofs.end_number.Reads as end-number-reads
 
--- src/lib.rt:238:9
 end-number-requires : tie.Need-end-number-requires
 end-number-requires c κs = search needs
 
--- src/lib.rt:238:9
 returns : tie.Need-returns
 returns c = end-none _ _ _ _ _ (c .before .if1 .taken) (c .end-number .ensures)
 
--- src/lib.rt:241:9
 end-number-requires-2 : tie.Need-end-number-requires-2
 end-number-requires-2 c κs = search needs
 
--- src/lib.rt:241:9
 returns-2 : tie.Need-returns-2
 returns-2 c = end-closing _ _ _ _ _ (c .before .if2 .taken) (c .end-number2 .ensures)
 
--- src/lib.rt:234:1
 returns-3 : tie.Need-returns-3
 returns-3 c = end-other _ _ _ _ (c .before .if1 .left) (c .if2 .left)
 

@@ -4,18 +4,13 @@ use denote.Ref.{now}
 use Rattle.turns.proofs.Parts.{end-barred, end-whole, end-lacking}
 use Rattle.turns.proofs.end_number.Statement.{statement}
 use Rattle.turns.proofs.end_number.Tie as tie
-use Rattle.turns.proofs.end_number.Reads as reads
-use Rattle.turns.proofs.end_number.Lts as lts
 
--- src/lib.rt:251:9
 returns : tie.Need-returns
 returns c = end-barred _ _ (c .if1 .taken)
 
--- src/lib.rt:254:9
 returns-2 : tie.Need-returns-2
 returns-2 c = end-whole _ _ (c .before .if1 .left) (c .if2 .taken)
 
--- src/lib.rt:247:1
 returns-3 : tie.Need-returns-3
 returns-3 c = end-lacking _ _ (c .before .if1 .left) (c .if2 .left)
 

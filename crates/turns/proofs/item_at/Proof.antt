@@ -6,76 +6,52 @@ use Rattle.turns.proofs.Parts.{found-at, found-none, step-of-word, unkn
 use borrow.Author.Needs.{needs}
 use Rattle.turns.proofs.item_at.Statement.{statement}
 use Rattle.turns.proofs.item_at.Tie as tie
-use Rattle.turns.proofs.item_at.Reads as reads
-use Rattle.turns.proofs.item_at.Lts as lts
-use Rattle.lookup.proofs.complete.Reads as complete-reads
-use Rattle.lookup.proofs.find.Reads as find-reads
-use Rattle.tokens.proofs.Cursor.head.Reads as head-reads
-use Rattle.turns.proofs.end_at.Reads as end-at-reads
-use Rattle.turns.proofs.known_item.Reads as known-item-reads
-use Rattle.turns.proofs.unknown_item.Reads as unknown-item-reads
 
--- src/lib.rt:336:9
 head-requires : tie.Need-head-requires
 head-requires c κs = search needs
 
--- src/lib.rt:341:57
 sub-find : tie.Need-sub-find
 sub-find c = omega (arith, step-of-word (c .before .before .before .before .before .before .before .args .f .base) (now (c .before .before .before .before .before .before .before .args .s)) (c .before .before .before .before .before .before .before .args .f .at) (c .before .before .before .head .result) (c .before .before .before .head .ensures (c .before .before .before .before .before .before .before .args .f .base)) (c .if1 .taken) .less, step-of-word (c .before .before .before .before .before .before .before .args .f .base) (now (c .before .before .before .before .before .before .before .args .s)) (c .before .before .before .before .before .before .before .args .f .at) (c .before .before .before .head .result) (c .before .before .before .head .ensures (c .before .before .before .before .before .before .before .args .f .base)) (c .if1 .taken) .within)
 
--- src/lib.rt:341:57
 part-find-start : tie.Need-part-find-start
 part-find-start c = omega (arith, step-of-word (c .before .before .before .before .before .before .before .args .f .base) (now (c .before .before .before .before .before .before .before .args .s)) (c .before .before .before .before .before .before .before .args .f .at) (c .before .before .before .head .result) (c .before .before .before .head .ensures (c .before .before .before .before .before .before .before .args .f .base)) (c .if1 .taken) .less, step-of-word (c .before .before .before .before .before .before .before .args .f .base) (now (c .before .before .before .before .before .before .before .args .s)) (c .before .before .before .before .before .before .before .args .f .at) (c .before .before .before .head .result) (c .before .before .before .head .ensures (c .before .before .before .before .before .before .before .args .f .base)) (c .if1 .taken) .within)
 
--- src/lib.rt:341:57
 part-find-end : tie.Need-part-find-end
 part-find-end c = omega (arith, step-of-word (c .before .before .before .before .before .before .before .args .f .base) (now (c .before .before .before .before .before .before .before .args .s)) (c .before .before .before .before .before .before .before .args .f .at) (c .before .before .before .head .result) (c .before .before .before .head .ensures (c .before .before .before .before .before .before .before .args .f .base)) (c .if1 .taken) .less, step-of-word (c .before .before .before .before .before .before .before .args .f .base) (now (c .before .before .before .before .before .before .before .args .s)) (c .before .before .before .before .before .before .before .args .f .at) (c .before .before .before .head .result) (c .before .before .before .head .ensures (c .before .before .before .before .before .before .before .args .f .base)) (c .if1 .taken) .within)
 
--- src/lib.rt:341:15
 find-requires : tie.Need-find-requires
 find-requires c κs = search needs
 
--- src/lib.rt:343:17
 enum-told : tie.Need-enum-told
 enum-told c = search needs
 
--- src/lib.rt:343:17
 unknown-item-requires : tie.Need-unknown-item-requires
 unknown-item-requires c κs = search needs
 
--- src/lib.rt:343:17
 returns : tie.Need-returns
 returns c = unknown-ends _ _ _ _ (c .before .before .before .before .before .before .before .before .before .before .before .before .args .f) _ _ _ _ (step-of-word (c .before .before .before .before .before .before .before .before .before .before .before .before .args .f .base) (now (c .before .before .before .before .before .before .before .before .before .before .before .before .args .s)) (c .before .before .before .before .before .before .before .before .before .before .before .before .args .f .at) (c .before .before .before .before .before .before .before .before .head .result) (c .before .before .before .before .before .before .before .before .head .ensures (c .before .before .before .before .before .before .before .before .before .before .before .before .args .f .base)) (c .before .before .before .before .before .if1 .taken)) (found-none (c .before .before .before .find .result) _ (c .before .enum-told .given .1) (c .before .before .before .find .ensures)) (c .unknown-item .result) (c .unknown-item .ensures)
 
--- src/lib.rt:345:23
 enum-known-q : tie.Need-enum-known-q
 enum-known-q c = search needs
 
--- src/lib.rt:346:17
 known-item-requires : tie.Need-known-item-requires
 known-item-requires c κs = let w = step-of-word (c .before .before .before .before .before .before .before .before .before .before .before .before .args .f .base) (now (c .before .before .before .before .before .before .before .before .before .before .before .before .args .s)) (c .before .before .before .before .before .before .before .before .before .before .before .before .args .f .at) (c .before .before .before .before .before .before .before .before .head .result) (c .before .before .before .before .before .before .before .before .head .ensures (c .before .before .before .before .before .before .before .before .before .before .before .before .args .f .base)) (c .before .before .before .before .before .if1 .taken) in search needs
 
--- src/lib.rt:346:17
 returns-2 : tie.Need-returns-2
 returns-2 c = known-ends _ _ _ _ (c .before .before .before .before .before .before .before .before .before .before .before .before .before .args .f) _ _ _ _ (step-of-word (c .before .before .before .before .before .before .before .before .before .before .before .before .before .args .f .base) (now (c .before .before .before .before .before .before .before .before .before .before .before .before .before .args .s)) (c .before .before .before .before .before .before .before .before .before .before .before .before .before .args .f .at) (c .before .before .before .before .before .before .before .before .before .head .result) (c .before .before .before .before .before .before .before .before .before .head .ensures (c .before .before .before .before .before .before .before .before .before .before .before .before .before .args .f .base)) (c .before .before .before .before .before .before .if1 .taken)) _ (found-at (c .before .before .before .before .find .result) _ _ (c .before .before .q .given .1) (c .before .before .before .before .find .ensures)) (c .known-item .result) (c .known-item .ensures)
 
--- src/lib.rt:350:41
 complete-requires : tie.Need-complete-requires
 complete-requires c κs = search needs
 
--- src/lib.rt:350:9
 end-at-requires : tie.Need-end-at-requires
 end-at-requires c κs = search needs
 
--- src/lib.rt:352:9
 returns-3 : tie.Need-returns-3
 returns-3 c = λ ks m. items-done _ _ (c .before .before .before .before .before .before .before .before .before .before .before .args .f) _ ks (c .before .before .before .before .before .before .before .head .result) (c .before .before .before .before .before .before .before .head .ensures _) _ _ (c .before .before .complete .ensures ∙ complete-marks _ _ _ ks m) (c .before .end-at .ensures) (c .before .before .before .before .if1 .left) (c .if2 .taken)
 
--- src/lib.rt:354:27
 add-t23 : tie.Need-add-t23
 add-t23 c = omega (arith, c .before .before .before .before .before .before .before .before .head .ensures 0 .within, c .before .before .before .before .before .before .before .before .before .before .before .before .pre)
 
--- src/lib.rt:331:1
 returns-4 : tie.Need-returns-4
 returns-4 c = λ ks m. items-stopped _ _ (c .before .before .before .before .before .before .before .before .before .before .before .before .args .f) _ ks (c .before .before .before .before .before .before .before .before .head .result) (c .before .before .before .before .before .before .before .before .head .ensures _) _ _ (c .before .before .before .complete .ensures ∙ complete-marks _ _ _ ks m) (c .before .before .end-at .ensures) (c .before .before .before .before .before .if1 .left) (c .before .if2 .left)
 

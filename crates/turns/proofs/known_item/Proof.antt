@@ -5,45 +5,31 @@ use Rattle.turns.proofs.Parts.{known-again, known-bare, step-of-equals}
 use borrow.Author.Needs.{needs}
 use Rattle.turns.proofs.known_item.Statement.{statement}
 use Rattle.turns.proofs.known_item.Tie as tie
-use Rattle.turns.proofs.known_item.Reads as reads
-use Rattle.turns.proofs.known_item.Lts as lts
-use Rattle.lookup.proofs.is_marked.Reads as is-marked-reads
-use Rattle.lookup.proofs.is_void.Reads as is-void-reads
-use Rattle.tokens.proofs.Cursor.head.Reads as head-reads
 
--- src/lib.rt:316:8
 is-marked-requires : tie.Need-is-marked-requires
 is-marked-requires c κs = search needs
 
--- src/lib.rt:317:34
 add-t15 : tie.Need-add-t15
 add-t15 c = search needs
 
--- src/lib.rt:317:9
 returns : tie.Need-returns
 returns c = λ vs next ks w i m h. known-again _ _ _ _ _ _ _ vs next ks w i m h (sym (c .before .is-marked .ensures) ∙ c .if1 .taken)
 
--- src/lib.rt:319:8
 is-void-requires : tie.Need-is-void-requires
 is-void-requires c κs = search needs
 
--- src/lib.rt:320:9
 returns-2 : tie.Need-returns-2
 returns-2 c = record { same = refl; start = refl; past = refl; new = sym (c .before .before .before .is-marked .ensures) ∙ c .before .before .if1 .left; void = sym (c .before .is-void .ensures) ∙ c .if2 .taken }
 
--- src/lib.rt:322:9
 head-requires : tie.Need-head-requires
 head-requires c κs = search needs
 
--- src/lib.rt:325:9
 returns-3 : tie.Need-returns-3
 returns-3 c = record { same = refl; new = sym (c .before .before .before .before .before .before .before .is-marked .ensures) ∙ c .before .before .before .before .before .before .if1 .left; void = sym (c .before .before .before .before .before .is-void .ensures) ∙ c .before .before .before .before .if2 .left; place = c .before .before .before .head .result .start; step = step-of-equals _ _ _ (c .before .before .before .head .result) (c .before .before .before .head .ensures _) (c .if3 .taken) }
 
--- src/lib.rt:327:23
 add-t18 : tie.Need-add-t18
 add-t18 c = omega (arith, c .before .before .before .before .head .ensures 0 .within, c .before .before .before .before .before .before .before .before .before .before .before .before .before .pre .0)
 
--- src/lib.rt:312:1
 returns-4 : tie.Need-returns-4
 returns-4 c = λ vs next ks w i m h. known-bare _ _ _ _ _ _ _ vs next ks w i m h (c .before .before .before .before .head .result) (c .before .before .before .before .head .ensures _) (sym (c .before .before .before .before .before .before .before .before .is-marked .ensures) ∙ c .before .before .before .before .before .before .before .if1 .left) (sym (c .before .before .before .before .before .before .is-void .ensures) ∙ c .before .before .before .before .before .if2 .left) (c .before .if3 .left)
 

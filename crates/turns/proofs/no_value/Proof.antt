@@ -5,24 +5,16 @@ use Rattle.turns.proofs.Parts.{none-stopped}
 use borrow.Author.Needs.{needs}
 use Rattle.turns.proofs.no_value.Statement.{statement}
 use Rattle.turns.proofs.no_value.Tie as tie
-use Rattle.turns.proofs.no_value.Reads as reads
-use Rattle.turns.proofs.no_value.Lts as lts
-use Rattle.tokens.proofs.Cursor.head.Reads as head-reads
-use Rattle.turns.proofs.unfit.Reads as unfit-reads
 
--- src/lib.rt:58:9
 head-requires : tie.Need-head-requires
 head-requires c κs = search needs
 
--- src/lib.rt:59:18
 unfit-requires : tie.Need-unfit-requires
 unfit-requires c κs = search needs
 
--- src/lib.rt:59:33
 add-t6 : tie.Need-add-t6
 add-t6 c = omega (arith, c .before .before .before .head .ensures 0 .within, c .before .before .before .before .before .pre)
 
--- src/lib.rt:53:1
 returns : tie.Need-returns
 returns c = λ before after. none-stopped (c .before .before .before .before .before .args .f .base) (now (c .before .before .before .before .before .args .s)) (c .before .before .before .before .before .args .f .at) (c .before .before .before .head .result) (c .before .before .before .head .ensures (c .before .before .before .before .before .args .f .base)) _ (c .before .before .unfit .ensures)
 

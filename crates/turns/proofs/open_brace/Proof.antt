@@ -5,28 +5,19 @@ use Rattle.turns.proofs.Parts.{step-of-opening, struct-stopped}
 use borrow.Author.Needs.{needs}
 use Rattle.turns.proofs.open_brace.Statement.{statement}
 use Rattle.turns.proofs.open_brace.Tie as tie
-use Rattle.turns.proofs.open_brace.Reads as reads
-use Rattle.turns.proofs.open_brace.Lts as lts
-use Rattle.tokens.proofs.Cursor.head.Reads as head-reads
-use Rattle.turns.proofs.unfit.Reads as unfit-reads
 
--- src/lib.rt:112:9
 head-requires : tie.Need-head-requires
 head-requires c κs = search needs
 
--- src/lib.rt:115:9
 returns : tie.Need-returns
 returns c = step-of-opening (c .before .before .before .before .before .args .f .base) (now (c .before .before .before .before .before .args .s)) (c .before .before .before .before .before .args .f .at) (c .before .before .before .head .result) (c .before .before .before .head .ensures (c .before .before .before .before .before .args .f .base)) (c .if1 .taken)
 
--- src/lib.rt:117:21
 unfit-requires : tie.Need-unfit-requires
 unfit-requires c κs = search needs
 
--- src/lib.rt:117:36
 add-t8 : tie.Need-add-t8
 add-t8 c = omega (arith, c .before .before .before .before .before .before .head .ensures 0 .within, c .before .before .before .before .before .before .before .before .pre)
 
--- src/lib.rt:107:1
 returns-2 : tie.Need-returns-2
 returns-2 c = struct-stopped (c .before .before .before .before .before .before .before .before .args .f .base) (now (c .before .before .before .before .before .before .before .before .args .s)) (c .before .before .before .before .before .before .before .before .args .f .at) (c .before .before .before .before .before .before .head .result) (c .before .before .before .before .before .before .head .ensures (c .before .before .before .before .before .before .before .before .args .f .base)) _ (c .before .before .before .if1 .left) (c .before .before .unfit .ensures)
 

@@ -5,40 +5,28 @@ use Rattle.turns.proofs.Parts.{step-of-closing, shut-stopped}
 use borrow.Author.Needs.{needs}
 use Rattle.turns.proofs.shut.Statement.{statement}
 use Rattle.turns.proofs.shut.Tie as tie
-use Rattle.turns.proofs.shut.Reads as reads
-use Rattle.turns.proofs.shut.Lts as lts
-use Rattle.rows.proofs.put_row.Reads as put-row-reads
-use Rattle.tokens.proofs.Cursor.head.Reads as head-reads
 
--- src/lib.rt:127:9
 head-requires : tie.Need-head-requires
 head-requires c κs = search needs
 
--- src/lib.rt:130:91
 add-t14 : tie.Need-add-t14
 add-t14 c = search needs
 
--- src/lib.rt:130:112
 add-t15 : tie.Need-add-t15
 add-t15 c = omega (arith, step-of-closing (c .before .before .before .before .before .before .before .before .before .before .args .f .base) (now (c .before .before .before .before .before .before .before .before .before .before .args .s)) (c .before .before .before .before .before .before .before .before .before .before .args .at) (c .before .before .before .before .before .before .before .head .result) (c .before .before .before .before .before .before .before .head .ensures (c .before .before .before .before .before .before .before .before .before .before .args .f .base)) (c .before .before .before .before .if1 .taken) .within, c .before .before .before .before .before .before .before .before .before .before .pre)
 
--- src/lib.rt:130:9
 put-row-requires : tie.Need-put-row-requires
 put-row-requires c κs = let w = step-of-closing (c .before .before .before .before .before .before .before .before .before .before .args .f .base) (now (c .before .before .before .before .before .before .before .before .before .before .args .s)) (c .before .before .before .before .before .before .before .before .before .before .args .at) (c .before .before .before .before .before .before .before .head .result) (c .before .before .before .before .before .before .before .head .ensures (c .before .before .before .before .before .before .before .before .before .before .args .f .base)) (c .before .before .before .before .if1 .taken) in search needs
 
--- src/lib.rt:131:9
 same-length : tie.Need-same-length
 same-length c = search needs
 
--- src/lib.rt:131:9
 returns : tie.Need-returns
 returns c = record { place = c .before .before .before .before .before .before .before .before .before .before .head .result .start; step = step-of-closing (c .before .before .before .before .before .before .before .before .before .before .before .before .before .args .f .base) (now (c .before .before .before .before .before .before .before .before .before .before .before .before .before .args .s)) (c .before .before .before .before .before .before .before .before .before .before .before .before .before .args .at) (c .before .before .before .before .before .before .before .before .before .before .head .result) (c .before .before .before .before .before .before .before .before .before .before .head .ensures (c .before .before .before .before .before .before .before .before .before .before .before .before .before .args .f .base)) (c .before .before .before .before .before .before .before .if1 .taken); written = c .before .before .put-row .ensures; same = refl }
 
--- src/lib.rt:133:22
 add-t17 : tie.Need-add-t17
 add-t17 c = omega (arith, c .before .before .before .before .before .head .ensures 0 .within, c .before .before .before .before .before .before .before .before .pre)
 
--- src/lib.rt:121:1
 returns-2 : tie.Need-returns-2
 returns-2 c = shut-stopped (c .before .before .before .before .before .before .before .before .args .f .base) (now (c .before .before .before .before .before .before .before .before .args .s)) (c .before .before .before .before .before .before .before .before .args .at) (c .before .before .before .before .before .head .result) (c .before .before .before .before .before .head .ensures (c .before .before .before .before .before .before .before .before .args .f .base)) (c .before .before .if1 .left)
 

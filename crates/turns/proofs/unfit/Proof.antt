@@ -5,25 +5,19 @@ use Rattle.turns.specs.Turns.{unfitOf}
 use Rattle.turns.proofs.Parts.{unfit-none}
 use Rattle.turns.proofs.unfit.Statement.{statement}
 use Rattle.turns.proofs.unfit.Tie as tie
-use Rattle.turns.proofs.unfit.Reads as reads
-use Rattle.turns.proofs.unfit.Lts as lts
 
--- src/lib.rt:41:9
 returns : tie.Need-returns
 unfolding unfitOf
 returns c = rw (c .if1 .taken) refl
 
--- src/lib.rt:44:9
 returns-2 : tie.Need-returns-2
 unfolding unfitOf
 returns-2 c = rw (c .if2 .taken) refl
 
--- src/lib.rt:47:9
 returns-3 : tie.Need-returns-3
 unfolding unfitOf
 returns-3 c = rw (c .if3 .taken) refl
 
--- src/lib.rt:37:1
 returns-4 : tie.Need-returns-4
 returns-4 c = unfit-none _ (c .before .before .if1 .left) (c .before .if2 .left) (c .if3 .left)
 

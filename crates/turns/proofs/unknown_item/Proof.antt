@@ -7,36 +7,25 @@ use Rattle.turns.proofs.Parts.{skip-list, skip-stopped, skip-word}
 use borrow.Author.Needs.{needs}
 use Rattle.turns.proofs.unknown_item.Statement.{statement}
 use Rattle.turns.proofs.unknown_item.Tie as tie
-use Rattle.turns.proofs.unknown_item.Reads as reads
-use Rattle.turns.proofs.unknown_item.Lts as lts
-use Rattle.tokens.proofs.Cursor.head.Reads as head-reads
-use Rattle.unknown.proofs.list.Reads as list-reads
 
--- src/lib.rt:296:9
 head-requires : tie.Need-head-requires
 head-requires c κs = search needs
 
--- src/lib.rt:299:15
 list-requires : tie.Need-list-requires
 list-requires c κs = search needs
 
--- src/lib.rt:300:26
 enum-known-v : tie.Need-enum-known-v
 enum-known-v c = search needs
 
--- src/lib.rt:301:17
 returns : tie.Need-returns
 returns c = skip-list _ _ _ (c .before .before .before .before .before .before .before .head .result) (c .before .before .before .before .before .before .before .head .ensures _) (schemaOf []) (c .before .before .before .before .if1 .taken) _ (rw (c .before .v .given .1) at (c .before .before .before .list .ensures))
 
--- src/lib.rt:303:29
 enum-known-k : tie.Need-enum-known-k
 enum-known-k c = search needs
 
--- src/lib.rt:304:17
 returns-2 : tie.Need-returns-2
 returns-2 c = skip-stopped _ _ _ (c .before .before .before .before .before .before .before .head .result) (c .before .before .before .before .before .before .before .head .ensures _) (schemaOf []) (c .before .before .before .before .if1 .taken) _ _ (rw (c .before .k .given .1) at (c .before .before .before .list .ensures))
 
--- src/lib.rt:292:1
 returns-3 : tie.Need-returns-3
 returns-3 c = skip-word _ _ _ (c .before .before .before .head .result) (c .before .before .before .head .ensures _) (c .if1 .left)
 

@@ -1,0 +1,2748 @@
+use mathlib.Core.Path.{_≡_, sym, refl, ap, subst, _∙_}
+use mathlib.Core.List.{[]}
+use Prim.Native.Nat.{_+_, _-_, _*_, _≤_}
+use native.Mathlib.Omega.{arith}
+use native.Mathlib.Nat.{pos-of-ne-zero}
+use lib.ListN.{length}
+use borrow.Author.Tests.{not-true, not-false}
+use Rattle.schema.specs.Schema as schema
+use Rattle.tokens.proofs.Heads.{step-within}
+use denote.Ref.{now}
+use borrow.Author.Needs.{needs}
+use Rattle.lookup.specs.Questions.{schemaAt, shapeOf}
+use Rattle.lookup.proofs.Marked.{marks-more}
+use Rattle.lookup.specs.IntList.{IntsOf}
+use Rattle.unknown.proofs.AlongLaws.{part-end}
+use Rattle.turns.proofs.Parts.{found-at, found-none}
+use Rattle.reader.specs.Turning.{Marked, endPlace}
+use Rattle.reader.proofs.Steps.{Listing, listing-start, listing-room, listing-named, listing-ints, listing-depth, listing-turn, listing-on, listing-out, Iteming, iteming-start, iteming-room, iteming-depth, iteming-turn, iteming-on, iteming-out, Fielding, fielding-start, fielding-room, fielding-depth, fielding-items, fielding-on, fielding-out, Choosing, choosing-start, choosing-room, choosing-base, choosing-depth, choosing-value, choosing-whole, choosing-stopped, choosing-on, deeper-less, plain-fits, whole-fits, next-between, body-none, body-ends, room-deeper, room-inner, braced-within, braced-ends, braced-refused, quick-element, element-more, element-last, element-after, element-refused, field-on, field-refused, field-none, items-none, item-void, item-list, item-refused, item-passed, plain-none, plain-simple, plain-struct, isPlace}
+use Prim.Native.Nat.{ℕ, _<_}
+use borrow.Fn.Kinds.{In}
+use borrow.Fn.PlainCycle.{Measures, is, falls, and}
+use Rattle.reader.proofs.body.Reads as body
+use Rattle.reader.proofs.body.Kinds as body-kinds
+use Rattle.reader.proofs.+body+braced+choice+element+field+fields+item+items+list+next_element+value.Lts-body as body-lts
+use Rattle.reader.proofs.braced.Reads as braced
+use Rattle.reader.proofs.braced.Kinds as braced-kinds
+use Rattle.reader.proofs.+body+braced+choice+element+field+fields+item+items+list+next_element+value.Lts-braced as braced-lts
+use Rattle.reader.proofs.choice.Reads as choice
+use Rattle.reader.proofs.choice.Kinds as choice-kinds
+use Rattle.reader.proofs.+body+braced+choice+element+field+fields+item+items+list+next_element+value.Lts-choice as choice-lts
+use Rattle.reader.proofs.element.Reads as element
+use Rattle.reader.proofs.element.Kinds as element-kinds
+use Rattle.reader.proofs.+body+braced+choice+element+field+fields+item+items+list+next_element+value.Lts-element as element-lts
+use Rattle.reader.proofs.field.Reads as field
+use Rattle.reader.proofs.field.Kinds as field-kinds
+use Rattle.reader.proofs.+body+braced+choice+element+field+fields+item+items+list+next_element+value.Lts-field as field-lts
+use Rattle.reader.proofs.fields.Reads as fields
+use Rattle.reader.proofs.fields.Kinds as fields-kinds
+use Rattle.reader.proofs.+body+braced+choice+element+field+fields+item+items+list+next_element+value.Lts-fields as fields-lts
+use Rattle.reader.proofs.item.Reads as item
+use Rattle.reader.proofs.item.Kinds as item-kinds
+use Rattle.reader.proofs.+body+braced+choice+element+field+fields+item+items+list+next_element+value.Lts-item as item-lts
+use Rattle.reader.proofs.items.Reads as items
+use Rattle.reader.proofs.items.Kinds as items-kinds
+use Rattle.reader.proofs.+body+braced+choice+element+field+fields+item+items+list+next_element+value.Lts-items as items-lts
+use Rattle.reader.proofs.list.Reads as list
+use Rattle.reader.proofs.list.Kinds as list-kinds
+use Rattle.reader.proofs.+body+braced+choice+element+field+fields+item+items+list+next_element+value.Lts-list as list-lts
+use Rattle.reader.proofs.next_element.Reads as next-element
+use Rattle.reader.proofs.next_element.Kinds as next-element-kinds
+use Rattle.reader.proofs.+body+braced+choice+element+field+fields+item+items+list+next_element+value.Lts-next_element as next-element-lts
+use Rattle.reader.proofs.value.Reads as value
+use Rattle.reader.proofs.value.Kinds as value-kinds
+use Rattle.reader.proofs.+body+braced+choice+element+field+fields+item+items+list+next_element+value.Lts-value as value-lts
+use Rattle.lookup.proofs.core.Reads as core-reads
+use Rattle.lookup.proofs.ints_of.Reads as ints-of-reads
+use Rattle.lookup.proofs.kind.Reads as kind-reads
+use Rattle.lookup.proofs.mark.Reads as mark-reads
+use Rattle.lookup.proofs.next_untagged.Reads as next-untagged-reads
+use Rattle.lookup.proofs.no_marks.Reads as no-marks-reads
+use Rattle.reader.proofs.close_chain.Reads as close-chain-reads
+use Rattle.reader.proofs.deeper.Reads as deeper-reads
+use Rattle.reader.proofs.for_field.Reads as for-field-reads
+use Rattle.reader.proofs.inner.Reads as inner-reads
+use Rattle.reader.proofs.is_union.Reads as is-union-reads
+use Rattle.reader.proofs.moved.Reads as moved-reads
+use Rattle.reader.proofs.open_row.Reads as open-row-reads
+use Rattle.reader.proofs.under.Reads as under-reads
+use Rattle.reader.proofs.whole.Reads as whole-reads
+use Rattle.rows.proofs.put_row.Reads as put-row-reads
+use Rattle.tokens.proofs.Cursor.head.Reads as head-reads
+use Rattle.turns.proofs.after_value.Reads as after-value-reads
+use Rattle.turns.proofs.choose.Reads as choose-reads
+use Rattle.turns.proofs.field_at.Reads as field-at-reads
+use Rattle.turns.proofs.item_at.Reads as item-at-reads
+use Rattle.turns.proofs.no_value.Reads as no-value-reads
+use Rattle.turns.proofs.open_brace.Reads as open-brace-reads
+use Rattle.turns.proofs.quick_int.Reads as quick-int-reads
+use Rattle.turns.proofs.shut.Reads as shut-reads
+use Rattle.turns.proofs.simple.Reads as simple-reads
+use Rattle.reader.proofs.+body+braced+choice+element+field+fields+item+items+list+next_element+value.{
+  statement,
+}
+use Rattle.reader.proofs.+body+braced+choice+element+field+fields+item+items+list+next_element+value.Tie.{
+  close,
+}
+
+abbrev μ-body : Measures 4 body-kinds.ps ℕ
+μ-body κs a = 11 * a .1 .1 .1 .1 .1 .0 .depth + 0
+
+abbrev μ-braced : Measures 4 braced-kinds.ps ℕ
+μ-braced κs a = 11 * a .1 .1 .1 .1 .1 .0 .depth + 2
+
+abbrev μ-choice : Measures 4 choice-kinds.ps ℕ
+μ-choice κs a = 11 * a .1 .1 .1 .1 .1 .0 .depth + 4
+
+abbrev μ-element : Measures 4 element-kinds.ps ℕ
+μ-element κs a = 11 * a .1 .1 .1 .1 .1 .0 .depth + 5
+
+abbrev μ-field : Measures 4 field-kinds.ps ℕ
+μ-field κs a = 11 * a .1 .1 .1 .1 .1 .0 .depth + 9
+
+abbrev μ-fields : Measures 4 fields-kinds.ps ℕ
+μ-fields κs a = 11 * a .1 .1 .1 .1 .1 .0 .depth + 10
+
+abbrev μ-item : Measures 5 item-kinds.ps ℕ
+μ-item κs a = 11 * a .1 .1 .1 .1 .1 .0 .depth + 8
+
+abbrev μ-items : Measures 4 items-kinds.ps ℕ
+μ-items κs a = 11 * a .1 .1 .1 .1 .1 .0 .depth + 9
+
+abbrev μ-list : Measures 4 list-kinds.ps ℕ
+μ-list κs a = 11 * a .1 .1 .1 .1 .1 .0 .depth + 7
+
+abbrev μ-next-element : Measures 4 next-element-kinds.ps ℕ
+μ-next-element κs a = 11 * a .1 .1 .1 .1 .1 .0 .depth + 6
+
+abbrev μ-value : Measures 4 value-kinds.ps ℕ
+μ-value κs a = 11 * a .1 .1 .1 .1 .1 .0 .depth + 3
+
+abbrev body-at : ℕ → In 4 body-kinds.ps
+body-at t = and 4 body-kinds.ps (is 4 body-kinds.ps μ-body t) body.Pre
+
+abbrev body-below : ℕ → In 4 body-kinds.ps
+body-below t = and 4 body-kinds.ps (falls 4 body-kinds.ps _<_ μ-body t) body.Pre
+
+abbrev braced-at : ℕ → In 4 braced-kinds.ps
+braced-at t = and 4 braced-kinds.ps (is 4 braced-kinds.ps μ-braced t) braced.Pre
+
+abbrev braced-below : ℕ → In 4 braced-kinds.ps
+braced-below t = and 4 braced-kinds.ps (falls 4 braced-kinds.ps _<_ μ-braced t) braced.Pre
+
+abbrev choice-at : ℕ → In 4 choice-kinds.ps
+choice-at t = and 4 choice-kinds.ps (is 4 choice-kinds.ps μ-choice t) choice.Pre
+
+abbrev choice-below : ℕ → In 4 choice-kinds.ps
+choice-below t = and 4 choice-kinds.ps (falls 4 choice-kinds.ps _<_ μ-choice t) choice.Pre
+
+abbrev element-at : ℕ → In 4 element-kinds.ps
+element-at t = and 4 element-kinds.ps (is 4 element-kinds.ps μ-element t) element.Pre
+
+abbrev element-below : ℕ → In 4 element-kinds.ps
+element-below t = and 4 element-kinds.ps (falls 4 element-kinds.ps _<_ μ-element t) element.Pre
+
+abbrev field-at : ℕ → In 4 field-kinds.ps
+field-at t = and 4 field-kinds.ps (is 4 field-kinds.ps μ-field t) field.Pre
+
+abbrev field-below : ℕ → In 4 field-kinds.ps
+field-below t = and 4 field-kinds.ps (falls 4 field-kinds.ps _<_ μ-field t) field.Pre
+
+abbrev fields-at : ℕ → In 4 fields-kinds.ps
+fields-at t = and 4 fields-kinds.ps (is 4 fields-kinds.ps μ-fields t) fields.Pre
+
+abbrev fields-below : ℕ → In 4 fields-kinds.ps
+fields-below t = and 4 fields-kinds.ps (falls 4 fields-kinds.ps _<_ μ-fields t) fields.Pre
+
+abbrev item-at : ℕ → In 5 item-kinds.ps
+item-at t = and 5 item-kinds.ps (is 5 item-kinds.ps μ-item t) item.Pre
+
+abbrev item-below : ℕ → In 5 item-kinds.ps
+item-below t = and 5 item-kinds.ps (falls 5 item-kinds.ps _<_ μ-item t) item.Pre
+
+abbrev items-at : ℕ → In 4 items-kinds.ps
+items-at t = and 4 items-kinds.ps (is 4 items-kinds.ps μ-items t) items.Pre
+
+abbrev items-below : ℕ → In 4 items-kinds.ps
+items-below t = and 4 items-kinds.ps (falls 4 items-kinds.ps _<_ μ-items t) items.Pre
+
+abbrev list-at : ℕ → In 4 list-kinds.ps
+list-at t = and 4 list-kinds.ps (is 4 list-kinds.ps μ-list t) list.Pre
+
+abbrev list-below : ℕ → In 4 list-kinds.ps
+list-below t = and 4 list-kinds.ps (falls 4 list-kinds.ps _<_ μ-list t) list.Pre
+
+abbrev next-element-at : ℕ → In 4 next-element-kinds.ps
+next-element-at t =
+    and 4 next-element-kinds.ps (is 4 next-element-kinds.ps μ-next-element t) next-element.Pre
+
+abbrev next-element-below : ℕ → In 4 next-element-kinds.ps
+next-element-below t =
+    and
+    4
+    next-element-kinds.ps
+    (falls 4 next-element-kinds.ps _<_ μ-next-element t)
+    next-element.Pre
+
+abbrev value-at : ℕ → In 4 value-kinds.ps
+value-at t = and 4 value-kinds.ps (is 4 value-kinds.ps μ-value t) value.Pre
+
+abbrev value-below : ℕ → In 4 value-kinds.ps
+value-below t = and 4 value-kinds.ps (falls 4 value-kinds.ps _<_ μ-value t) value.Pre
+
+-- src/lib.rt:482:13
+body-head-requires : (t : ℕ) → body-lts.Need-head-requires (
+  head-reads.Asked,
+  head-reads.Learnt,
+  deeper-reads.Asked,
+  deeper-reads.Learnt,
+  fields-below t,
+  fields.Post,
+) (body-at t) body.Post
+body-head-requires t c κs = search needs
+
+-- src/lib.rt:483:32
+body-add-t11 : (t : ℕ) → body-lts.Need-add-t11 (
+  head-reads.Asked,
+  head-reads.Learnt,
+  deeper-reads.Asked,
+  deeper-reads.Learnt,
+  fields-below t,
+  fields.Post,
+) (body-at t) body.Post
+body-add-t11 t c = omega (arith, c .before .before .head .ensures 0 .within, c .before .before .before .before .before .before .before .before .before .pre .1 .short)
+
+-- src/lib.rt:483:9
+body-returns : (t : ℕ) → body-lts.Need-returns (
+  head-reads.Asked,
+  head-reads.Learnt,
+  deeper-reads.Asked,
+  deeper-reads.Learnt,
+  fields-below t,
+  fields.Post,
+) (body-at t) body.Post
+body-returns t c = body-none _ _ (c .before .before .before .before .before .before .before .before .before .args .f) _ (c .before .before .head .result) (c .before .before .head .ensures _) (c .before .before .before .if1 .taken)
+
+-- src/lib.rt:485:37
+body-deeper-requires : (t : ℕ) → body-lts.Need-deeper-requires (
+  head-reads.Asked,
+  head-reads.Learnt,
+  deeper-reads.Asked,
+  deeper-reads.Learnt,
+  fields-below t,
+  fields.Post,
+) (body-at t) body.Post
+body-deeper-requires t c κs = pos-of-ne-zero (c .before .if1 .left)
+
+-- src/lib.rt:485:5
+body-fields-requires : (t : ℕ) → body-lts.Need-fields-requires (
+  head-reads.Asked,
+  head-reads.Learnt,
+  deeper-reads.Asked,
+  deeper-reads.Learnt,
+  fields-below t,
+  fields.Post,
+) (body-at t) body.Post
+body-fields-requires t c κs = rw (c .deeper .ensures) (omega (arith, c .before .before .before .before .before .before .before .before .pre .1, pos-of-ne-zero (c .before .before .if1 .left)))
+
+-- src/lib.rt:468:1
+body-same-length : (t : ℕ) → body-lts.Need-same-length (
+  head-reads.Asked,
+  head-reads.Learnt,
+  deeper-reads.Asked,
+  deeper-reads.Learnt,
+  fields-below t,
+  fields.Post,
+) (body-at t) body.Post
+body-same-length t c = search needs
+
+-- src/lib.rt:468:1
+body-returns-2 : (t : ℕ) → body-lts.Need-returns-2 (
+  head-reads.Asked,
+  head-reads.Learnt,
+  deeper-reads.Asked,
+  deeper-reads.Learnt,
+  fields-below t,
+  fields.Post,
+) (body-at t) body.Post
+body-returns-2 t c = body-ends _ _ (c .before .before .before .before .before .before .before .before .before .before .before .args .f) _ _ _ (c .before .before .fields .result) (c .before .before .before .before .before .if1 .left) (rw (c .before .before .before .deeper .ensures) at (c .before .before .fields .ensures))
+
+-- src/lib.rt:233:11
+braced-open-brace-requires : (t : ℕ) → braced-lts.Need-open-brace-requires (
+  open-brace-reads.Asked,
+  open-brace-reads.Learnt,
+  inner-reads.Asked,
+  inner-reads.Learnt,
+  body-below t,
+  body.Post,
+  shut-reads.Asked,
+  shut-reads.Learnt,
+) (braced-at t) braced.Post
+braced-open-brace-requires t c κs = omega (arith, c .before .before .before .before .pre .1 .0 .short)
+
+-- src/lib.rt:234:20
+braced-enum-known-a : (t : ℕ) → braced-lts.Need-enum-known-a (
+  open-brace-reads.Asked,
+  open-brace-reads.Learnt,
+  inner-reads.Asked,
+  inner-reads.Learnt,
+  body-below t,
+  body.Post,
+  shut-reads.Asked,
+  shut-reads.Learnt,
+) (braced-at t) braced.Post
+braced-enum-known-a t c = search needs
+
+-- src/lib.rt:236:40
+braced-sub-body : (t : ℕ) → braced-lts.Need-sub-body (
+  open-brace-reads.Asked,
+  open-brace-reads.Learnt,
+  inner-reads.Asked,
+  inner-reads.Learnt,
+  body-below t,
+  body.Post,
+  shut-reads.Asked,
+  shut-reads.Learnt,
+) (braced-at t) braced.Post
+braced-sub-body t c = let o = (rw (c .before .a .given .1) at (c .before .before .before .open-brace .ensures)) in omega (arith, o .within)
+
+-- src/lib.rt:236:40
+braced-part-body-start : (t : ℕ) → braced-lts.Need-part-body-start (
+  open-brace-reads.Asked,
+  open-brace-reads.Learnt,
+  inner-reads.Asked,
+  inner-reads.Learnt,
+  body-below t,
+  body.Post,
+  shut-reads.Asked,
+  shut-reads.Learnt,
+) (braced-at t) braced.Post
+braced-part-body-start t c = let o = (rw (c .before .a .given .1) at (c .before .before .before .open-brace .ensures)) in omega (arith, o .within)
+
+-- src/lib.rt:236:40
+braced-part-body-end : (t : ℕ) → braced-lts.Need-part-body-end (
+  open-brace-reads.Asked,
+  open-brace-reads.Learnt,
+  inner-reads.Asked,
+  inner-reads.Learnt,
+  body-below t,
+  body.Post,
+  shut-reads.Asked,
+  shut-reads.Learnt,
+) (braced-at t) braced.Post
+braced-part-body-end t c = let o = (rw (c .before .a .given .1) at (c .before .before .before .open-brace .ensures)) in omega (arith, o .within)
+
+-- src/lib.rt:236:55
+braced-inner-requires : (t : ℕ) → braced-lts.Need-inner-requires (
+  open-brace-reads.Asked,
+  open-brace-reads.Learnt,
+  inner-reads.Asked,
+  inner-reads.Learnt,
+  body-below t,
+  body.Post,
+  shut-reads.Asked,
+  shut-reads.Learnt,
+) (braced-at t) braced.Post
+braced-inner-requires t c κs = let o = (rw (c .before .before .before .a .given .1) at (c .before .before .before .before .before .open-brace .ensures)) in omega (arith, o .within, c .before .before .before .before .before .before .before .before .before .before .pre .1 .0)
+
+-- src/lib.rt:236:19
+braced-body-requires : (t : ℕ) → braced-lts.Need-body-requires (
+  open-brace-reads.Asked,
+  open-brace-reads.Learnt,
+  inner-reads.Asked,
+  inner-reads.Learnt,
+  body-below t,
+  body.Post,
+  shut-reads.Asked,
+  shut-reads.Learnt,
+) (braced-at t) braced.Post
+braced-body-requires t c κs = let o = (rw (c .before .before .before .before .a .given .1) at (c .before .before .before .before .before .before .open-brace .ensures)) in let q = room-inner (c .before .before .before .before .before .before .before .before .before .before .before .args .f) (now (c .before .before .before .before .before .before .before .before .before .before .before .args .s)) _ _ 0 (c .before .before .before .before .before .before .before .before .before .before .before .pre .1 .0) (step-within _ _ _ _ _ _ o .0) (o .within) in rw (c .inner .ensures) (omega (arith, q))
+
+-- src/lib.rt:237:27
+braced-enum-known-w : (t : ℕ) → braced-lts.Need-enum-known-w (
+  open-brace-reads.Asked,
+  open-brace-reads.Learnt,
+  inner-reads.Asked,
+  inner-reads.Learnt,
+  body-below t,
+  body.Post,
+  shut-reads.Asked,
+  shut-reads.Learnt,
+) (braced-at t) braced.Post
+braced-enum-known-w t c = search needs
+
+-- src/lib.rt:237:63
+braced-add-shut : (t : ℕ) → braced-lts.Need-add-shut (
+  open-brace-reads.Asked,
+  open-brace-reads.Learnt,
+  inner-reads.Asked,
+  inner-reads.Learnt,
+  body-below t,
+  body.Post,
+  shut-reads.Asked,
+  shut-reads.Learnt,
+) (braced-at t) braced.Post
+braced-add-shut t c = let b = (rw (c .before .before .before .before .before .before .before .before .inner .ensures, c .before .before .before .w .given .1) at (c .before .before .before .before .before .before .before .body .ensures)) in omega (arith, braced-within _ _ (c .before .before .before .before .before .before .before .before .before .before .before .before .before .before .before .before .before .before .before .args .f) _ _ _ _ _ [] (rw (c .before .before .before .before .before .before .before .before .before .before .before .before .a .given .1) at (c .before .before .before .before .before .before .before .before .before .before .before .before .before .before .open-brace .ensures)) _ _ b, c .before .before .before .before .before .before .before .before .before .before .before .before .before .before .before .before .before .before .before .pre .1 .0)
+
+-- src/lib.rt:237:36
+braced-shut-requires : (t : ℕ) → braced-lts.Need-shut-requires (
+  open-brace-reads.Asked,
+  open-brace-reads.Learnt,
+  inner-reads.Asked,
+  inner-reads.Learnt,
+  body-below t,
+  body.Post,
+  shut-reads.Asked,
+  shut-reads.Learnt,
+) (braced-at t) braced.Post
+braced-shut-requires t c κs = let o = (rw (c .before .before .before .before .before .before .before .before .before .before .before .before .a .given .1) at (c .before .before .before .before .before .before .before .before .before .before .before .before .before .before .open-brace .ensures)) in omega (arith, o .less, o .within, c .before .before .before .before .before .before .before .before .before .before .before .before .before .before .before .before .before .before .before .pre .1 .0, c .before .before .before .before .before .before .before .before .before .before .before .before .before .before .before .before .before .before .before .pre .1 .1)
+
+-- src/lib.rt:238:30
+braced-enum-known-k : (t : ℕ) → braced-lts.Need-enum-known-k (
+  open-brace-reads.Asked,
+  open-brace-reads.Learnt,
+  inner-reads.Asked,
+  inner-reads.Learnt,
+  body-below t,
+  body.Post,
+  shut-reads.Asked,
+  shut-reads.Learnt,
+) (braced-at t) braced.Post
+braced-enum-known-k t c = search needs
+
+-- src/lib.rt:241:25
+braced-enum-known-k-2 : (t : ℕ) → braced-lts.Need-enum-known-k-2 (
+  open-brace-reads.Asked,
+  open-brace-reads.Learnt,
+  inner-reads.Asked,
+  inner-reads.Learnt,
+  body-below t,
+  body.Post,
+  shut-reads.Asked,
+  shut-reads.Learnt,
+) (braced-at t) braced.Post
+braced-enum-known-k-2 t c = search needs
+
+-- src/lib.rt:220:1
+braced-same-length : (t : ℕ) → braced-lts.Need-same-length (
+  open-brace-reads.Asked,
+  open-brace-reads.Learnt,
+  inner-reads.Asked,
+  inner-reads.Learnt,
+  body-below t,
+  body.Post,
+  shut-reads.Asked,
+  shut-reads.Learnt,
+) (braced-at t) braced.Post
+braced-same-length t c = search needs
+
+-- src/lib.rt:220:1
+braced-returns : (t : ℕ) → braced-lts.Need-returns (
+  open-brace-reads.Asked,
+  open-brace-reads.Learnt,
+  inner-reads.Asked,
+  inner-reads.Learnt,
+  body-below t,
+  body.Post,
+  shut-reads.Asked,
+  shut-reads.Learnt,
+) (braced-at t) braced.Post
+braced-returns t c = braced-ends _ _ (c .before .before .before .before .before .before .before .before .before .before .before .before .before .before .before .before .before .before .before .before .before .before .args .f) _ _ _ _ _ _ (rw (c .before .before .before .before .before .before .before .before .before .before .before .before .before .before .before .a .given .1) at (c .before .before .before .before .before .before .before .before .before .before .before .before .before .before .before .before .before .open-brace .ensures)) _ _ (rw (c .before .before .before .before .before .before .before .before .before .before .before .inner .ensures, c .before .before .before .before .before .before .w .given .1) at (c .before .before .before .before .before .before .before .before .before .before .body .ensures)) (c .before .before .shut .result) (c .before .before .shut .ensures)
+
+-- src/lib.rt:220:1
+braced-same-length-2 : (t : ℕ) → braced-lts.Need-same-length-2 (
+  open-brace-reads.Asked,
+  open-brace-reads.Learnt,
+  inner-reads.Asked,
+  inner-reads.Learnt,
+  body-below t,
+  body.Post,
+  shut-reads.Asked,
+  shut-reads.Learnt,
+) (braced-at t) braced.Post
+braced-same-length-2 t c = search needs
+
+-- src/lib.rt:220:1
+braced-returns-2 : (t : ℕ) → braced-lts.Need-returns-2 (
+  open-brace-reads.Asked,
+  open-brace-reads.Learnt,
+  inner-reads.Asked,
+  inner-reads.Learnt,
+  body-below t,
+  body.Post,
+  shut-reads.Asked,
+  shut-reads.Learnt,
+) (braced-at t) braced.Post
+braced-returns-2 t c = braced-refused _ _ (c .before .before .before .before .before .before .before .before .before .before .before .before .before .before .before .before .before .args .f) _ _ _ [] [] [] (rw (c .before .before .before .before .before .before .before .before .before .before .a .given .1) at (c .before .before .before .before .before .before .before .before .before .before .before .before .open-brace .ensures)) _ _ (rw (c .before .before .before .before .before .before .inner .ensures, c .before .k .given .1) at (c .before .before .before .before .before .body .ensures))
+
+-- src/lib.rt:220:1
+braced-returns-3 : (t : ℕ) → braced-lts.Need-returns-3 (
+  open-brace-reads.Asked,
+  open-brace-reads.Learnt,
+  inner-reads.Asked,
+  inner-reads.Learnt,
+  body-below t,
+  body.Post,
+  shut-reads.Asked,
+  shut-reads.Learnt,
+) (braced-at t) braced.Post
+braced-returns-3 t c = (rw (c .before .k2 .given .1) at (c .before .before .before .open-brace .ensures)) _ _
+
+abbrev choice-Inv-loop : choice-lts.InvT-loop
+choice-Inv-loop table offs n s rows₀ f g₀ rows g = Choosing (schemaAt table offs n) s f g n rows₀ rows
+
+abbrev choice-μ-loop : choice-lts.MeasureT-loop
+choice-μ-loop table offs n s rows₀ f g₀ rows g = length s - g .at
+
+-- src/lib.rt:195:5
+choice-loop-holds : (t : ℕ) → choice-lts.Need-loop-holds (
+  core-reads.Asked,
+  core-reads.Learnt,
+  is-union-reads.Asked,
+  is-union-reads.Learnt,
+  value-below t,
+  value.Post,
+  close-chain-reads.Asked,
+  close-chain-reads.Learnt,
+  choose-reads.Asked,
+  choose-reads.Learnt,
+  open-row-reads.Asked,
+  open-row-reads.Learnt,
+  under-reads.Asked,
+  under-reads.Learnt,
+  whole-reads.Asked,
+  whole-reads.Learnt,
+) (choice-at t) choice.Post choice-Inv-loop choice-μ-loop
+choice-loop-holds t c = choosing-start _ _ _ _ _ (c .before .before .before .before .pre .1 .0) (c .before .before .before .before .pre .1 .1)
+
+-- src/lib.rt:196:13
+choice-core-requires : (t : ℕ) → choice-lts.Need-core-requires (
+  core-reads.Asked,
+  core-reads.Learnt,
+  is-union-reads.Asked,
+  is-union-reads.Learnt,
+  value-below t,
+  value.Post,
+  close-chain-reads.Asked,
+  close-chain-reads.Learnt,
+  choose-reads.Asked,
+  choose-reads.Learnt,
+  open-row-reads.Asked,
+  open-row-reads.Learnt,
+  under-reads.Asked,
+  under-reads.Learnt,
+  whole-reads.Asked,
+  whole-reads.Learnt,
+) (choice-at t) choice.Post choice-Inv-loop choice-μ-loop
+choice-core-requires t c κs = search needs
+
+-- src/lib.rt:197:13
+choice-is-union-requires : (t : ℕ) → choice-lts.Need-is-union-requires (
+  core-reads.Asked,
+  core-reads.Learnt,
+  is-union-reads.Asked,
+  is-union-reads.Learnt,
+  value-below t,
+  value.Post,
+  close-chain-reads.Asked,
+  close-chain-reads.Learnt,
+  choose-reads.Asked,
+  choose-reads.Learnt,
+  open-row-reads.Asked,
+  open-row-reads.Learnt,
+  under-reads.Asked,
+  under-reads.Learnt,
+  whole-reads.Asked,
+  whole-reads.Learnt,
+) (choice-at t) choice.Post choice-Inv-loop choice-μ-loop
+choice-is-union-requires t c κs = search needs
+
+-- src/lib.rt:198:17
+choice-value-requires : (t : ℕ) → choice-lts.Need-value-requires (
+  core-reads.Asked,
+  core-reads.Learnt,
+  is-union-reads.Asked,
+  is-union-reads.Learnt,
+  value-below t,
+  value.Post,
+  close-chain-reads.Asked,
+  close-chain-reads.Learnt,
+  choose-reads.Asked,
+  choose-reads.Learnt,
+  open-row-reads.Asked,
+  open-row-reads.Learnt,
+  under-reads.Asked,
+  under-reads.Learnt,
+  whole-reads.Asked,
+  whole-reads.Learnt,
+) (choice-at t) choice.Post choice-Inv-loop choice-μ-loop
+choice-value-requires t c κs = let r = (choosing-room (c .before .before .before .before .loop .inv)) in omega (arith, r, c .before .before .before .before .loop .inv .down .named, choosing-depth (c .before .before .before .before .loop .inv))
+
+-- src/lib.rt:199:13
+choice-close-chain-requires : (t : ℕ) → choice-lts.Need-close-chain-requires (
+  core-reads.Asked,
+  core-reads.Learnt,
+  is-union-reads.Asked,
+  is-union-reads.Learnt,
+  value-below t,
+  value.Post,
+  close-chain-reads.Asked,
+  close-chain-reads.Learnt,
+  choose-reads.Asked,
+  choose-reads.Learnt,
+  open-row-reads.Asked,
+  open-row-reads.Learnt,
+  under-reads.Asked,
+  under-reads.Learnt,
+  whole-reads.Asked,
+  whole-reads.Learnt,
+) (choice-at t) choice.Post choice-Inv-loop choice-μ-loop
+choice-close-chain-requires t c κs = let r = (choosing-room (c .before .before .before .before .before .before .before .before .loop .inv)) in omega (arith, r, plain-fits _ _ _ _ _ _ (c .before .before .before .value .result) (c .before .before .before .before .before .before .before .core .ensures) (sym (c .before .before .before .before .before .before .is-union .ensures) ∙ not-true _ (c .before .before .before .before .before .if1 .taken)) (c .before .before .before .value .ensures), c .before .before .before .before .before .before .before .before .before .before .before .before .before .pre .1 .0)
+
+-- src/lib.rt:199:13
+choice-same-length : (t : ℕ) → choice-lts.Need-same-length (
+  core-reads.Asked,
+  core-reads.Learnt,
+  is-union-reads.Asked,
+  is-union-reads.Learnt,
+  value-below t,
+  value.Post,
+  close-chain-reads.Asked,
+  close-chain-reads.Learnt,
+  choose-reads.Asked,
+  choose-reads.Learnt,
+  open-row-reads.Asked,
+  open-row-reads.Learnt,
+  under-reads.Asked,
+  under-reads.Learnt,
+  whole-reads.Asked,
+  whole-reads.Learnt,
+) (choice-at t) choice.Post choice-Inv-loop choice-μ-loop
+choice-same-length t c = search needs
+
+-- src/lib.rt:199:13
+choice-returns : (t : ℕ) → choice-lts.Need-returns (
+  core-reads.Asked,
+  core-reads.Learnt,
+  is-union-reads.Asked,
+  is-union-reads.Learnt,
+  value-below t,
+  value.Post,
+  close-chain-reads.Asked,
+  close-chain-reads.Learnt,
+  choose-reads.Asked,
+  choose-reads.Learnt,
+  open-row-reads.Asked,
+  open-row-reads.Learnt,
+  under-reads.Asked,
+  under-reads.Learnt,
+  whole-reads.Asked,
+  whole-reads.Learnt,
+) (choice-at t) choice.Post choice-Inv-loop choice-μ-loop
+choice-returns t c = choosing-value (c .before .before .before .before .before .before .before .before .before .before .before .loop .inv) _ _ _ _ (c .before .before .before .before .before .before .value .result) (c .before .before .before .before .before .before .before .before .before .before .core .ensures) (sym (c .before .before .before .before .before .before .before .before .before .is-union .ensures) ∙ not-true _ (c .before .before .before .before .before .before .before .before .if1 .taken)) (c .before .before .before .before .before .before .value .ensures) (c .before .before .close-chain .ensures .0) (c .before .before .close-chain .ensures .1)
+
+-- src/lib.rt:201:15
+choice-choose-requires : (t : ℕ) → choice-lts.Need-choose-requires (
+  core-reads.Asked,
+  core-reads.Learnt,
+  is-union-reads.Asked,
+  is-union-reads.Learnt,
+  value-below t,
+  value.Post,
+  close-chain-reads.Asked,
+  close-chain-reads.Learnt,
+  choose-reads.Asked,
+  choose-reads.Learnt,
+  open-row-reads.Asked,
+  open-row-reads.Learnt,
+  under-reads.Asked,
+  under-reads.Learnt,
+  whole-reads.Asked,
+  whole-reads.Learnt,
+) (choice-at t) choice.Post choice-Inv-loop choice-μ-loop
+choice-choose-requires t c κs = let r = (choosing-room (c .before .before .before .loop .inv)) in omega (arith, r)
+
+-- src/lib.rt:202:28
+choice-enum-known-q : (t : ℕ) → choice-lts.Need-enum-known-q (
+  core-reads.Asked,
+  core-reads.Learnt,
+  is-union-reads.Asked,
+  is-union-reads.Learnt,
+  value-below t,
+  value.Post,
+  close-chain-reads.Asked,
+  close-chain-reads.Learnt,
+  choose-reads.Asked,
+  choose-reads.Learnt,
+  open-row-reads.Asked,
+  open-row-reads.Learnt,
+  under-reads.Asked,
+  under-reads.Learnt,
+  whole-reads.Asked,
+  whole-reads.Learnt,
+) (choice-at t) choice.Post choice-Inv-loop choice-μ-loop
+choice-enum-known-q t c = search needs
+
+-- src/lib.rt:203:17
+choice-open-row-requires : (t : ℕ) → choice-lts.Need-open-row-requires (
+  core-reads.Asked,
+  core-reads.Learnt,
+  is-union-reads.Asked,
+  is-union-reads.Learnt,
+  value-below t,
+  value.Post,
+  close-chain-reads.Asked,
+  close-chain-reads.Learnt,
+  choose-reads.Asked,
+  choose-reads.Learnt,
+  open-row-reads.Asked,
+  open-row-reads.Learnt,
+  under-reads.Asked,
+  under-reads.Learnt,
+  whole-reads.Asked,
+  whole-reads.Learnt,
+) (choice-at t) choice.Post choice-Inv-loop choice-μ-loop
+choice-open-row-requires t c κs = let r = (choosing-room (c .before .before .before .before .before .before .before .before .loop .inv)) in let d = deeper-less (c .before .before .before .before .before .before .before .before .loop .inv) _ _ _ _ (rw (c .before .before .q .given .1) at (c .before .before .before .before .choose .ensures)) in omega (arith, r, d, c .before .before .before .before .before .before .before .before .loop .inv .down .named)
+
+-- src/lib.rt:204:17
+choice-under-requires : (t : ℕ) → choice-lts.Need-under-requires (
+  core-reads.Asked,
+  core-reads.Learnt,
+  is-union-reads.Asked,
+  is-union-reads.Learnt,
+  value-below t,
+  value.Post,
+  close-chain-reads.Asked,
+  close-chain-reads.Learnt,
+  choose-reads.Asked,
+  choose-reads.Learnt,
+  open-row-reads.Asked,
+  open-row-reads.Learnt,
+  under-reads.Asked,
+  under-reads.Learnt,
+  whole-reads.Asked,
+  whole-reads.Learnt,
+) (choice-at t) choice.Post choice-Inv-loop choice-μ-loop
+choice-under-requires t c κs = let r = (choosing-room (c .before .before .before .before .before .before .before .before .before .before .before .loop .inv)) in omega (arith, r)
+
+-- src/lib.rt:195:5
+choice-loop-less : (t : ℕ) → choice-lts.Need-loop-less (
+  core-reads.Asked,
+  core-reads.Learnt,
+  is-union-reads.Asked,
+  is-union-reads.Learnt,
+  value-below t,
+  value.Post,
+  close-chain-reads.Asked,
+  close-chain-reads.Learnt,
+  choose-reads.Asked,
+  choose-reads.Learnt,
+  open-row-reads.Asked,
+  open-row-reads.Learnt,
+  under-reads.Asked,
+  under-reads.Learnt,
+  whole-reads.Asked,
+  whole-reads.Learnt,
+) (choice-at t) choice.Post choice-Inv-loop choice-μ-loop
+choice-loop-less t c = let d = deeper-less (c .before .before .before .before .before .before .before .before .before .before .before .before .loop .inv) _ _ _ _ (rw (c .before .before .before .before .before .before .q .given .1) at (c .before .before .before .before .before .before .before .before .choose .ensures)) in rw (c .under .ensures) (omega (arith, d))
+
+-- src/lib.rt:195:5
+choice-loop-again : (t : ℕ) → choice-lts.Need-loop-again (
+  core-reads.Asked,
+  core-reads.Learnt,
+  is-union-reads.Asked,
+  is-union-reads.Learnt,
+  value-below t,
+  value.Post,
+  close-chain-reads.Asked,
+  close-chain-reads.Learnt,
+  choose-reads.Asked,
+  choose-reads.Learnt,
+  open-row-reads.Asked,
+  open-row-reads.Learnt,
+  under-reads.Asked,
+  under-reads.Learnt,
+  whole-reads.Asked,
+  whole-reads.Learnt,
+) (choice-at t) choice.Post choice-Inv-loop choice-μ-loop
+choice-loop-again t c = choosing-on (c .before .before .before .before .before .before .before .before .before .before .before .before .loop .inv) _ _ _ _ _ _ (c .before .before .before .before .before .before .before .before .before .before .before .core .ensures) (sym (c .before .before .before .before .before .before .before .before .before .before .is-union .ensures) ∙ not-false _ (c .before .before .before .before .before .before .before .before .before .if1 .left)) (rw (c .before .before .before .before .before .before .q .given .1) at (c .before .before .before .before .before .before .before .before .choose .ensures)) (c .before .before .before .open-row .ensures) (c .under .ensures)
+
+-- src/lib.rt:206:26
+choice-enum-known-q-2 : (t : ℕ) → choice-lts.Need-enum-known-q-2 (
+  core-reads.Asked,
+  core-reads.Learnt,
+  is-union-reads.Asked,
+  is-union-reads.Learnt,
+  value-below t,
+  value.Post,
+  close-chain-reads.Asked,
+  close-chain-reads.Learnt,
+  choose-reads.Asked,
+  choose-reads.Learnt,
+  open-row-reads.Asked,
+  open-row-reads.Learnt,
+  under-reads.Asked,
+  under-reads.Learnt,
+  whole-reads.Asked,
+  whole-reads.Learnt,
+) (choice-at t) choice.Post choice-Inv-loop choice-μ-loop
+choice-enum-known-q-2 t c = search needs
+
+-- src/lib.rt:207:21
+choice-whole-requires : (t : ℕ) → choice-lts.Need-whole-requires (
+  core-reads.Asked,
+  core-reads.Learnt,
+  is-union-reads.Asked,
+  is-union-reads.Learnt,
+  value-below t,
+  value.Post,
+  close-chain-reads.Asked,
+  close-chain-reads.Learnt,
+  choose-reads.Asked,
+  choose-reads.Learnt,
+  open-row-reads.Asked,
+  open-row-reads.Learnt,
+  under-reads.Asked,
+  under-reads.Learnt,
+  whole-reads.Asked,
+  whole-reads.Learnt,
+) (choice-at t) choice.Post choice-Inv-loop choice-μ-loop
+choice-whole-requires t c κs = let r = (choosing-room (c .before .before .before .before .before .before .before .before .loop .inv)) in let w = (rw (c .before .before .q2 .given .1) at (c .before .before .before .before .choose .ensures)) in omega (arith, r, w .step .less, w .step .within, w .below, c .before .before .before .before .before .before .before .before .loop .inv .down .named)
+
+-- src/lib.rt:208:17
+choice-close-chain-requires-2 : (t : ℕ) → choice-lts.Need-close-chain-requires-2 (
+  core-reads.Asked,
+  core-reads.Learnt,
+  is-union-reads.Asked,
+  is-union-reads.Learnt,
+  value-below t,
+  value.Post,
+  close-chain-reads.Asked,
+  close-chain-reads.Learnt,
+  choose-reads.Asked,
+  choose-reads.Learnt,
+  open-row-reads.Asked,
+  open-row-reads.Learnt,
+  under-reads.Asked,
+  under-reads.Learnt,
+  whole-reads.Asked,
+  whole-reads.Learnt,
+) (choice-at t) choice.Post choice-Inv-loop choice-μ-loop
+choice-close-chain-requires-2 t c κs = let r = (choosing-room (c .before .before .before .before .before .before .before .before .before .before .before .before .loop .inv)) in let w = (rw (c .before .before .before .before .before .before .q2 .given .1) at (c .before .before .before .before .before .before .before .before .choose .ensures)) in omega (arith, r, w .step .within, c .before .before .before .before .before .before .before .before .before .before .before .before .before .before .before .before .before .pre .1 .0, whole-fits _ _ _ _ _ _ (c .before .before .before .whole .result) (c .before .before .before .whole .ensures))
+
+-- src/lib.rt:208:17
+choice-same-length-2 : (t : ℕ) → choice-lts.Need-same-length-2 (
+  core-reads.Asked,
+  core-reads.Learnt,
+  is-union-reads.Asked,
+  is-union-reads.Learnt,
+  value-below t,
+  value.Post,
+  close-chain-reads.Asked,
+  close-chain-reads.Learnt,
+  choose-reads.Asked,
+  choose-reads.Learnt,
+  open-row-reads.Asked,
+  open-row-reads.Learnt,
+  under-reads.Asked,
+  under-reads.Learnt,
+  whole-reads.Asked,
+  whole-reads.Learnt,
+) (choice-at t) choice.Post choice-Inv-loop choice-μ-loop
+choice-same-length-2 t c = search needs
+
+-- src/lib.rt:208:17
+choice-returns-2 : (t : ℕ) → choice-lts.Need-returns-2 (
+  core-reads.Asked,
+  core-reads.Learnt,
+  is-union-reads.Asked,
+  is-union-reads.Learnt,
+  value-below t,
+  value.Post,
+  close-chain-reads.Asked,
+  close-chain-reads.Learnt,
+  choose-reads.Asked,
+  choose-reads.Learnt,
+  open-row-reads.Asked,
+  open-row-reads.Learnt,
+  under-reads.Asked,
+  under-reads.Learnt,
+  whole-reads.Asked,
+  whole-reads.Learnt,
+) (choice-at t) choice.Post choice-Inv-loop choice-μ-loop
+choice-returns-2 t c = choosing-whole (c .before .before .before .before .before .before .before .before .before .before .before .before .before .before .before .loop .inv) _ _ _ _ _ _ _ (c .before .before .before .before .before .before .whole .result) (c .before .before .before .before .before .before .before .before .before .before .before .before .before .before .core .ensures) (sym (c .before .before .before .before .before .before .before .before .before .before .before .before .before .is-union .ensures) ∙ not-false _ (c .before .before .before .before .before .before .before .before .before .before .before .before .if1 .left)) (rw (c .before .before .before .before .before .before .before .before .before .q2 .given .1) at (c .before .before .before .before .before .before .before .before .before .before .before .choose .ensures)) (c .before .before .before .before .before .before .whole .ensures) (c .before .before .close-chain2 .ensures .0) (c .before .before .close-chain2 .ensures .1)
+
+-- src/lib.rt:210:29
+choice-enum-known-k : (t : ℕ) → choice-lts.Need-enum-known-k (
+  core-reads.Asked,
+  core-reads.Learnt,
+  is-union-reads.Asked,
+  is-union-reads.Learnt,
+  value-below t,
+  value.Post,
+  close-chain-reads.Asked,
+  close-chain-reads.Learnt,
+  choose-reads.Asked,
+  choose-reads.Learnt,
+  open-row-reads.Asked,
+  open-row-reads.Learnt,
+  under-reads.Asked,
+  under-reads.Learnt,
+  whole-reads.Asked,
+  whole-reads.Learnt,
+) (choice-at t) choice.Post choice-Inv-loop choice-μ-loop
+choice-enum-known-k t c = search needs
+
+-- src/lib.rt:211:17
+choice-same-length-3 : (t : ℕ) → choice-lts.Need-same-length-3 (
+  core-reads.Asked,
+  core-reads.Learnt,
+  is-union-reads.Asked,
+  is-union-reads.Learnt,
+  value-below t,
+  value.Post,
+  close-chain-reads.Asked,
+  close-chain-reads.Learnt,
+  choose-reads.Asked,
+  choose-reads.Learnt,
+  open-row-reads.Asked,
+  open-row-reads.Learnt,
+  under-reads.Asked,
+  under-reads.Learnt,
+  whole-reads.Asked,
+  whole-reads.Learnt,
+) (choice-at t) choice.Post choice-Inv-loop choice-μ-loop
+choice-same-length-3 t c = search needs
+
+-- src/lib.rt:211:17
+choice-returns-3 : (t : ℕ) → choice-lts.Need-returns-3 (
+  core-reads.Asked,
+  core-reads.Learnt,
+  is-union-reads.Asked,
+  is-union-reads.Learnt,
+  value-below t,
+  value.Post,
+  close-chain-reads.Asked,
+  close-chain-reads.Learnt,
+  choose-reads.Asked,
+  choose-reads.Learnt,
+  open-row-reads.Asked,
+  open-row-reads.Learnt,
+  under-reads.Asked,
+  under-reads.Learnt,
+  whole-reads.Asked,
+  whole-reads.Learnt,
+) (choice-at t) choice.Post choice-Inv-loop choice-μ-loop
+choice-returns-3 t c = choosing-stopped (c .before .before .before .before .before .before .before .loop .inv) _ _ _ (c .before .before .before .before .before .before .core .ensures) (sym (c .before .before .before .before .before .is-union .ensures) ∙ not-false _ (c .before .before .before .before .if1 .left)) (rw (c .before .k .given .1) at (c .before .before .before .choose .ensures))
+
+-- src/lib.rt:277:11
+element-choice-requires : (t : ℕ) → element-lts.Need-choice-requires (
+  choice-below t,
+  choice.Post,
+  after-value-reads.Asked,
+  after-value-reads.Learnt,
+) (element-at t) element.Post
+element-choice-requires t c κs = omega (arith, c .before .before .before .before .before .pre .1)
+
+-- src/lib.rt:278:19
+element-enum-known-v : (t : ℕ) → element-lts.Need-enum-known-v (
+  choice-below t,
+  choice.Post,
+  after-value-reads.Asked,
+  after-value-reads.Learnt,
+) (element-at t) element.Post
+element-enum-known-v t c = search needs
+
+-- src/lib.rt:286:13
+element-add-after-value : (t : ℕ) → element-lts.Need-add-after-value (
+  choice-below t,
+  choice.Post,
+  after-value-reads.Asked,
+  after-value-reads.Learnt,
+) (element-at t) element.Post
+element-add-after-value t c = omega (arith, c .before .before .before .before .before .before .before .before .before .before .before .pre .1 .1)
+
+-- src/lib.rt:278:34
+element-after-value-requires : (t : ℕ) → element-lts.Need-after-value-requires (
+  choice-below t,
+  choice.Post,
+  after-value-reads.Asked,
+  after-value-reads.Learnt,
+) (element-at t) element.Post
+element-after-value-requires t c κs = omega (arith, c .before .before .before .before .before .before .before .before .before .before .before .pre .1 .0 .short)
+
+-- src/lib.rt:288:25
+element-enum-known-w : (t : ℕ) → element-lts.Need-enum-known-w (
+  choice-below t,
+  choice.Post,
+  after-value-reads.Asked,
+  after-value-reads.Learnt,
+) (element-at t) element.Post
+element-enum-known-w t c = search needs
+
+-- src/lib.rt:289:38
+element-enum-told : (t : ℕ) → element-lts.Need-enum-told (
+  choice-below t,
+  choice.Post,
+  after-value-reads.Asked,
+  after-value-reads.Learnt,
+) (element-at t) element.Post
+element-enum-told t c = search needs
+
+-- src/lib.rt:290:28
+element-enum-known-k : (t : ℕ) → element-lts.Need-enum-known-k (
+  choice-below t,
+  choice.Post,
+  after-value-reads.Asked,
+  after-value-reads.Learnt,
+) (element-at t) element.Post
+element-enum-known-k t c = search needs
+
+-- src/lib.rt:292:22
+element-enum-known-k-2 : (t : ℕ) → element-lts.Need-enum-known-k-2 (
+  choice-below t,
+  choice.Post,
+  after-value-reads.Asked,
+  after-value-reads.Learnt,
+) (element-at t) element.Post
+element-enum-known-k-2 t c = search needs
+
+-- src/lib.rt:264:1
+element-same-length : (t : ℕ) → element-lts.Need-same-length (
+  choice-below t,
+  choice.Post,
+  after-value-reads.Asked,
+  after-value-reads.Learnt,
+) (element-at t) element.Post
+element-same-length t c = search needs
+
+-- src/lib.rt:264:1
+element-returns : (t : ℕ) → element-lts.Need-returns (
+  choice-below t,
+  choice.Post,
+  after-value-reads.Asked,
+  after-value-reads.Learnt,
+) (element-at t) element.Post
+element-returns t c = element-more _ _ (c .before .before .before .before .before .before .before .before .before .before .before .before .before .before .before .args .f) _ _ _ _ _ (rw (c .before .before .before .before .before .v .given .1) at (c .before .before .before .before .before .before .before .before .before .choice .ensures)) _ (rw (c .before .w .given .1) at (c .before .before .before .after-value .ensures))
+
+-- src/lib.rt:264:1
+element-same-length-2 : (t : ℕ) → element-lts.Need-same-length-2 (
+  choice-below t,
+  choice.Post,
+  after-value-reads.Asked,
+  after-value-reads.Learnt,
+) (element-at t) element.Post
+element-same-length-2 t c = search needs
+
+-- src/lib.rt:264:1
+element-returns-2 : (t : ℕ) → element-lts.Need-returns-2 (
+  choice-below t,
+  choice.Post,
+  after-value-reads.Asked,
+  after-value-reads.Learnt,
+) (element-at t) element.Post
+element-returns-2 t c = element-last _ _ (c .before .before .before .before .before .before .before .before .before .before .before .before .before .before .args .f) _ _ _ _ _ (rw (c .before .before .before .before .v .given .1) at (c .before .before .before .before .before .before .before .before .choice .ensures)) (rw (c .enum-told .given .1) at (c .before .before .after-value .ensures))
+
+-- src/lib.rt:264:1
+element-same-length-3 : (t : ℕ) → element-lts.Need-same-length-3 (
+  choice-below t,
+  choice.Post,
+  after-value-reads.Asked,
+  after-value-reads.Learnt,
+) (element-at t) element.Post
+element-same-length-3 t c = search needs
+
+-- src/lib.rt:264:1
+element-returns-3 : (t : ℕ) → element-lts.Need-returns-3 (
+  choice-below t,
+  choice.Post,
+  after-value-reads.Asked,
+  after-value-reads.Learnt,
+) (element-at t) element.Post
+element-returns-3 t c = element-after _ _ (c .before .before .before .before .before .before .before .before .before .before .before .before .before .before .before .args .f) _ _ _ _ _ (rw (c .before .before .before .before .before .v .given .1) at (c .before .before .before .before .before .before .before .before .before .choice .ensures)) _ _ (rw (c .before .k .given .1) at (c .before .before .before .after-value .ensures))
+
+-- src/lib.rt:264:1
+element-same-length-4 : (t : ℕ) → element-lts.Need-same-length-4 (
+  choice-below t,
+  choice.Post,
+  after-value-reads.Asked,
+  after-value-reads.Learnt,
+) (element-at t) element.Post
+element-same-length-4 t c = search needs
+
+-- src/lib.rt:264:1
+element-returns-4 : (t : ℕ) → element-lts.Need-returns-4 (
+  choice-below t,
+  choice.Post,
+  after-value-reads.Asked,
+  after-value-reads.Learnt,
+) (element-at t) element.Post
+element-returns-4 t c = element-refused _ _ (c .before .before .before .before .before .before .before .before .before .before .before .args .f) _ _ _ (rw (c .before .k2 .given .1) at (c .before .before .before .before .before .choice .ensures))
+
+-- src/lib.rt:424:11
+field-field-at-requires : (t : ℕ) → field-lts.Need-field-at-requires (
+  field-at-reads.Asked,
+  field-at-reads.Learnt,
+  list-below t,
+  list.Post,
+) (field-at t) field.Post
+field-field-at-requires t c κs = omega (arith, c .before .before .before .before .pre .1 .0 .short)
+
+-- src/lib.rt:425:54
+field-enum-told : (t : ℕ) → field-lts.Need-enum-told (
+  field-at-reads.Asked,
+  field-at-reads.Learnt,
+  list-below t,
+  list.Post,
+) (field-at t) field.Post
+field-enum-told t c = search needs
+
+-- src/lib.rt:425:30
+field-list-requires : (t : ℕ) → field-lts.Need-list-requires (
+  field-at-reads.Asked,
+  field-at-reads.Learnt,
+  list-below t,
+  list.Post,
+) (field-at t) field.Post
+field-list-requires t c κs = omega (arith, c .before .before .before .before .before .before .before .before .pre .1)
+
+-- src/lib.rt:426:23
+field-enum-known-v : (t : ℕ) → field-lts.Need-enum-known-v (
+  field-at-reads.Asked,
+  field-at-reads.Learnt,
+  list-below t,
+  list.Post,
+) (field-at t) field.Post
+field-enum-known-v t c = search needs
+
+-- src/lib.rt:427:26
+field-enum-known-k : (t : ℕ) → field-lts.Need-enum-known-k (
+  field-at-reads.Asked,
+  field-at-reads.Learnt,
+  list-below t,
+  list.Post,
+) (field-at t) field.Post
+field-enum-known-k t c = search needs
+
+-- src/lib.rt:429:43
+field-enum-told-2 : (t : ℕ) → field-lts.Need-enum-told-2 (
+  field-at-reads.Asked,
+  field-at-reads.Learnt,
+  list-below t,
+  list.Post,
+) (field-at t) field.Post
+field-enum-told-2 t c = search needs
+
+-- src/lib.rt:430:24
+field-enum-known-k-2 : (t : ℕ) → field-lts.Need-enum-known-k-2 (
+  field-at-reads.Asked,
+  field-at-reads.Learnt,
+  list-below t,
+  list.Post,
+) (field-at t) field.Post
+field-enum-known-k-2 t c = search needs
+
+-- src/lib.rt:411:1
+field-same-length : (t : ℕ) → field-lts.Need-same-length (
+  field-at-reads.Asked,
+  field-at-reads.Learnt,
+  list-below t,
+  list.Post,
+) (field-at t) field.Post
+field-same-length t c = search needs
+
+-- src/lib.rt:411:1
+field-returns : (t : ℕ) → field-lts.Need-returns (
+  field-at-reads.Asked,
+  field-at-reads.Learnt,
+  list-below t,
+  list.Post,
+) (field-at t) field.Post
+field-returns t c = λ p qs. field-on _ _ (c .before .before .before .before .before .before .before .before .before .before .before .before .before .before .args .f) _ _ _ p qs ((rw (c .before .before .before .before .before .before .before .enum-told .given .1) at (c .before .before .before .before .before .before .before .before .before .field-at .ensures)) _ p qs) _ _ (rw (c .before .v .given .1) at (c .before .before .before .before .before .list .ensures))
+
+-- src/lib.rt:411:1
+field-same-length-2 : (t : ℕ) → field-lts.Need-same-length-2 (
+  field-at-reads.Asked,
+  field-at-reads.Learnt,
+  list-below t,
+  list.Post,
+) (field-at t) field.Post
+field-same-length-2 t c = search needs
+
+-- src/lib.rt:411:1
+field-returns-2 : (t : ℕ) → field-lts.Need-returns-2 (
+  field-at-reads.Asked,
+  field-at-reads.Learnt,
+  list-below t,
+  list.Post,
+) (field-at t) field.Post
+field-returns-2 t c = λ p qs. field-refused _ _ (c .before .before .before .before .before .before .before .before .before .before .before .before .before .before .args .f) _ [] [] p qs ((rw (c .before .before .before .before .before .before .before .enum-told .given .1) at (c .before .before .before .before .before .before .before .before .before .field-at .ensures)) _ p qs) _ _ (rw (c .before .k .given .1) at (c .before .before .before .before .before .list .ensures))
+
+-- src/lib.rt:411:1
+field-returns-3 : (t : ℕ) → field-lts.Need-returns-3 (
+  field-at-reads.Asked,
+  field-at-reads.Learnt,
+  list-below t,
+  list.Post,
+) (field-at t) field.Post
+field-returns-3 t c = λ p qs. field-none _ _ (c .before .before .before .before .before .before .before .args .f) _ _ p qs ((rw (c .enum-told2 .given .1) at (c .before .before .field-at .ensures)) _ p qs) (c .before .before .before .before .before .before .before .pre .1 .0 .here)
+
+-- src/lib.rt:411:1
+field-returns-4 : (t : ℕ) → field-lts.Need-returns-4 (
+  field-at-reads.Asked,
+  field-at-reads.Learnt,
+  list-below t,
+  list.Post,
+) (field-at t) field.Post
+field-returns-4 t c = λ p qs. (rw (c .before .k2 .given .1) at (c .before .before .before .field-at .ensures)) _ p qs
+
+abbrev fields-Inv-loop : fields-lts.InvT-loop
+fields-Inv-loop table offs n s rows₀ inside g₀ i₀ rows g i = Fielding table offs n s g₀ g inside rows₀ rows i
+
+abbrev fields-μ-loop : fields-lts.MeasureT-loop
+fields-μ-loop table offs n s rows₀ inside g₀ i₀ rows g i = n - i
+
+-- src/lib.rt:449:5
+fields-loop-holds : (t : ℕ) → fields-lts.Need-loop-holds (
+  next-untagged-reads.Asked,
+  next-untagged-reads.Learnt,
+  items-below t,
+  items.Post,
+  for-field-reads.Asked,
+  for-field-reads.Learnt,
+  field-below t,
+  field.Post,
+  moved-reads.Asked,
+  moved-reads.Learnt,
+) (fields-at t) fields.Post fields-Inv-loop fields-μ-loop
+fields-loop-holds t c = fielding-start _ _ _ _ _ _ _ (c .before .before .before .before .pre .1 .here)
+
+-- src/lib.rt:450:15
+fields-next-untagged-requires : (t : ℕ) → fields-lts.Need-next-untagged-requires (
+  next-untagged-reads.Asked,
+  next-untagged-reads.Learnt,
+  items-below t,
+  items.Post,
+  for-field-reads.Asked,
+  for-field-reads.Learnt,
+  field-below t,
+  field.Post,
+  moved-reads.Asked,
+  moved-reads.Learnt,
+) (fields-at t) fields.Post fields-Inv-loop fields-μ-loop
+fields-next-untagged-requires t c κs = search needs
+
+-- src/lib.rt:452:49
+fields-enum-told : (t : ℕ) → fields-lts.Need-enum-told (
+  next-untagged-reads.Asked,
+  next-untagged-reads.Learnt,
+  items-below t,
+  items.Post,
+  for-field-reads.Asked,
+  for-field-reads.Learnt,
+  field-below t,
+  field.Post,
+  moved-reads.Asked,
+  moved-reads.Learnt,
+) (fields-at t) fields.Post fields-Inv-loop fields-μ-loop
+fields-enum-told t c = search needs
+
+-- src/lib.rt:452:17
+fields-items-requires : (t : ℕ) → fields-lts.Need-items-requires (
+  next-untagged-reads.Asked,
+  next-untagged-reads.Learnt,
+  items-below t,
+  items.Post,
+  for-field-reads.Asked,
+  for-field-reads.Learnt,
+  field-below t,
+  field.Post,
+  moved-reads.Asked,
+  moved-reads.Learnt,
+) (fields-at t) fields.Post fields-Inv-loop fields-μ-loop
+fields-items-requires t c κs = let r = (fielding-room (c .before .before .before .before .loop .inv) (c .before .before .before .before .before .before .before .before .before .pre .1)) in omega (arith, r, fielding-depth (c .before .before .before .before .loop .inv))
+
+-- src/lib.rt:452:17
+fields-same-length : (t : ℕ) → fields-lts.Need-same-length (
+  next-untagged-reads.Asked,
+  next-untagged-reads.Learnt,
+  items-below t,
+  items.Post,
+  for-field-reads.Asked,
+  for-field-reads.Learnt,
+  field-below t,
+  field.Post,
+  moved-reads.Asked,
+  moved-reads.Learnt,
+) (fields-at t) fields.Post fields-Inv-loop fields-μ-loop
+fields-same-length t c = search needs
+
+-- src/lib.rt:452:17
+fields-returns : (t : ℕ) → fields-lts.Need-returns (
+  next-untagged-reads.Asked,
+  next-untagged-reads.Learnt,
+  items-below t,
+  items.Post,
+  for-field-reads.Asked,
+  for-field-reads.Learnt,
+  field-below t,
+  field.Post,
+  moved-reads.Asked,
+  moved-reads.Learnt,
+) (fields-at t) fields.Post fields-Inv-loop fields-μ-loop
+fields-returns t c = fielding-items (c .before .before .before .before .before .before .before .loop .inv) _ (c .before .before .items .result) (found-none (c .before .before .before .before .before .before .next-untagged .result) _ (c .before .before .before .before .enum-told .given .1) (c .before .before .before .before .before .before .next-untagged .ensures)) (c .before .before .items .ensures)
+
+-- src/lib.rt:454:23
+fields-enum-known-q : (t : ℕ) → fields-lts.Need-enum-known-q (
+  next-untagged-reads.Asked,
+  next-untagged-reads.Learnt,
+  items-below t,
+  items.Post,
+  for-field-reads.Asked,
+  for-field-reads.Learnt,
+  field-below t,
+  field.Post,
+  moved-reads.Asked,
+  moved-reads.Learnt,
+) (fields-at t) fields.Post fields-Inv-loop fields-μ-loop
+fields-enum-known-q t c = search needs
+
+-- src/lib.rt:454:66
+fields-for-field-requires : (t : ℕ) → fields-lts.Need-for-field-requires (
+  next-untagged-reads.Asked,
+  next-untagged-reads.Learnt,
+  items-below t,
+  items.Post,
+  for-field-reads.Asked,
+  for-field-reads.Learnt,
+  field-below t,
+  field.Post,
+  moved-reads.Asked,
+  moved-reads.Learnt,
+) (fields-at t) fields.Post fields-Inv-loop fields-μ-loop
+fields-for-field-requires t c κs = search needs
+
+-- src/lib.rt:454:35
+fields-field-requires : (t : ℕ) → fields-lts.Need-field-requires (
+  next-untagged-reads.Asked,
+  next-untagged-reads.Learnt,
+  items-below t,
+  items.Post,
+  for-field-reads.Asked,
+  for-field-reads.Learnt,
+  field-below t,
+  field.Post,
+  moved-reads.Asked,
+  moved-reads.Learnt,
+) (fields-at t) fields.Post fields-Inv-loop fields-μ-loop
+fields-field-requires t c κs = let r = (fielding-room (c .before .before .before .before .before .before .loop .inv) (c .before .before .before .before .before .before .before .before .before .before .before .pre .1)) in let q = next-between _ _ _ _ _ _ (found-at (c .before .before .before .before .before .next-untagged .result) _ _ (c .before .before .before .q .given .1) (c .before .before .before .before .before .next-untagged .ensures)) in rw (c .for-field .ensures) (omega (arith, r, q, fielding-depth (c .before .before .before .before .before .before .loop .inv)))
+
+-- src/lib.rt:455:26
+fields-enum-known-v : (t : ℕ) → fields-lts.Need-enum-known-v (
+  next-untagged-reads.Asked,
+  next-untagged-reads.Learnt,
+  items-below t,
+  items.Post,
+  for-field-reads.Asked,
+  for-field-reads.Learnt,
+  field-below t,
+  field.Post,
+  moved-reads.Asked,
+  moved-reads.Learnt,
+) (fields-at t) fields.Post fields-Inv-loop fields-μ-loop
+fields-enum-known-v t c = search needs
+
+-- src/lib.rt:456:21
+fields-moved-requires : (t : ℕ) → fields-lts.Need-moved-requires (
+  next-untagged-reads.Asked,
+  next-untagged-reads.Learnt,
+  items-below t,
+  items.Post,
+  for-field-reads.Asked,
+  for-field-reads.Learnt,
+  field-below t,
+  field.Post,
+  moved-reads.Asked,
+  moved-reads.Learnt,
+) (fields-at t) fields.Post fields-Inv-loop fields-μ-loop
+fields-moved-requires t c κs = search needs
+
+-- src/lib.rt:457:25
+fields-add-i : (t : ℕ) → fields-lts.Need-add-i (
+  next-untagged-reads.Asked,
+  next-untagged-reads.Learnt,
+  items-below t,
+  items.Post,
+  for-field-reads.Asked,
+  for-field-reads.Learnt,
+  field-below t,
+  field.Post,
+  moved-reads.Asked,
+  moved-reads.Learnt,
+) (fields-at t) fields.Post fields-Inv-loop fields-μ-loop
+fields-add-i t c = let q = next-between _ _ _ _ _ _ (found-at (c .before .before .before .before .before .before .before .before .before .before .before .before .next-untagged .result) _ _ (c .before .before .before .before .before .before .before .before .before .before .q .given .1) (c .before .before .before .before .before .before .before .before .before .before .before .before .next-untagged .ensures)) in omega (arith, q, c .before .before .before .before .before .before .before .before .before .before .before .before .before .before .before .before .before .before .pre .1 .known)
+
+-- src/lib.rt:449:5
+fields-loop-less : (t : ℕ) → fields-lts.Need-loop-less (
+  next-untagged-reads.Asked,
+  next-untagged-reads.Learnt,
+  items-below t,
+  items.Post,
+  for-field-reads.Asked,
+  for-field-reads.Learnt,
+  field-below t,
+  field.Post,
+  moved-reads.Asked,
+  moved-reads.Learnt,
+) (fields-at t) fields.Post fields-Inv-loop fields-μ-loop
+fields-loop-less t c = let q = next-between _ _ _ _ _ _ (found-at (c .before .before .before .before .before .before .before .before .before .before .before .before .next-untagged .result) _ _ (c .before .before .before .before .before .before .before .before .before .before .q .given .1) (c .before .before .before .before .before .before .before .before .before .before .before .before .next-untagged .ensures)) in omega (arith, q)
+
+-- src/lib.rt:449:5
+fields-loop-again : (t : ℕ) → fields-lts.Need-loop-again (
+  next-untagged-reads.Asked,
+  next-untagged-reads.Learnt,
+  items-below t,
+  items.Post,
+  for-field-reads.Asked,
+  for-field-reads.Learnt,
+  field-below t,
+  field.Post,
+  moved-reads.Asked,
+  moved-reads.Learnt,
+) (fields-at t) fields.Post fields-Inv-loop fields-μ-loop
+fields-loop-again t c = fielding-on (c .before .before .before .before .before .before .before .before .before .before .before .before .before .loop .inv) _ (found-at (c .before .before .before .before .before .before .before .before .before .before .before .before .next-untagged .result) _ _ (c .before .before .before .before .before .before .before .before .before .before .q .given .1) (c .before .before .before .before .before .before .before .before .before .before .before .before .next-untagged .ensures)) _ (c .before .before .before .before .before .before .field .result) (rw (c .before .before .before .before .before .before .before .for-field .ensures) at (c .before .before .before .before .before .before .field .ensures)) _ _ _ (c .before .before .v .given .1) (c .moved .ensures)
+
+-- src/lib.rt:459:27
+fields-enum-known-o : (t : ℕ) → fields-lts.Need-enum-known-o (
+  next-untagged-reads.Asked,
+  next-untagged-reads.Learnt,
+  items-below t,
+  items.Post,
+  for-field-reads.Asked,
+  for-field-reads.Learnt,
+  field-below t,
+  field.Post,
+  moved-reads.Asked,
+  moved-reads.Learnt,
+) (fields-at t) fields.Post fields-Inv-loop fields-μ-loop
+fields-enum-known-o t c = search needs
+
+-- src/lib.rt:460:21
+fields-same-length-2 : (t : ℕ) → fields-lts.Need-same-length-2 (
+  next-untagged-reads.Asked,
+  next-untagged-reads.Learnt,
+  items-below t,
+  items.Post,
+  for-field-reads.Asked,
+  for-field-reads.Learnt,
+  field-below t,
+  field.Post,
+  moved-reads.Asked,
+  moved-reads.Learnt,
+) (fields-at t) fields.Post fields-Inv-loop fields-μ-loop
+fields-same-length-2 t c = search needs
+
+-- src/lib.rt:460:21
+fields-returns-2 : (t : ℕ) → fields-lts.Need-returns-2 (
+  next-untagged-reads.Asked,
+  next-untagged-reads.Learnt,
+  items-below t,
+  items.Post,
+  for-field-reads.Asked,
+  for-field-reads.Learnt,
+  field-below t,
+  field.Post,
+  moved-reads.Asked,
+  moved-reads.Learnt,
+) (fields-at t) fields.Post fields-Inv-loop fields-μ-loop
+fields-returns-2 t c = fielding-out (c .before .before .before .before .before .before .before .before .before .before .before .before .loop .inv) _ (found-at (c .before .before .before .before .before .before .before .before .before .before .before .next-untagged .result) _ _ (c .before .before .before .before .before .before .before .before .before .q .given .1) (c .before .before .before .before .before .before .before .before .before .before .before .next-untagged .ensures)) _ (c .before .before .before .before .before .field .result) (rw (c .before .before .before .before .before .before .for-field .ensures) at (c .before .before .before .before .before .field .ensures)) _ (c .before .o .given .1)
+
+-- src/lib.rt:356:11
+item-item-at-requires : (t : ℕ) → item-lts.Need-item-at-requires (
+  item-at-reads.Asked,
+  item-at-reads.Learnt,
+  mark-reads.Asked,
+  mark-reads.Learnt,
+  put-row-reads.Asked,
+  put-row-reads.Learnt,
+  for-field-reads.Asked,
+  for-field-reads.Learnt,
+  list-below t,
+  list.Post,
+) (item-at t) item.Post
+item-item-at-requires t c κs = omega (arith, c .before .before .before .before .before .pre .1 .0 .short)
+
+-- src/lib.rt:357:42
+item-enum-told : (t : ℕ) → item-lts.Need-enum-told (
+  item-at-reads.Asked,
+  item-at-reads.Learnt,
+  mark-reads.Asked,
+  mark-reads.Learnt,
+  put-row-reads.Asked,
+  put-row-reads.Learnt,
+  for-field-reads.Asked,
+  for-field-reads.Learnt,
+  list-below t,
+  list.Post,
+) (item-at t) item.Post
+item-enum-told t c = search needs
+
+-- src/lib.rt:358:20
+item-enum-known-q : (t : ℕ) → item-lts.Need-enum-known-q (
+  item-at-reads.Asked,
+  item-at-reads.Learnt,
+  mark-reads.Asked,
+  mark-reads.Learnt,
+  put-row-reads.Asked,
+  put-row-reads.Learnt,
+  for-field-reads.Asked,
+  for-field-reads.Learnt,
+  list-below t,
+  list.Post,
+) (item-at t) item.Post
+item-enum-known-q t c = search needs
+
+-- src/lib.rt:359:13
+item-mark-requires : (t : ℕ) → item-lts.Need-mark-requires (
+  item-at-reads.Asked,
+  item-at-reads.Learnt,
+  mark-reads.Asked,
+  mark-reads.Learnt,
+  put-row-reads.Asked,
+  put-row-reads.Learnt,
+  for-field-reads.Asked,
+  for-field-reads.Learnt,
+  list-below t,
+  list.Post,
+) (item-at t) item.Post
+item-mark-requires t c κs = search needs
+
+-- src/lib.rt:366:28
+item-add-t31 : (t : ℕ) → item-lts.Need-add-t31 (
+  item-at-reads.Asked,
+  item-at-reads.Learnt,
+  mark-reads.Asked,
+  mark-reads.Learnt,
+  put-row-reads.Asked,
+  put-row-reads.Learnt,
+  for-field-reads.Asked,
+  for-field-reads.Learnt,
+  list-below t,
+  list.Post,
+) (item-at t) item.Post
+item-add-t31 t c = let w = ((rw (c .before .before .before .before .before .q .given .1) at (c .before .before .before .before .before .before .before .item-at .ensures)) (c .before .before .before .before .before .before .before .before .before .before .before .before .before .pre .1 .1 .ks) (c .before .before .before .before .before .before .before .before .before .before .before .before .before .pre .1 .1 .marks)) in omega (arith, w .step .less, w .step .within, c .before .before .before .before .before .before .before .before .before .before .before .before .before .pre .1 .0 .short)
+
+-- src/lib.rt:367:26
+item-add-t32 : (t : ℕ) → item-lts.Need-add-t32 (
+  item-at-reads.Asked,
+  item-at-reads.Learnt,
+  mark-reads.Asked,
+  mark-reads.Learnt,
+  put-row-reads.Asked,
+  put-row-reads.Learnt,
+  for-field-reads.Asked,
+  for-field-reads.Learnt,
+  list-below t,
+  list.Post,
+) (item-at t) item.Post
+item-add-t32 t c = let w = ((rw (c .before .before .before .before .before .before .before .q .given .1) at (c .before .before .before .before .before .before .before .before .before .item-at .ensures)) (c .before .before .before .before .before .before .before .before .before .before .before .before .before .before .before .pre .1 .1 .ks) (c .before .before .before .before .before .before .before .before .before .before .before .before .before .before .before .pre .1 .1 .marks)) in omega (arith, w .step .less, w .step .within, c .before .before .before .before .before .before .before .before .before .before .before .before .before .before .before .pre .1 .0 .short)
+
+-- src/lib.rt:360:13
+item-put-row-requires : (t : ℕ) → item-lts.Need-put-row-requires (
+  item-at-reads.Asked,
+  item-at-reads.Learnt,
+  mark-reads.Asked,
+  mark-reads.Learnt,
+  put-row-reads.Asked,
+  put-row-reads.Learnt,
+  for-field-reads.Asked,
+  for-field-reads.Learnt,
+  list-below t,
+  list.Post,
+) (item-at t) item.Post
+item-put-row-requires t c κs = let w = ((rw (c .before .before .before .before .before .before .before .q .given .1) at (c .before .before .before .before .before .before .before .before .before .item-at .ensures)) (c .before .before .before .before .before .before .before .before .before .before .before .before .before .before .before .pre .1 .1 .ks) (c .before .before .before .before .before .before .before .before .before .before .before .before .before .before .before .pre .1 .1 .marks)) in omega (arith, w .step .less, w .step .within, w .below, c .before .before .before .before .before .before .before .before .before .before .before .before .before .before .before .pre .1 .0)
+
+-- src/lib.rt:370:25
+item-add-t31-2 : (t : ℕ) → item-lts.Need-add-t31-2 (
+  item-at-reads.Asked,
+  item-at-reads.Learnt,
+  mark-reads.Asked,
+  mark-reads.Learnt,
+  put-row-reads.Asked,
+  put-row-reads.Learnt,
+  for-field-reads.Asked,
+  for-field-reads.Learnt,
+  list-below t,
+  list.Post,
+) (item-at t) item.Post
+item-add-t31-2 t c = omega (arith, c .before .before .before .before .before .before .before .before .before .before .before .before .before .before .before .before .before .before .before .pre .1 .0)
+
+-- src/lib.rt:372:20
+item-enum-known-q-2 : (t : ℕ) → item-lts.Need-enum-known-q-2 (
+  item-at-reads.Asked,
+  item-at-reads.Learnt,
+  mark-reads.Asked,
+  mark-reads.Learnt,
+  put-row-reads.Asked,
+  put-row-reads.Learnt,
+  for-field-reads.Asked,
+  for-field-reads.Learnt,
+  list-below t,
+  list.Post,
+) (item-at t) item.Post
+item-enum-known-q-2 t c = search needs
+
+-- src/lib.rt:373:13
+item-mark-requires-2 : (t : ℕ) → item-lts.Need-mark-requires-2 (
+  item-at-reads.Asked,
+  item-at-reads.Learnt,
+  mark-reads.Asked,
+  mark-reads.Learnt,
+  put-row-reads.Asked,
+  put-row-reads.Learnt,
+  for-field-reads.Asked,
+  for-field-reads.Learnt,
+  list-below t,
+  list.Post,
+) (item-at t) item.Post
+item-mark-requires-2 t c κs = search needs
+
+-- src/lib.rt:374:49
+item-for-field-requires : (t : ℕ) → item-lts.Need-for-field-requires (
+  item-at-reads.Asked,
+  item-at-reads.Learnt,
+  mark-reads.Asked,
+  mark-reads.Learnt,
+  put-row-reads.Asked,
+  put-row-reads.Learnt,
+  for-field-reads.Asked,
+  for-field-reads.Learnt,
+  list-below t,
+  list.Post,
+) (item-at t) item.Post
+item-for-field-requires t c κs = search needs
+
+-- src/lib.rt:374:19
+item-list-requires : (t : ℕ) → item-lts.Need-list-requires (
+  item-at-reads.Asked,
+  item-at-reads.Learnt,
+  mark-reads.Asked,
+  mark-reads.Learnt,
+  put-row-reads.Asked,
+  put-row-reads.Learnt,
+  for-field-reads.Asked,
+  for-field-reads.Learnt,
+  list-below t,
+  list.Post,
+) (item-at t) item.Post
+item-list-requires t c κs = let w = ((rw (c .before .before .before .before .before .q2 .given .1) at (c .before .before .before .before .before .before .before .item-at .ensures)) (c .before .before .before .before .before .before .before .before .before .before .before .before .before .pre .1 .1 .ks) (c .before .before .before .before .before .before .before .before .before .before .before .before .before .pre .1 .1 .marks)) in rw (c .for-field .ensures) (omega (arith, w .first .least, w .first .less, w .second .least, w .second .less, w .second .within, w .below, c .before .before .before .before .before .before .before .before .before .before .before .before .before .pre .1 .0))
+
+-- src/lib.rt:375:27
+item-enum-known-w : (t : ℕ) → item-lts.Need-enum-known-w (
+  item-at-reads.Asked,
+  item-at-reads.Learnt,
+  mark-reads.Asked,
+  mark-reads.Learnt,
+  put-row-reads.Asked,
+  put-row-reads.Learnt,
+  for-field-reads.Asked,
+  for-field-reads.Learnt,
+  list-below t,
+  list.Post,
+) (item-at t) item.Post
+item-enum-known-w t c = search needs
+
+-- src/lib.rt:376:30
+item-enum-known-k : (t : ℕ) → item-lts.Need-enum-known-k (
+  item-at-reads.Asked,
+  item-at-reads.Learnt,
+  mark-reads.Asked,
+  mark-reads.Learnt,
+  put-row-reads.Asked,
+  put-row-reads.Learnt,
+  for-field-reads.Asked,
+  for-field-reads.Learnt,
+  list-below t,
+  list.Post,
+) (item-at t) item.Post
+item-enum-known-k t c = search needs
+
+-- src/lib.rt:379:23
+item-enum-known-v : (t : ℕ) → item-lts.Need-enum-known-v (
+  item-at-reads.Asked,
+  item-at-reads.Learnt,
+  mark-reads.Asked,
+  mark-reads.Learnt,
+  put-row-reads.Asked,
+  put-row-reads.Learnt,
+  for-field-reads.Asked,
+  for-field-reads.Learnt,
+  list-below t,
+  list.Post,
+) (item-at t) item.Post
+item-enum-known-v t c = search needs
+
+-- src/lib.rt:380:23
+item-enum-known-k-2 : (t : ℕ) → item-lts.Need-enum-known-k-2 (
+  item-at-reads.Asked,
+  item-at-reads.Learnt,
+  mark-reads.Asked,
+  mark-reads.Learnt,
+  put-row-reads.Asked,
+  put-row-reads.Learnt,
+  for-field-reads.Asked,
+  for-field-reads.Learnt,
+  list-below t,
+  list.Post,
+) (item-at t) item.Post
+item-enum-known-k-2 t c = search needs
+
+-- src/lib.rt:342:1
+item-returns : (t : ℕ) → item-lts.Need-returns (
+  item-at-reads.Asked,
+  item-at-reads.Learnt,
+  mark-reads.Asked,
+  mark-reads.Learnt,
+  put-row-reads.Asked,
+  put-row-reads.Learnt,
+  for-field-reads.Asked,
+  for-field-reads.Learnt,
+  list-below t,
+  list.Post,
+) (item-at t) item.Post
+item-returns t c = λ ks m. λ fuel. items-none _ _ (c .before .before .before .before .before .before .before .before .args .f) _ _ fuel ks ((rw (c .enum-told .given .1) at (c .before .before .item-at .ensures)) ks m _ fuel) (c .before .before .before .before .before .before .before .before .pre .1 .0 .here)
+
+-- src/lib.rt:342:1
+item-same-length : (t : ℕ) → item-lts.Need-same-length (
+  item-at-reads.Asked,
+  item-at-reads.Learnt,
+  mark-reads.Asked,
+  mark-reads.Learnt,
+  put-row-reads.Asked,
+  put-row-reads.Learnt,
+  for-field-reads.Asked,
+  for-field-reads.Learnt,
+  list-below t,
+  list.Post,
+) (item-at t) item.Post
+item-same-length t c = search needs
+
+-- src/lib.rt:342:1
+item-returns-2 : (t : ℕ) → item-lts.Need-returns-2 (
+  item-at-reads.Asked,
+  item-at-reads.Learnt,
+  mark-reads.Asked,
+  mark-reads.Learnt,
+  put-row-reads.Asked,
+  put-row-reads.Learnt,
+  for-field-reads.Asked,
+  for-field-reads.Learnt,
+  list-below t,
+  list.Post,
+) (item-at t) item.Post
+item-returns-2 t c = λ ks m. let w = (rw (c .before .before .before .before .before .before .before .before .before .before .before .q .given .1) at (c .before .before .before .before .before .before .before .before .before .before .before .before .before .item-at .ensures)) ks m in item-void _ _ _ (c .before .before .before .before .before .before .before .before .before .before .before .before .before .before .before .before .before .before .before .args .f) _ ks _ _ _ _ _ _ w (rw (c .before .before .before .before .before .before .before .before .mark .ensures) (marks-more _ ks _ (omega (arith, w .below, c .before .before .before .before .before .before .before .before .before .before .before .before .before .before .before .before .before .before .before .pre .1 .0 .known)) m)) (c .before .before .before .put-row .ensures)
+
+-- src/lib.rt:342:1
+item-same-length-2 : (t : ℕ) → item-lts.Need-same-length-2 (
+  item-at-reads.Asked,
+  item-at-reads.Learnt,
+  mark-reads.Asked,
+  mark-reads.Learnt,
+  put-row-reads.Asked,
+  put-row-reads.Learnt,
+  for-field-reads.Asked,
+  for-field-reads.Learnt,
+  list-below t,
+  list.Post,
+) (item-at t) item.Post
+item-same-length-2 t c = search needs
+
+-- src/lib.rt:342:1
+item-returns-3 : (t : ℕ) → item-lts.Need-returns-3 (
+  item-at-reads.Asked,
+  item-at-reads.Learnt,
+  mark-reads.Asked,
+  mark-reads.Learnt,
+  put-row-reads.Asked,
+  put-row-reads.Learnt,
+  for-field-reads.Asked,
+  for-field-reads.Learnt,
+  list-below t,
+  list.Post,
+) (item-at t) item.Post
+item-returns-3 t c = λ ks m. let w = (rw (c .before .before .before .before .before .before .before .before .before .before .before .q2 .given .1) at (c .before .before .before .before .before .before .before .before .before .before .before .before .before .item-at .ensures)) ks m in item-list _ _ _ (c .before .before .before .before .before .before .before .before .before .before .before .before .before .before .before .before .before .before .before .args .f) _ ks _ _ _ _ _ w _ _ (rw (c .before .before .before .before .before .before .before .before .mark2 .ensures) (marks-more _ ks _ (omega (arith, w .below, c .before .before .before .before .before .before .before .before .before .before .before .before .before .before .before .before .before .before .before .pre .1 .0 .known)) m)) (rw (c .before .before .before .before .before .before .for-field .ensures, c .before .w .given .1) at (c .before .before .before .before .before .list .ensures))
+
+-- src/lib.rt:342:1
+item-same-length-3 : (t : ℕ) → item-lts.Need-same-length-3 (
+  item-at-reads.Asked,
+  item-at-reads.Learnt,
+  mark-reads.Asked,
+  mark-reads.Learnt,
+  put-row-reads.Asked,
+  put-row-reads.Learnt,
+  for-field-reads.Asked,
+  for-field-reads.Learnt,
+  list-below t,
+  list.Post,
+) (item-at t) item.Post
+item-same-length-3 t c = search needs
+
+-- src/lib.rt:342:1
+item-returns-4 : (t : ℕ) → item-lts.Need-returns-4 (
+  item-at-reads.Asked,
+  item-at-reads.Learnt,
+  mark-reads.Asked,
+  mark-reads.Learnt,
+  put-row-reads.Asked,
+  put-row-reads.Learnt,
+  for-field-reads.Asked,
+  for-field-reads.Learnt,
+  list-below t,
+  list.Post,
+) (item-at t) item.Post
+item-returns-4 t c = λ ks m. λ fuel. item-refused _ _ _ (c .before .before .before .before .before .before .before .before .before .before .before .before .before .before .before .before .before .before .before .args .f) _ ks [] [] [] _ _ ((rw (c .before .before .before .before .before .before .before .before .before .before .before .q2 .given .1) at (c .before .before .before .before .before .before .before .before .before .before .before .before .before .item-at .ensures)) ks m) _ _ (rw (c .before .before .before .before .before .before .for-field .ensures, c .before .k .given .1) at (c .before .before .before .before .before .list .ensures)) fuel
+
+-- src/lib.rt:342:1
+item-returns-5 : (t : ℕ) → item-lts.Need-returns-5 (
+  item-at-reads.Asked,
+  item-at-reads.Learnt,
+  mark-reads.Asked,
+  mark-reads.Learnt,
+  put-row-reads.Asked,
+  put-row-reads.Learnt,
+  for-field-reads.Asked,
+  for-field-reads.Learnt,
+  list-below t,
+  list.Post,
+) (item-at t) item.Post
+item-returns-5 t c = λ ks m. item-passed _ (c .before .before .before .before .before .before .before .before .before .args .n) _ (c .before .before .before .before .before .before .before .before .before .args .f) _ ks _ _ _ _ ((rw (c .before .v .given .1) at (c .before .before .before .item-at .ensures)) ks m) m refl
+
+-- src/lib.rt:342:1
+item-returns-6 : (t : ℕ) → item-lts.Need-returns-6 (
+  item-at-reads.Asked,
+  item-at-reads.Learnt,
+  mark-reads.Asked,
+  mark-reads.Learnt,
+  put-row-reads.Asked,
+  put-row-reads.Learnt,
+  for-field-reads.Asked,
+  for-field-reads.Learnt,
+  list-below t,
+  list.Post,
+) (item-at t) item.Post
+item-returns-6 t c = λ ks m. λ fuel. (rw (c .before .k2 .given .1) at (c .before .before .before .item-at .ensures)) ks m _ fuel
+
+abbrev items-Inv-loop : items-lts.InvT-loop
+items-Inv-loop table offs n s rows₀ inside seen₀ g₀ rows seen g = Iteming (schemaAt table offs n) s g₀ g inside rows₀ rows seen
+
+abbrev items-μ-loop : items-lts.MeasureT-loop
+items-μ-loop table offs n s rows₀ inside seen₀ g₀ rows seen g = length s - g .at
+
+-- src/lib.rt:396:20
+items-no-marks-requires : (t : ℕ) → items-lts.Need-no-marks-requires (
+  no-marks-reads.Asked,
+  no-marks-reads.Learnt,
+  item-below t,
+  item.Post,
+  moved-reads.Asked,
+  moved-reads.Learnt,
+) (items-at t) items.Post items-Inv-loop items-μ-loop
+items-no-marks-requires t c κs = search needs
+
+-- src/lib.rt:398:5
+items-loop-holds : (t : ℕ) → items-lts.Need-loop-holds (
+  no-marks-reads.Asked,
+  no-marks-reads.Learnt,
+  item-below t,
+  item.Post,
+  moved-reads.Asked,
+  moved-reads.Learnt,
+) (items-at t) items.Post items-Inv-loop items-μ-loop
+items-loop-holds t c = iteming-start _ _ _ _ _ _ (c .no-marks .ensures) (c .before .before .before .before .before .pre .1 .here)
+
+-- src/lib.rt:399:15
+items-item-requires : (t : ℕ) → items-lts.Need-item-requires (
+  no-marks-reads.Asked,
+  no-marks-reads.Learnt,
+  item-below t,
+  item.Post,
+  moved-reads.Asked,
+  moved-reads.Learnt,
+) (items-at t) items.Post items-Inv-loop items-μ-loop
+items-item-requires t c κs = let r = iteming-room (c .before .before .loop .inv) _ (c .before .before .before .before .before .before .before .before .pre .1) in let d = iteming-depth (c .before .before .loop .inv) in let m : Marked _ = record { ks = c .before .before .loop .inv .seen; marks = c .before .before .loop .inv .marked } in search needs
+
+-- src/lib.rt:400:22
+items-enum-known-v : (t : ℕ) → items-lts.Need-enum-known-v (
+  no-marks-reads.Asked,
+  no-marks-reads.Learnt,
+  item-below t,
+  item.Post,
+  moved-reads.Asked,
+  moved-reads.Learnt,
+) (items-at t) items.Post items-Inv-loop items-μ-loop
+items-enum-known-v t c = search needs
+
+-- src/lib.rt:401:17
+items-moved-requires : (t : ℕ) → items-lts.Need-moved-requires (
+  no-marks-reads.Asked,
+  no-marks-reads.Learnt,
+  item-below t,
+  item.Post,
+  moved-reads.Asked,
+  moved-reads.Learnt,
+) (items-at t) items.Post items-Inv-loop items-μ-loop
+items-moved-requires t c κs = search needs
+
+-- src/lib.rt:398:5
+items-loop-less : (t : ℕ) → items-lts.Need-loop-less (
+  no-marks-reads.Asked,
+  no-marks-reads.Learnt,
+  item-below t,
+  item.Post,
+  moved-reads.Asked,
+  moved-reads.Learnt,
+) (items-at t) items.Post items-Inv-loop items-μ-loop
+items-loop-less t c = let t = (iteming-turn (c .before .before .before .before .before .before .before .before .before .loop .inv) _ _ (c .before .before .before .before .before .before .item .result) (c .before .before .before .before .before .before .item .ensures) _ _ (c .before .before .v .given .1)) in rw (c .moved .ensures) (omega (arith, t))
+
+-- src/lib.rt:398:5
+items-loop-again : (t : ℕ) → items-lts.Need-loop-again (
+  no-marks-reads.Asked,
+  no-marks-reads.Learnt,
+  item-below t,
+  item.Post,
+  moved-reads.Asked,
+  moved-reads.Learnt,
+) (items-at t) items.Post items-Inv-loop items-μ-loop
+items-loop-again t c = iteming-on (c .before .before .before .before .before .before .before .before .before .loop .inv) _ _ (c .before .before .before .before .before .before .item .result) (c .before .before .before .before .before .before .item .ensures) _ _ _ (c .before .before .v .given .1) (c .moved .ensures)
+
+-- src/lib.rt:403:23
+items-enum-known-o : (t : ℕ) → items-lts.Need-enum-known-o (
+  no-marks-reads.Asked,
+  no-marks-reads.Learnt,
+  item-below t,
+  item.Post,
+  moved-reads.Asked,
+  moved-reads.Learnt,
+) (items-at t) items.Post items-Inv-loop items-μ-loop
+items-enum-known-o t c = search needs
+
+-- src/lib.rt:404:17
+items-same-length : (t : ℕ) → items-lts.Need-same-length (
+  no-marks-reads.Asked,
+  no-marks-reads.Learnt,
+  item-below t,
+  item.Post,
+  moved-reads.Asked,
+  moved-reads.Learnt,
+) (items-at t) items.Post items-Inv-loop items-μ-loop
+items-same-length t c = search needs
+
+-- src/lib.rt:404:17
+items-returns : (t : ℕ) → items-lts.Need-returns (
+  no-marks-reads.Asked,
+  no-marks-reads.Learnt,
+  item-below t,
+  item.Post,
+  moved-reads.Asked,
+  moved-reads.Learnt,
+) (items-at t) items.Post items-Inv-loop items-μ-loop
+items-returns t c = iteming-out (c .before .before .before .before .before .before .before .before .loop .inv) _ _ (c .before .before .before .before .before .item .result) (c .before .before .before .before .before .item .ensures) _ (c .before .o .given .1)
+
+abbrev list-Inv-loop : list-lts.InvT-loop
+list-Inv-loop table offs n s rows₀ e g₀ c₀ rows g c = Listing (schemaAt table offs n) s g₀ g rows₀ rows c
+
+abbrev list-μ-loop : list-lts.MeasureT-loop
+list-μ-loop table offs n s rows₀ e g₀ c₀ rows g c = length s - g .at
+
+-- src/lib.rt:323:9
+list-ints-of-requires : (t : ℕ) → list-lts.Need-ints-of-requires (
+  ints-of-reads.Asked,
+  ints-of-reads.Learnt,
+  next-element-below t,
+  next-element.Post,
+  moved-reads.Asked,
+  moved-reads.Learnt,
+) (list-at t) list.Post list-Inv-loop list-μ-loop
+list-ints-of-requires t c κs = search needs
+
+-- src/lib.rt:326:5
+list-loop-holds : (t : ℕ) → list-lts.Need-loop-holds (
+  ints-of-reads.Asked,
+  ints-of-reads.Learnt,
+  next-element-below t,
+  next-element.Post,
+  moved-reads.Asked,
+  moved-reads.Learnt,
+) (list-at t) list.Post list-Inv-loop list-μ-loop
+list-loop-holds t c = listing-start _ _ _ _ (c .before .before .before .before .before .pre .1 .0 .here)
+
+-- src/lib.rt:327:15
+list-next-element-requires : (t : ℕ) → list-lts.Need-next-element-requires (
+  ints-of-reads.Asked,
+  ints-of-reads.Learnt,
+  next-element-below t,
+  next-element.Post,
+  moved-reads.Asked,
+  moved-reads.Learnt,
+) (list-at t) list.Post list-Inv-loop list-μ-loop
+list-next-element-requires t c κs = let r = (listing-room (c .before .loop .inv) _ (c .before .before .before .before .before .before .before .pre .1 .0)) in let d = listing-depth (c .before .loop .inv) in let k = listing-named (c .before .loop .inv) in let i = listing-ints (c .before .loop .inv) _ (c .before .before .ints-of .ensures) in let w = c .before .loop .inv .few in let p = c .before .before .before .before .before .before .before .pre .1 .1 in (omega (arith, d), (r, (omega (arith, k, w, p, r), i)))
+
+-- src/lib.rt:328:22
+list-enum-known-v : (t : ℕ) → list-lts.Need-enum-known-v (
+  ints-of-reads.Asked,
+  ints-of-reads.Learnt,
+  next-element-below t,
+  next-element.Post,
+  moved-reads.Asked,
+  moved-reads.Learnt,
+) (list-at t) list.Post list-Inv-loop list-μ-loop
+list-enum-known-v t c = search needs
+
+-- src/lib.rt:329:17
+list-moved-requires : (t : ℕ) → list-lts.Need-moved-requires (
+  ints-of-reads.Asked,
+  ints-of-reads.Learnt,
+  next-element-below t,
+  next-element.Post,
+  moved-reads.Asked,
+  moved-reads.Learnt,
+) (list-at t) list.Post list-Inv-loop list-μ-loop
+list-moved-requires t c κs = search needs
+
+-- src/lib.rt:330:17
+list-add-c : (t : ℕ) → list-lts.Need-add-c (
+  ints-of-reads.Asked,
+  ints-of-reads.Learnt,
+  next-element-below t,
+  next-element.Post,
+  moved-reads.Asked,
+  moved-reads.Learnt,
+) (list-at t) list.Post list-Inv-loop list-μ-loop
+list-add-c t c = let r = (listing-room (c .before .before .before .before .before .before .before .before .loop .inv) _ (c .before .before .before .before .before .before .before .before .before .before .before .before .before .before .pre .1 .0)) in omega (arith, r, c .before .before .before .before .before .before .before .before .loop .inv .few)
+
+-- src/lib.rt:326:5
+list-loop-less : (t : ℕ) → list-lts.Need-loop-less (
+  ints-of-reads.Asked,
+  ints-of-reads.Learnt,
+  next-element-below t,
+  next-element.Post,
+  moved-reads.Asked,
+  moved-reads.Learnt,
+) (list-at t) list.Post list-Inv-loop list-μ-loop
+list-loop-less t c = let t = (listing-turn (c .before .before .before .before .before .before .before .before .loop .inv) _ (c .before .before .before .before .before .before .next-element .result) _ _ (c .before .before .before .before .before .before .next-element .ensures) (c .before .before .v .given .1)) in rw (c .moved .ensures) (omega (arith, t))
+
+-- src/lib.rt:326:5
+list-loop-again : (t : ℕ) → list-lts.Need-loop-again (
+  ints-of-reads.Asked,
+  ints-of-reads.Learnt,
+  next-element-below t,
+  next-element.Post,
+  moved-reads.Asked,
+  moved-reads.Learnt,
+) (list-at t) list.Post list-Inv-loop list-μ-loop
+list-loop-again t c = listing-on (c .before .before .before .before .before .before .before .before .loop .inv) _ (c .before .before .before .before .before .before .next-element .result) _ _ _ (c .before .before .before .before .before .before .next-element .ensures) (c .before .before .v .given .1) (c .moved .ensures)
+
+-- src/lib.rt:332:23
+list-enum-known-o : (t : ℕ) → list-lts.Need-enum-known-o (
+  ints-of-reads.Asked,
+  ints-of-reads.Learnt,
+  next-element-below t,
+  next-element.Post,
+  moved-reads.Asked,
+  moved-reads.Learnt,
+) (list-at t) list.Post list-Inv-loop list-μ-loop
+list-enum-known-o t c = search needs
+
+-- src/lib.rt:333:17
+list-same-length : (t : ℕ) → list-lts.Need-same-length (
+  ints-of-reads.Asked,
+  ints-of-reads.Learnt,
+  next-element-below t,
+  next-element.Post,
+  moved-reads.Asked,
+  moved-reads.Learnt,
+) (list-at t) list.Post list-Inv-loop list-μ-loop
+list-same-length t c = search needs
+
+-- src/lib.rt:333:17
+list-returns : (t : ℕ) → list-lts.Need-returns (
+  ints-of-reads.Asked,
+  ints-of-reads.Learnt,
+  next-element-below t,
+  next-element.Post,
+  moved-reads.Asked,
+  moved-reads.Learnt,
+) (list-at t) list.Post list-Inv-loop list-μ-loop
+list-returns t c = listing-out (c .before .before .before .before .before .before .before .loop .inv) _ (c .before .before .before .before .before .next-element .result) _ (c .before .before .before .before .before .next-element .ensures) (c .before .o .given .1)
+
+-- src/lib.rt:312:11
+next-element-quick-int-requires : (t : ℕ) → next-element-lts.Need-quick-int-requires (
+  quick-int-reads.Asked,
+  quick-int-reads.Learnt,
+  element-below t,
+  element.Post,
+) (next-element-at t) next-element.Post
+next-element-quick-int-requires t c κs = c .before .before .before .before .before .pre .1
+
+-- src/lib.rt:313:19
+next-element-enum-known-v : (t : ℕ) → next-element-lts.Need-enum-known-v (
+  quick-int-reads.Asked,
+  quick-int-reads.Learnt,
+  element-below t,
+  element.Post,
+) (next-element-at t) next-element.Post
+next-element-enum-known-v t c = search needs
+
+-- src/lib.rt:314:51
+next-element-enum-told : (t : ℕ) → next-element-lts.Need-enum-told (
+  quick-int-reads.Asked,
+  quick-int-reads.Learnt,
+  element-below t,
+  element.Post,
+) (next-element-at t) next-element.Post
+next-element-enum-told t c = search needs
+
+-- src/lib.rt:314:24
+next-element-element-requires : (t : ℕ) → next-element-lts.Need-element-requires (
+  quick-int-reads.Asked,
+  quick-int-reads.Learnt,
+  element-below t,
+  element.Post,
+) (next-element-at t) next-element.Post
+next-element-element-requires t c κs = omega (arith, c .before .before .before .before .before .before .before .before .before .before .before .pre .1 .0, c .before .before .before .before .before .before .before .before .before .before .before .pre .1 .1 .0)
+
+-- src/lib.rt:297:1
+next-element-same-length : (t : ℕ) → next-element-lts.Need-same-length (
+  quick-int-reads.Asked,
+  quick-int-reads.Learnt,
+  element-below t,
+  element.Post,
+) (next-element-at t) next-element.Post
+next-element-same-length t c = search needs
+
+-- src/lib.rt:297:1
+next-element-returns : (t : ℕ) → next-element-lts.Need-returns (
+  quick-int-reads.Asked,
+  quick-int-reads.Learnt,
+  element-below t,
+  element.Post,
+) (next-element-at t) next-element.Post
+next-element-returns t c = quick-element _ _ (c .before .before .before .before .before .before .before .before .before .before .before .args .f) _ _ _ _ _ (rw (c .before .v .given .1) at (c .before .before .before .before .before .quick-int .ensures))
+
+-- src/lib.rt:297:1
+next-element-same-length-2 : (t : ℕ) → next-element-lts.Need-same-length-2 (
+  quick-int-reads.Asked,
+  quick-int-reads.Learnt,
+  element-below t,
+  element.Post,
+) (next-element-at t) next-element.Post
+next-element-same-length-2 t c = search needs
+
+-- src/lib.rt:297:1
+next-element-returns-2 : (t : ℕ) → next-element-lts.Need-returns-2 (
+  quick-int-reads.Asked,
+  quick-int-reads.Learnt,
+  element-below t,
+  element.Post,
+) (next-element-at t) next-element.Post
+next-element-returns-2 t c = rw (rw (c .before .before .before .before .enum-told .given .1) at (c .before .before .before .before .before .before .before .before .quick-int .ensures)) at (c .before .before .element .ensures)
+
+-- src/lib.rt:251:9
+value-core-requires : (t : ℕ) → value-lts.Need-core-requires (
+  core-reads.Asked,
+  core-reads.Learnt,
+  kind-reads.Asked,
+  kind-reads.Learnt,
+  no-value-reads.Asked,
+  no-value-reads.Learnt,
+  simple-reads.Asked,
+  simple-reads.Learnt,
+  braced-below t,
+  braced.Post,
+) (value-at t) value.Post
+value-core-requires t c κs = search needs
+
+-- src/lib.rt:252:11
+value-kind-requires : (t : ℕ) → value-lts.Need-kind-requires (
+  core-reads.Asked,
+  core-reads.Learnt,
+  kind-reads.Asked,
+  kind-reads.Learnt,
+  no-value-reads.Asked,
+  no-value-reads.Learnt,
+  simple-reads.Asked,
+  simple-reads.Learnt,
+  braced-below t,
+  braced.Post,
+) (value-at t) value.Post
+value-kind-requires t c κs = search needs
+
+-- src/lib.rt:253:24
+value-enum-told : (t : ℕ) → value-lts.Need-enum-told (
+  core-reads.Asked,
+  core-reads.Learnt,
+  kind-reads.Asked,
+  kind-reads.Learnt,
+  no-value-reads.Asked,
+  no-value-reads.Learnt,
+  simple-reads.Asked,
+  simple-reads.Learnt,
+  braced-below t,
+  braced.Post,
+) (value-at t) value.Post
+value-enum-told t c = search needs
+
+-- src/lib.rt:253:24
+value-no-value-requires : (t : ℕ) → value-lts.Need-no-value-requires (
+  core-reads.Asked,
+  core-reads.Learnt,
+  kind-reads.Asked,
+  kind-reads.Learnt,
+  no-value-reads.Asked,
+  no-value-reads.Learnt,
+  simple-reads.Asked,
+  simple-reads.Learnt,
+  braced-below t,
+  braced.Post,
+) (value-at t) value.Post
+value-no-value-requires t c κs = omega (arith, c .before .before .before .before .before .before .before .before .pre .1 .0 .short)
+
+-- src/lib.rt:254:59
+value-enum-told-2 : (t : ℕ) → value-lts.Need-enum-told-2 (
+  core-reads.Asked,
+  core-reads.Learnt,
+  kind-reads.Asked,
+  kind-reads.Learnt,
+  no-value-reads.Asked,
+  no-value-reads.Learnt,
+  simple-reads.Asked,
+  simple-reads.Learnt,
+  braced-below t,
+  braced.Post,
+) (value-at t) value.Post
+value-enum-told-2 t c = search needs
+
+-- src/lib.rt:254:26
+value-simple-requires : (t : ℕ) → value-lts.Need-simple-requires (
+  core-reads.Asked,
+  core-reads.Learnt,
+  kind-reads.Asked,
+  kind-reads.Learnt,
+  no-value-reads.Asked,
+  no-value-reads.Learnt,
+  simple-reads.Asked,
+  simple-reads.Learnt,
+  braced-below t,
+  braced.Post,
+) (value-at t) value.Post
+value-simple-requires t c κs = omega (arith, c .before .before .before .before .before .before .before .before .before .pre .1)
+
+-- src/lib.rt:255:52
+value-enum-told-3 : (t : ℕ) → value-lts.Need-enum-told-3 (
+  core-reads.Asked,
+  core-reads.Learnt,
+  kind-reads.Asked,
+  kind-reads.Learnt,
+  no-value-reads.Asked,
+  no-value-reads.Learnt,
+  simple-reads.Asked,
+  simple-reads.Learnt,
+  braced-below t,
+  braced.Post,
+) (value-at t) value.Post
+value-enum-told-3 t c = search needs
+
+-- src/lib.rt:255:26
+value-braced-requires : (t : ℕ) → value-lts.Need-braced-requires (
+  core-reads.Asked,
+  core-reads.Learnt,
+  kind-reads.Asked,
+  kind-reads.Learnt,
+  no-value-reads.Asked,
+  no-value-reads.Learnt,
+  simple-reads.Asked,
+  simple-reads.Learnt,
+  braced-below t,
+  braced.Post,
+) (value-at t) value.Post
+value-braced-requires t c κs = omega (arith, c .before .before .before .before .before .before .before .before .before .pre .1)
+
+-- src/lib.rt:256:25
+value-enum-told-4 : (t : ℕ) → value-lts.Need-enum-told-4 (
+  core-reads.Asked,
+  core-reads.Learnt,
+  kind-reads.Asked,
+  kind-reads.Learnt,
+  no-value-reads.Asked,
+  no-value-reads.Learnt,
+  simple-reads.Asked,
+  simple-reads.Learnt,
+  braced-below t,
+  braced.Post,
+) (value-at t) value.Post
+value-enum-told-4 t c = search needs
+
+-- src/lib.rt:256:25
+value-no-value-requires-2 : (t : ℕ) → value-lts.Need-no-value-requires-2 (
+  core-reads.Asked,
+  core-reads.Learnt,
+  kind-reads.Asked,
+  kind-reads.Learnt,
+  no-value-reads.Asked,
+  no-value-reads.Learnt,
+  simple-reads.Asked,
+  simple-reads.Learnt,
+  braced-below t,
+  braced.Post,
+) (value-at t) value.Post
+value-no-value-requires-2 t c κs = omega (arith, c .before .before .before .before .before .before .before .before .pre .1 .0 .short)
+
+-- src/lib.rt:257:29
+value-enum-told-5 : (t : ℕ) → value-lts.Need-enum-told-5 (
+  core-reads.Asked,
+  core-reads.Learnt,
+  kind-reads.Asked,
+  kind-reads.Learnt,
+  no-value-reads.Asked,
+  no-value-reads.Learnt,
+  simple-reads.Asked,
+  simple-reads.Learnt,
+  braced-below t,
+  braced.Post,
+) (value-at t) value.Post
+value-enum-told-5 t c = search needs
+
+-- src/lib.rt:257:29
+value-no-value-requires-3 : (t : ℕ) → value-lts.Need-no-value-requires-3 (
+  core-reads.Asked,
+  core-reads.Learnt,
+  kind-reads.Asked,
+  kind-reads.Learnt,
+  no-value-reads.Asked,
+  no-value-reads.Learnt,
+  simple-reads.Asked,
+  simple-reads.Learnt,
+  braced-below t,
+  braced.Post,
+) (value-at t) value.Post
+value-no-value-requires-3 t c κs = omega (arith, c .before .before .before .before .before .before .before .before .pre .1 .0 .short)
+
+-- src/lib.rt:246:1
+value-returns : (t : ℕ) → value-lts.Need-returns (
+  core-reads.Asked,
+  core-reads.Learnt,
+  kind-reads.Asked,
+  kind-reads.Learnt,
+  no-value-reads.Asked,
+  no-value-reads.Learnt,
+  simple-reads.Asked,
+  simple-reads.Learnt,
+  braced-below t,
+  braced.Post,
+) (value-at t) value.Post
+unfolding isPlace
+value-returns t c = plain-none _ _ (c .before .before .before .before .before .before .before .before .before .args .f) _ _ (c .no-value .result) schema.void (rw (← c .before .before .before .before .core .ensures) (sym (c .before .before .before .kind .ensures) ∙ ap shapeOf (c .before .enum-told .given .1))) refl (c .no-value .ensures)
+
+-- src/lib.rt:246:1
+value-same-length : (t : ℕ) → value-lts.Need-same-length (
+  core-reads.Asked,
+  core-reads.Learnt,
+  kind-reads.Asked,
+  kind-reads.Learnt,
+  no-value-reads.Asked,
+  no-value-reads.Learnt,
+  simple-reads.Asked,
+  simple-reads.Learnt,
+  braced-below t,
+  braced.Post,
+) (value-at t) value.Post
+value-same-length t c = search needs
+
+-- src/lib.rt:246:1
+value-returns-2 : (t : ℕ) → value-lts.Need-returns-2 (
+  core-reads.Asked,
+  core-reads.Learnt,
+  kind-reads.Asked,
+  kind-reads.Learnt,
+  no-value-reads.Asked,
+  no-value-reads.Learnt,
+  simple-reads.Asked,
+  simple-reads.Learnt,
+  braced-below t,
+  braced.Post,
+) (value-at t) value.Post
+value-returns-2 t c = plain-simple _ _ (c .before .before .before .before .before .before .before .before .before .before .before .before .args .f) _ _ (c .before .before .simple .result) _ (c .before .before .before .before .before .before .before .core .ensures) (sym (c .before .before .before .before .before .before .kind .ensures) ∙ ap shapeOf (c .before .before .before .before .enum-told2 .given .1)) (c .before .before .simple .ensures)
+
+-- src/lib.rt:246:1
+value-same-length-2 : (t : ℕ) → value-lts.Need-same-length-2 (
+  core-reads.Asked,
+  core-reads.Learnt,
+  kind-reads.Asked,
+  kind-reads.Learnt,
+  no-value-reads.Asked,
+  no-value-reads.Learnt,
+  simple-reads.Asked,
+  simple-reads.Learnt,
+  braced-below t,
+  braced.Post,
+) (value-at t) value.Post
+value-same-length-2 t c = search needs
+
+-- src/lib.rt:246:1
+value-returns-3 : (t : ℕ) → value-lts.Need-returns-3 (
+  core-reads.Asked,
+  core-reads.Learnt,
+  kind-reads.Asked,
+  kind-reads.Learnt,
+  no-value-reads.Asked,
+  no-value-reads.Learnt,
+  simple-reads.Asked,
+  simple-reads.Learnt,
+  braced-below t,
+  braced.Post,
+) (value-at t) value.Post
+value-returns-3 t c = plain-struct _ _ (c .before .before .before .before .before .before .before .before .before .before .before .before .args .f) _ _ (c .before .before .braced .result) _ (c .before .before .before .before .before .before .before .core .ensures) (sym (c .before .before .before .before .before .before .kind .ensures) ∙ ap shapeOf (c .before .before .before .before .enum-told3 .given .1)) (c .before .before .braced .ensures)
+
+-- src/lib.rt:246:1
+value-returns-4 : (t : ℕ) → value-lts.Need-returns-4 (
+  core-reads.Asked,
+  core-reads.Learnt,
+  kind-reads.Asked,
+  kind-reads.Learnt,
+  no-value-reads.Asked,
+  no-value-reads.Learnt,
+  simple-reads.Asked,
+  simple-reads.Learnt,
+  braced-below t,
+  braced.Post,
+) (value-at t) value.Post
+unfolding isPlace
+value-returns-4 t c = plain-none _ _ (c .before .before .before .before .before .before .before .before .before .args .f) _ _ (c .no-value2 .result) schema.union (rw (← c .before .before .before .before .core .ensures) (sym (c .before .before .before .kind .ensures) ∙ ap shapeOf (c .before .enum-told4 .given .1))) refl (c .no-value2 .ensures)
+
+-- src/lib.rt:246:1
+value-returns-5 : (t : ℕ) → value-lts.Need-returns-5 (
+  core-reads.Asked,
+  core-reads.Learnt,
+  kind-reads.Asked,
+  kind-reads.Learnt,
+  no-value-reads.Asked,
+  no-value-reads.Learnt,
+  simple-reads.Asked,
+  simple-reads.Learnt,
+  braced-below t,
+  braced.Post,
+) (value-at t) value.Post
+unfolding isPlace
+value-returns-5 t c = plain-none _ _ (c .before .before .before .before .before .before .before .before .before .args .f) _ _ (c .no-value3 .result) schema.reference (rw (← c .before .before .before .before .core .ensures) (sym (c .before .before .before .kind .ensures) ∙ ap shapeOf (c .before .enum-told5 .given .1))) refl (c .no-value3 .ensures)
+
+pub +body+braced+choice+element+field+fields+item+items+list+next-element+value-spec :
+    {M : Type 1} → statement M
++body+braced+choice+element+field+fields+item+items+list+next-element+value-spec =
+    close
+    μ-body
+    μ-braced
+    μ-choice
+    μ-element
+    μ-field
+    μ-fields
+    μ-item
+    μ-items
+    μ-list
+    μ-next-element
+    μ-value
+    (λ t. body-lts.spec (
+      head-reads.Asked,
+      head-reads.Learnt,
+      deeper-reads.Asked,
+      deeper-reads.Learnt,
+      fields-below t,
+      fields.Post,
+    )
+    (body-at t)
+    body.Post
+    (body-head-requires t)
+    (body-add-t11 t)
+    (body-returns t)
+    (body-deeper-requires t)
+    (body-fields-requires t)
+    (body-same-length t)
+    (body-returns-2 t))
+    (λ t. braced-lts.spec (
+      open-brace-reads.Asked,
+      open-brace-reads.Learnt,
+      inner-reads.Asked,
+      inner-reads.Learnt,
+      body-below t,
+      body.Post,
+      shut-reads.Asked,
+      shut-reads.Learnt,
+    )
+    (braced-at t)
+    braced.Post
+    (braced-open-brace-requires t)
+    (braced-enum-known-a t)
+    (braced-sub-body t)
+    (braced-part-body-start t)
+    (braced-part-body-end t)
+    (braced-inner-requires t)
+    (braced-body-requires t)
+    (braced-enum-known-w t)
+    (braced-add-shut t)
+    (braced-shut-requires t)
+    (braced-enum-known-k t)
+    (braced-enum-known-k-2 t)
+    (braced-same-length t)
+    (braced-returns t)
+    (braced-same-length-2 t)
+    (braced-returns-2 t)
+    (braced-returns-3 t))
+    (λ t. choice-lts.spec (
+      core-reads.Asked,
+      core-reads.Learnt,
+      is-union-reads.Asked,
+      is-union-reads.Learnt,
+      value-below t,
+      value.Post,
+      close-chain-reads.Asked,
+      close-chain-reads.Learnt,
+      choose-reads.Asked,
+      choose-reads.Learnt,
+      open-row-reads.Asked,
+      open-row-reads.Learnt,
+      under-reads.Asked,
+      under-reads.Learnt,
+      whole-reads.Asked,
+      whole-reads.Learnt,
+    )
+    (choice-at t)
+    choice.Post
+    choice-Inv-loop
+    choice-μ-loop
+    (choice-loop-holds t)
+    (choice-core-requires t)
+    (choice-is-union-requires t)
+    (choice-value-requires t)
+    (choice-close-chain-requires t)
+    (choice-same-length t)
+    (choice-returns t)
+    (choice-choose-requires t)
+    (choice-enum-known-q t)
+    (choice-open-row-requires t)
+    (choice-under-requires t)
+    (choice-loop-less t)
+    (choice-loop-again t)
+    (choice-enum-known-q-2 t)
+    (choice-whole-requires t)
+    (choice-close-chain-requires-2 t)
+    (choice-same-length-2 t)
+    (choice-returns-2 t)
+    (choice-enum-known-k t)
+    (choice-same-length-3 t)
+    (choice-returns-3 t))
+    (λ t. element-lts.spec (
+      choice-below t,
+      choice.Post,
+      after-value-reads.Asked,
+      after-value-reads.Learnt,
+    )
+    (element-at t)
+    element.Post
+    (element-choice-requires t)
+    (element-enum-known-v t)
+    (element-add-after-value t)
+    (element-after-value-requires t)
+    (element-enum-known-w t)
+    (element-enum-told t)
+    (element-enum-known-k t)
+    (element-enum-known-k-2 t)
+    (element-same-length t)
+    (element-returns t)
+    (element-same-length-2 t)
+    (element-returns-2 t)
+    (element-same-length-3 t)
+    (element-returns-3 t)
+    (element-same-length-4 t)
+    (element-returns-4 t))
+    (λ t. field-lts.spec
+    (field-at-reads.Asked, field-at-reads.Learnt, list-below t, list.Post)
+    (field-at t)
+    field.Post
+    (field-field-at-requires t)
+    (field-enum-told t)
+    (field-list-requires t)
+    (field-enum-known-v t)
+    (field-enum-known-k t)
+    (field-enum-told-2 t)
+    (field-enum-known-k-2 t)
+    (field-same-length t)
+    (field-returns t)
+    (field-same-length-2 t)
+    (field-returns-2 t)
+    (field-returns-3 t)
+    (field-returns-4 t))
+    (λ t. fields-lts.spec (
+      next-untagged-reads.Asked,
+      next-untagged-reads.Learnt,
+      items-below t,
+      items.Post,
+      for-field-reads.Asked,
+      for-field-reads.Learnt,
+      field-below t,
+      field.Post,
+      moved-reads.Asked,
+      moved-reads.Learnt,
+    )
+    (fields-at t)
+    fields.Post
+    fields-Inv-loop
+    fields-μ-loop
+    (fields-loop-holds t)
+    (fields-next-untagged-requires t)
+    (fields-enum-told t)
+    (fields-items-requires t)
+    (fields-same-length t)
+    (fields-returns t)
+    (fields-enum-known-q t)
+    (fields-for-field-requires t)
+    (fields-field-requires t)
+    (fields-enum-known-v t)
+    (fields-moved-requires t)
+    (fields-add-i t)
+    (fields-loop-less t)
+    (fields-loop-again t)
+    (fields-enum-known-o t)
+    (fields-same-length-2 t)
+    (fields-returns-2 t))
+    (λ t. item-lts.spec (
+      item-at-reads.Asked,
+      item-at-reads.Learnt,
+      mark-reads.Asked,
+      mark-reads.Learnt,
+      put-row-reads.Asked,
+      put-row-reads.Learnt,
+      for-field-reads.Asked,
+      for-field-reads.Learnt,
+      list-below t,
+      list.Post,
+    )
+    (item-at t)
+    item.Post
+    (item-item-at-requires t)
+    (item-enum-told t)
+    (item-enum-known-q t)
+    (item-mark-requires t)
+    (item-add-t31 t)
+    (item-add-t32 t)
+    (item-put-row-requires t)
+    (item-add-t31-2 t)
+    (item-enum-known-q-2 t)
+    (item-mark-requires-2 t)
+    (item-for-field-requires t)
+    (item-list-requires t)
+    (item-enum-known-w t)
+    (item-enum-known-k t)
+    (item-enum-known-v t)
+    (item-enum-known-k-2 t)
+    (item-returns t)
+    (item-same-length t)
+    (item-returns-2 t)
+    (item-same-length-2 t)
+    (item-returns-3 t)
+    (item-same-length-3 t)
+    (item-returns-4 t)
+    (item-returns-5 t)
+    (item-returns-6 t))
+    (λ t. items-lts.spec (
+      no-marks-reads.Asked,
+      no-marks-reads.Learnt,
+      item-below t,
+      item.Post,
+      moved-reads.Asked,
+      moved-reads.Learnt,
+    )
+    (items-at t)
+    items.Post
+    items-Inv-loop
+    items-μ-loop
+    (items-no-marks-requires t)
+    (items-loop-holds t)
+    (items-item-requires t)
+    (items-enum-known-v t)
+    (items-moved-requires t)
+    (items-loop-less t)
+    (items-loop-again t)
+    (items-enum-known-o t)
+    (items-same-length t)
+    (items-returns t))
+    (λ t. list-lts.spec (
+      ints-of-reads.Asked,
+      ints-of-reads.Learnt,
+      next-element-below t,
+      next-element.Post,
+      moved-reads.Asked,
+      moved-reads.Learnt,
+    )
+    (list-at t)
+    list.Post
+    list-Inv-loop
+    list-μ-loop
+    (list-ints-of-requires t)
+    (list-loop-holds t)
+    (list-next-element-requires t)
+    (list-enum-known-v t)
+    (list-moved-requires t)
+    (list-add-c t)
+    (list-loop-less t)
+    (list-loop-again t)
+    (list-enum-known-o t)
+    (list-same-length t)
+    (list-returns t))
+    (λ t. next-element-lts.spec (
+      quick-int-reads.Asked,
+      quick-int-reads.Learnt,
+      element-below t,
+      element.Post,
+    )
+    (next-element-at t)
+    next-element.Post
+    (next-element-quick-int-requires t)
+    (next-element-enum-known-v t)
+    (next-element-enum-told t)
+    (next-element-element-requires t)
+    (next-element-same-length t)
+    (next-element-returns t)
+    (next-element-same-length-2 t)
+    (next-element-returns-2 t))
+    λ t. value-lts.spec (
+      core-reads.Asked,
+      core-reads.Learnt,
+      kind-reads.Asked,
+      kind-reads.Learnt,
+      no-value-reads.Asked,
+      no-value-reads.Learnt,
+      simple-reads.Asked,
+      simple-reads.Learnt,
+      braced-below t,
+      braced.Post,
+    )
+    (value-at t)
+    value.Post
+    (value-core-requires t)
+    (value-kind-requires t)
+    (value-enum-told t)
+    (value-no-value-requires t)
+    (value-enum-told-2 t)
+    (value-simple-requires t)
+    (value-enum-told-3 t)
+    (value-braced-requires t)
+    (value-enum-told-4 t)
+    (value-no-value-requires-2 t)
+    (value-enum-told-5 t)
+    (value-no-value-requires-3 t)
+    (value-returns t)
+    (value-same-length t)
+    (value-returns-2 t)
+    (value-same-length-2 t)
+    (value-returns-3 t)
+    (value-returns-4 t)
+    (value-returns-5 t)

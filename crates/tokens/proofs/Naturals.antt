@@ -1,0 +1,155 @@
+-- A word of digits without leading zero that a comma follows at once.
+use mathlib.Core.Path.{_≡_, refl, ap, sym, subst, _∙_}
+use mathlib.Core.Bool.{Bool, true, false, _&&_}
+use mathlib.Core.List.{List, [], _∷_}
+use Prim.Native.Nat.{ℕ, zero, suc, _+_, _-_, _*_, _≤_, _<_}
+use native.Mathlib.Omega.{arith}
+use native.Mathlib.Numerals.{add-one}
+use native.Mathlib.Nat.{add-zero}
+use lib.Dec.{eqb, leb, ltb}
+use lib.ListN.{length, getD, take, drop, length-drop}
+use lib.Seq.{drop-cons, getD-drop, getD-take, length-take-le}
+use borrow.Author.Tests.{lt-ltb, leb-true, ne-eqb}
+use Rattle.classes.specs.Bytes.{between, isDigit, isBlank, isWordByte}
+use Rattle.classes.specs.Lists.{every, runOf}
+use Rattle.classes.proofs.Rows.{run-more, run-stop, run-within}
+use Rattle.numbers.specs.Decimal.{readDigits, numberOf, isNatural}
+use Rattle.schema.specs.Token.{word, comma}
+use Rattle.schema.proofs.CountLaws.{clash-bool}
+use Rattle.table_rules.proofs.Words.{digit-word}
+use Rattle.message_rules.proofs.Spelling.{word-not-blank}
+use Rattle.tokens.specs.Cursor.{part, rowEnd, cutAt, restAt, Step}
+use Rattle.tokens.specs.Digits.{Natural, Counted, DigitsEnd, DigitsAt}
+use Rattle.tokens.specs.declared.Digits.{Digits}
+use Rattle.tokens.specs.declared.Digits.the-variants.{Other, Number}
+use Rattle.tokens.proofs.Steps.{step-comma, step-word}
+use Rattle.tokens.proofs.Plain.{solid}
+
+-- ---- rows of a class
+
+every-run : (f : ℕ → Bool) (l : List ℕ) → every f (take (runOf f l) l) ≡ true
+unfolding runOf every
+every-run f [] = refl
+every-run f (b ∷ l) = go (f b) refl (every-run f l)
+  where
+    go : (t : Bool) → f b ≡ t → every f (take (runOf f l) l) ≡ true → every f (take (elim t [ true ↦ suc (runOf f l) | false ↦ 0 ]) (b ∷ l)) ≡ true
+    go true e r = unfold every in (rw (e, r))
+    go false e r = unfold every in refl
+
+module _ (f : ℕ → Bool) (b : ℕ) (l : List ℕ) where
+  run-in : f b ≡ true → runOf f (b ∷ l) ≡ suc (runOf f l)
+  unfolding runOf
+  run-in e = rw (runOf, e)
+
+  run-out : f b ≡ false → runOf f (b ∷ l) ≡ 0
+  unfolding runOf
+  run-out e = rw (runOf, e)
+
+-- a row of a class within another one ends where that does, if the byte there is in neither
+run-same : (f g : ℕ → Bool) (l : List ℕ) → ((b : ℕ) → f b ≡ true → g b ≡ true) → g (getD l (runOf f l) 0) ≡ false → runOf g l ≡ runOf f l
+run-same f g [] k e = unfold runOf in refl
+run-same f g (b ∷ l) k e = go (f b) refl (run-same f g l k) e
+  where
+    go : (t : Bool) → f b ≡ t → (g (getD l (runOf f l) 0) ≡ false → runOf g l ≡ runOf f l) → g (getD (b ∷ l) (runOf f (b ∷ l)) 0) ≡ false → runOf g (b ∷ l) ≡ runOf f (b ∷ l)
+    go true z r q = run-in g b l (k b z) ∙ (ap suc (r (rw (run-in f b l z) at q)) ∙ sym (run-in f b l z))
+    go false z r q = run-out g b l (rw (run-out f b l z) at q) ∙ sym (run-out f b l z)
+
+-- ---- the digits, one by one
+
+part-cons : (s : List ℕ) (i e : ℕ) → i < length s → i < e → part s i e ≡ getD s i 0 ∷ part s (i + 1) e
+part-cons s i e h l =
+    let q : e - i ≡ suc (e - (i + 1)) = omega arith in
+    rw (q, drop-cons s i 0 h, add-one i)
+
+part-none : (s : List ℕ) (i : ℕ) → part s i i ≡ []
+part-none s i = let q : i - i ≡ 0 = omega arith in rw q
+
+digit-least : (b : ℕ) → isDigit b ≡ true → 48 ≤ b
+unfolding isDigit
+digit-least b e = leb-true 48 b (first (leb 48 b) (leb b 57) e)
+  where
+    first : (p q : Bool) → p && q ≡ true → p ≡ true
+    first true q z = refl
+    first false q z = clash-bool z
+
+-- sum is the number of the digits from at to i
+pub record Summed (s : List ℕ) (at i sum : ℕ) : Type 0 where
+  pub ends : rowEnd isDigit s i ≡ rowEnd isDigit s at
+  pub sums : readDigits sum (part s i (rowEnd isDigit s at)) ≡ numberOf (part s at (rowEnd isDigit s at))
+  pub least : at ≤ i
+
+pub summed-start : (s : List ℕ) (at : ℕ) → Summed s at at 0
+summed-start s at = record { ends = refl; sums = refl; least = omega arith }
+
+pub digit-floor : (b : ℕ) (t : Bool) → t ≡ isDigit b → t ≡ true → 48 ≤ b
+digit-floor b t e f = digit-least b (sym e ∙ f)
+
+pub summed-more : (s : List ℕ) (at i sum next : ℕ) → Summed s at i sum → i < length s → isDigit (getD s i 0) ≡ true → next ≡ sum * 10 + (getD s i 0 - 48) → Summed s at (i + 1) next
+summed-more s at i sum next m h t q =
+    let r = run-more isDigit s i h t in
+    record {
+      ends = sym r ∙ m .ends;
+      sums = rw q (sym (ap (readDigits sum) (part-cons s i (rowEnd isDigit s at) h (omega (arith, m .ends, r))) ∙ unfold readDigits in refl) ∙ m .sums);
+      least = omega (arith, m .least);
+    }
+
+-- ---- the word
+
+natural-is : (w : List ℕ) → every isDigit w ≡ true → 0 < length w → (1 < length w → 48 < getD w 0 0) → isNatural w ≡ true
+unfolding isNatural every
+natural-is [] e h k = absurd (omega arith)
+natural-is (b ∷ []) e h k = first (isDigit b) e
+  where
+    first : (p : Bool) → p && true ≡ true → p ≡ true
+    first true z = refl
+    first false z = clash-bool z
+natural-is (b ∷ c ∷ l) e h k = rw (lt-ltb 48 b (k (omega arith)), e)
+
+module _ (s : List ℕ) (at i sum : ℕ) (m : Summed s at i sum) (h : i < length s) (t : isDigit (getD s i 0) ≡ false) where
+  end-is : rowEnd isDigit s at ≡ i
+  end-is = sym (m .ends) ∙ run-stop isDigit s i h t
+
+  digits-all : every isDigit (part s at i) ≡ true
+  digits-all = let q : runOf isDigit (drop at s) ≡ i - at = omega (arith, end-is) in rw q at (every-run isDigit (drop at s))
+
+  first-digit : at < i → isDigit (getD s at 0) ≡ true
+  first-digit l = go (isDigit (getD s at 0)) refl
+    where
+      go : (b : Bool) → isDigit (getD s at 0) ≡ b → isDigit (getD s at 0) ≡ true
+      go true z = z
+      go false z = absurd (omega (arith, run-stop isDigit s at (omega (arith, h, l)) z, end-is, l))
+
+  word-end : getD s i 0 ≡ 44 → i ≡ rowEnd isWordByte s at
+  unfolding isWordByte
+  word-end c =
+      let q : runOf isDigit (drop at s) ≡ i - at = omega (arith, end-is) in
+      let p : at + (i - at) ≡ i = omega (arith, m .least) in
+      let z : isWordByte (getD (drop at s) (runOf isDigit (drop at s)) 0) ≡ false = rw (q, getD-drop at s (i - at) 0, p, c) in
+      omega (arith, run-same isDigit isWordByte (drop at s) digit-word z, q, m .least)
+
+  counted : (e n : ℕ) → e ≡ i → n ≡ sum → Natural s at e n → Counted s at e n
+  counted e n x y w = rw (x, y) (let v : Natural s at i sum = rw (x, y) at w in record {
+    within = h;
+    natural = natural-is (part s at i) digits-all (omega (arith, length-part, v .less)) (λ l. above v l);
+    number = sym (ap (readDigits sum) (part-none s i) ∙ unfold readDigits in refl) ∙ (rw end-is at (m .sums));
+    first = λ base. subst (λ c. Step c base s at (word (part s at i)) at i) (sym (solid base s at (omega (arith, h, v .less)) (word-not-blank (getD s at 0) (digit-word (getD s at 0) (first-digit (v .less)))))) (step-word base s at (omega (arith, h, v .less)) i (digit-word (getD s at 0) (first-digit (v .less))) (word-end (v .comma-at)));
+    second = λ base. subst (λ c. Step c base s i comma i (i + 1)) (sym (solid base s i h (comma-solid (getD s i 0) (v .comma-at)))) (step-comma base s i h (v .comma-at));
+  })
+    where
+      length-part : length (part s at i) ≡ i - at
+      length-part = length-take-le (i - at) (drop at s) (omega (arith, length-drop at s, h))
+
+      above : Natural s at i sum → 1 < length (part s at i) → 48 < getD (part s at i) 0 0
+      above v l =
+          let q : 0 < i - at = omega (arith, length-part, l) in
+          let p : at + 0 ≡ at = omega arith in
+          let z : getD (part s at i) 0 0 ≡ getD s at 0 = getD-take (i - at) (drop at s) 0 0 q ∙ (getD-drop at s 0 0 ∙ ap (λ j. getD s j 0) p) in
+          let k : getD s at 0 ≡ 48 → ⊥ = v .single (omega (arith, length-part, l)) in
+          rw z (omega (arith, k, digit-least (getD s at 0) (first-digit (v .less))))
+
+      comma-solid : (b : ℕ) → b ≡ 44 → isBlank b ≡ false
+      comma-solid b e = unfold isBlank in (rw e)
+
+  pub digits-counted : (r : Digits) → DigitsEnd s at i sum r → DigitsAt s at r
+  digits-counted Other d = tt
+  digits-counted (Number e n) d = counted e n (d .0) (d .1) (d .2)
