@@ -1,22 +1,23 @@
 -- Bytes that number 22 passes over one by one, a word's bytes among them.
 use mathlib.Core.Path.{_≡_, refl, ap, sym, _∙_}
-use mathlib.Core.Bool.{Bool, true, false, _||_}
-use mathlib.Core.List.{List}
-use Prim.Native.Nat.{ℕ, _+_, _≤_, _<_}
+use mathlib.Core.Bool.{Bool, true, false, _&&_, _||_}
+use mathlib.Core.List.{List, []}
+use Prim.Native.Nat.{ℕ, zero, suc, _+_, _≤_, _<_}
 use native.Mathlib.Omega.{arith}
 use native.Mathlib.Nat.{zero-add}
-use lib.Dec.{eqb, ltb}
+use lib.Dec.{eqb, leb, ltb}
 use lib.ListN.{length, getD}
-use borrow.Author.Tests.{eqb-true, ltb-true, ltb-false}
+use borrow.Author.Tests.{eqb-true, eqb-false, leb-true, ltb-true, ltb-false}
 use Rattle.classes.specs.Bytes.{isBlank, isWordByte, isPlain}
 use Rattle.classes.proofs.Rows.{run-more, run-stop, run-end}
+use Rattle.classes.proofs.Segment.{segment}
 use Rattle.schema.specs.Token.{Token, word, equals, comma}
-use Rattle.schema.proofs.CountLaws.{clash-bool}
+use Rattle.schema.proofs.CountLaws.{clash-bool, and-both}
 use Rattle.message_rules.specs.Scan.{lexeme, putFirst, isOpening, openAfter}
 use Rattle.message_rules.proofs.Spelling.{word-not-blank}
 use Rattle.tokens.specs.Cursor.{part, rowEnd, cutAt, restAt, Step}
 use Rattle.tokens.specs.Scanned.{faultFrom}
-use Rattle.tokens.specs.Turn.{PlainEnd}
+use Rattle.tokens.specs.Turn.{Plains, PlainEnd}
 use Rattle.tokens.proofs.CutAt.{cut-rest}
 use Rattle.tokens.proofs.Steps.{step-equals, step-comma, step-word, fault-word}
 
@@ -63,3 +64,29 @@ plain-start s i = record { is = λ n. refl; least = omega arith }
 
 pub plain-more : (s : List ℕ) (i j : ℕ) → PlainEnd s i j → j < length s → isPlain (getD s j 0) ≡ true → PlainEnd s i (j + 1)
 plain-more s i j p h t = record { is = λ n. p .is n ∙ plain-one s n j h t; least = omega (arith, p .least) }
+
+-- ---- several at once
+
+pub common-plain : (b : ℕ) → leb 42 b && leb b 62 ≡ true → isPlain b ≡ true
+unfolding isPlain isBlank isWordByte
+common-plain b e = and-both (leb 42 b) (leb b 62) e (λ x y. sym (segment isPlain [] {v = true} {b = b} 42 63 tt (leb-true 42 b x) (omega (arith, leb-true b 62 y)) tt))
+
+pub plains-two : (s : List ℕ) (i : ℕ) (x y : Bool) → i + 2 ≤ length s → (x ≡ true → isPlain (getD s i 0) ≡ true) → (y ≡ true → isPlain (getD s (i + 1) 0) ≡ true) → x && y ≡ true → Plains s i 2
+plains-two s i x y h f g e = and-both x y e (λ a b. record { there = h; plain = λ k l u. go k (eqb k i) refl l u (f a) (g b) })
+  where
+    go : (k : ℕ) (t : Bool) → eqb k i ≡ t → i ≤ k → k < i + 2 → isPlain (getD s i 0) ≡ true → isPlain (getD s (i + 1) 0) ≡ true → isPlain (getD s k 0) ≡ true
+    go k true z l u p q = ap (λ j. isPlain (getD s j 0)) (eqb-true k i z) ∙ p
+    go k false z l u p q = let m = eqb-false k i z in ap (λ j. isPlain (getD s j 0)) (omega arith) ∙ q
+
+pub plains-join : (s : List ℕ) (i n : ℕ) (x y : Bool) → (x ≡ true → Plains s i n) → (y ≡ true → Plains s (i + n) n) → x && y ≡ true → Plains s i (n + n)
+plains-join s i n x y f g e = and-both x y e (λ a b. let p = f a in let q = g b in record { there = omega (arith, q .there); plain = λ k l u. go k (ltb k (i + n)) refl l u p q })
+  where
+    go : (k : ℕ) (t : Bool) → ltb k (i + n) ≡ t → i ≤ k → k < i + (n + n) → Plains s i n → Plains s (i + n) n → isPlain (getD s k 0) ≡ true
+    go k true z l u p q = p .plain k l (ltb-true k (i + n) z)
+    go k false z l u p q = q .plain k (ltb-false k (i + n) z) (omega arith)
+
+pub plain-many : (n : ℕ) (s : List ℕ) (i j : ℕ) → PlainEnd s i j → Plains s j n → PlainEnd s i (j + n)
+plain-many zero s i j p q = let z : j + 0 ≡ j = omega arith in rw z p
+plain-many (suc n) s i j p q =
+    let z : j + suc n ≡ j + 1 + n = omega arith in
+    rw z (plain-many n s i (j + 1) (plain-more s i j p (omega (arith, q .there)) (q .plain j (omega arith) (omega arith))) (record { there = omega (arith, q .there); plain = λ k l u. q .plain k (omega arith) (omega arith) }))

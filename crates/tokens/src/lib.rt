@@ -1,15 +1,16 @@
 // The tokens of a message, read by a cursor over its bytes, and number 22.
 ghost use mathlib.Core.Path.{_≡_};
-ghost use Prim.Native.Nat.{ℕ, _≤_, _<_};
+ghost use mathlib.Core.Bool.{true};
+ghost use Prim.Native.Nat.{ℕ, _+_, _≤_, _<_};
 ghost use lib.ListN.{length};
 ghost use Rattle.numbers.specs.Limits.{openLimit};
-ghost use Rattle.classes.specs.Bytes.{isBlank, isWordByte, isStringByte};
+ghost use Rattle.classes.specs.Bytes.{isBlank, isWordByte, isPlain, isStringByte};
 ghost use Rattle.message_rules.specs.Scan.{cut, scanFault};
 ghost use Rattle.tokens.specs.Cursor.{rowEnd, cutAt, restAt, Reads};
 ghost use Rattle.tokens.specs.Head.{HeadAt};
 ghost use Rattle.tokens.specs.Scanned.{foundOf};
 ghost use Rattle.tokens.specs.Digits.{DigitsEnd, DigitsAt};
-ghost use Rattle.tokens.specs.Turn.{ScanTurn, PlainEnd};
+ghost use Rattle.tokens.specs.Turn.{ScanTurn, Plains, PlainEnd};
 
 // How many braces may be open.
 const OPEN_LIMIT: usize = 16;
@@ -286,17 +287,55 @@ fn scan_turn(s: &[u8], u: Cursor, deep: usize) -> Turn
     }
 }
 
+// From * to >: most bytes of numbers and lists, by one test that needs no branch.
+fn is_common(b: u8) -> bool
+    ensures { λ r. ⌜ (r ≡ true → isPlain b ≡ true) ⌝ }
+{
+    (b'*' <= b) & (b <= b'>')
+}
+
+fn two(s: &[u8], i: usize) -> bool
+    requires { ⌜ i + 2 ≤ length (now s) ⌝ }
+    ensures { λ r. ⌜ (r ≡ true → Plains (now (s .entry)) i 2) ⌝ }
+{
+    is_common(s[i]) & is_common(s[i + 1])
+}
+
+fn four(s: &[u8], i: usize) -> bool
+    requires { ⌜ i + 4 ≤ length (now s) ⌝ }
+    ensures { λ r. ⌜ (r ≡ true → Plains (now (s .entry)) i 4) ⌝ }
+{
+    two(s, i) & two(s, i + 2)
+}
+
+// The next eight bytes are there and change nothing.
+fn eight(s: &[u8], i: usize) -> bool
+    ensures { λ r. ⌜ (r ≡ true → Plains (now (s .entry)) i 8) ⌝ }
+{
+    if s.len() <= i {
+        return false;
+    }
+    if s.len() - i < 8 {
+        return false;
+    }
+    four(s, i) & four(s, i + 4)
+}
+
 // Past the bytes from at on that change nothing for number 22.
 fn plain_end(s: &[u8], at: usize) -> usize
     ensures { λ r. ⌜ PlainEnd (now (s .entry)) at r ⌝ }
 {
     let mut i = at;
     while i < s.len() {
-        let b = s[i];
-        if classes::is_plain(b) {
-            i += 1;
+        if eight(s, i) {
+            i += 8;
         } else {
-            return i;
+            let b = s[i];
+            if classes::is_plain(b) {
+                i += 1;
+            } else {
+                return i;
+            }
         }
     }
     i
