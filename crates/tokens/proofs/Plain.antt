@@ -1,7 +1,7 @@
 -- Bytes that number 22 passes over one by one, a word's bytes among them.
 use mathlib.Core.Path.{_≡_, refl, ap, sym, _∙_}
-use mathlib.Core.Bool.{Bool, true, false, _&&_, _||_}
-use mathlib.Core.List.{List, []}
+use mathlib.Core.Bool.{Bool, true, false, not, _&&_, _||_}
+use mathlib.Core.List.{List, [], _∷_}
 use Prim.Native.Nat.{ℕ, zero, suc, _+_, _≤_, _<_}
 use native.Mathlib.Omega.{arith}
 use native.Mathlib.Nat.{zero-add}
@@ -67,9 +67,15 @@ plain-more s i j p h t = record { is = λ n. p .is n ∙ plain-one s n j h t; le
 
 -- ---- several at once
 
-pub common-plain : (b : ℕ) → leb 42 b && leb b 62 ≡ true → isPlain b ≡ true
+pub common-plain : (b : ℕ) → (leb 42 b && leb b 122) && not (eqb b 63) ≡ true → isPlain b ≡ true
 unfolding isPlain isBlank isWordByte
-common-plain b e = and-both (leb 42 b) (leb b 62) e (λ x y. sym (segment isPlain [] {v = true} {b = b} 42 63 tt (leb-true 42 b x) (omega (arith, leb-true b 62 y)) tt))
+common-plain b e =
+    and-both (leb 42 b && leb b 122) (not (eqb b 63)) e (λ r n. and-both (leb 42 b) (leb b 122) r (λ x y.
+    sym (segment isPlain (63 ∷ []) {v = true} {b = b} 42 123 (tt, eqb-false b 63 (no (eqb b 63) n)) (leb-true 42 b x) (omega (arith, leb-true b 122 y)) tt)))
+  where
+    no : (t : Bool) → not t ≡ true → t ≡ false
+    no true z = clash-bool z
+    no false z = refl
 
 pub plains-two : (s : List ℕ) (i : ℕ) (x y : Bool) → i + 2 ≤ length s → (x ≡ true → isPlain (getD s i 0) ≡ true) → (y ≡ true → isPlain (getD s (i + 1) 0) ≡ true) → x && y ≡ true → Plains s i 2
 plains-two s i x y h f g e = and-both x y e (λ a b. record { there = h; plain = λ k l u. go k (eqb k i) refl l u (f a) (g b) })

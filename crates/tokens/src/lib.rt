@@ -287,11 +287,11 @@ fn scan_turn(s: &[u8], u: Cursor, deep: usize) -> Turn
     }
 }
 
-// From * to >: most bytes of numbers and lists, by one test that needs no branch.
+// Most bytes of words and lists, by a test that needs no branch.
 fn is_common(b: u8) -> bool
     ensures { λ r. ⌜ (r ≡ true → isPlain b ≡ true) ⌝ }
 {
-    (b'*' <= b) & (b <= b'>')
+    (b'*' <= b) & (b <= b'z') & (b != b'?')
 }
 
 fn two(s: &[u8], i: usize) -> bool
