@@ -86,6 +86,9 @@ isUnion schema.reference = false
 abbrev pub movedOf : Frame → ℕ → ℕ → Frame
 movedOf f at row = record { base = f .base; at = at; row = row; parameter = f .parameter; parent = f .parent; depth = f .depth }
 
+abbrev pub nextOf : Frame → ℕ → ℕ → ℕ → Frame
+nextOf f at row up = record { base = f .base; at = at; row = row; parameter = f .parameter; parent = up; depth = f .depth }
+
 abbrev pub fieldOf : Frame → ℕ → ℕ → Frame
 fieldOf f at q = record { base = f .base; at = at; row = f .row; parameter = q; parent = f .parent; depth = f .depth }
 

@@ -11,7 +11,7 @@ ghost use Rattle.lookup.specs.Questions.{schemaAt};
 ghost use Rattle.lookup.specs.IntList.{IntsOf};
 ghost use Rattle.lookup.specs.Seen.{Marks};
 ghost use Rattle.turns.specs.Ends.{Room, Ends, EndsValue};
-ghost use Rattle.reader.specs.Turning.{valuesOf, here, ElementAt, FieldAt, ItemTurn, Marked, PlainAt, closedRows, endPlace, WholeAt, isUnion, movedOf, fieldOf, underOf, innerOf, deeperOf, openRow};
+ghost use Rattle.reader.specs.Turning.{valuesOf, here, ElementAt, FieldAt, ItemTurn, Marked, PlainAt, closedRows, endPlace, WholeAt, isUnion, movedOf, nextOf, fieldOf, underOf, innerOf, deeperOf, openRow};
 use lookup::Found;
 use lookup::Ints;
 use lookup::Shape;
@@ -44,6 +44,20 @@ fn moved(f: Frame, at: usize, row: usize) -> Frame
         row: row,
         parameter: f.parameter,
         parent: f.parent,
+        depth: f.depth,
+    }
+}
+
+// The frame of a list's next value, under the row that the list stands under.
+fn next_value(f: Frame, at: usize, row: usize, up: usize) -> Frame
+    ensures { λ r. ⌜ r ≡ nextOf f at row up ⌝ }
+{
+    Frame {
+        base: f.base,
+        at: at,
+        row: row,
+        parameter: f.parameter,
+        parent: up,
         depth: f.depth,
     }
 }
@@ -326,7 +340,7 @@ fn list(table: &[u8], offs: &[u32], n: usize, s: &[u8], rows: &mut [u32], f: Fra
     loop {
         match next_element(table, offs, n, s, rows, g, c, e) {
             Turn::On(v, next) => {
-                g = moved(g, v.at, next);
+                g = next_value(g, v.at, next, g.parent);
                 c += 1;
             }
             Turn::Out(o) => {

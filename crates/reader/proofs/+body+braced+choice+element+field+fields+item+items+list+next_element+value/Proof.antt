@@ -64,6 +64,7 @@ use Rattle.reader.proofs.for_field.Reads as for-field-reads
 use Rattle.reader.proofs.inner.Reads as inner-reads
 use Rattle.reader.proofs.is_union.Reads as is-union-reads
 use Rattle.reader.proofs.moved.Reads as moved-reads
+use Rattle.reader.proofs.next_value.Reads as next-value-reads
 use Rattle.reader.proofs.open_row.Reads as open-row-reads
 use Rattle.reader.proofs.under.Reads as under-reads
 use Rattle.reader.proofs.whole.Reads as whole-reads
@@ -190,7 +191,7 @@ value-at t = and 4 value-kinds.ps (is 4 value-kinds.ps μ-value t) value.Pre
 abbrev value-below : ℕ → In 4 value-kinds.ps
 value-below t = and 4 value-kinds.ps (falls 4 value-kinds.ps _<_ μ-value t) value.Pre
 
--- src/lib.rt:482:13
+-- src/lib.rt:496:13
 body-head-requires : (t : ℕ) → body-lts.Need-head-requires (
   head-reads.Asked,
   head-reads.Learnt,
@@ -201,7 +202,7 @@ body-head-requires : (t : ℕ) → body-lts.Need-head-requires (
 ) (body-at t) body.Post
 body-head-requires t c κs = search needs
 
--- src/lib.rt:483:32
+-- src/lib.rt:497:32
 body-add-t11 : (t : ℕ) → body-lts.Need-add-t11 (
   head-reads.Asked,
   head-reads.Learnt,
@@ -212,7 +213,7 @@ body-add-t11 : (t : ℕ) → body-lts.Need-add-t11 (
 ) (body-at t) body.Post
 body-add-t11 t c = omega (arith, c .before .before .head .ensures 0 .within, c .before .before .before .before .before .before .before .before .before .pre .1 .short)
 
--- src/lib.rt:483:9
+-- src/lib.rt:497:9
 body-returns : (t : ℕ) → body-lts.Need-returns (
   head-reads.Asked,
   head-reads.Learnt,
@@ -223,7 +224,7 @@ body-returns : (t : ℕ) → body-lts.Need-returns (
 ) (body-at t) body.Post
 body-returns t c = body-none _ _ (c .before .before .before .before .before .before .before .before .before .args .f) _ (c .before .before .head .result) (c .before .before .head .ensures _) (c .before .before .before .if1 .taken)
 
--- src/lib.rt:485:37
+-- src/lib.rt:499:37
 body-deeper-requires : (t : ℕ) → body-lts.Need-deeper-requires (
   head-reads.Asked,
   head-reads.Learnt,
@@ -234,7 +235,7 @@ body-deeper-requires : (t : ℕ) → body-lts.Need-deeper-requires (
 ) (body-at t) body.Post
 body-deeper-requires t c κs = pos-of-ne-zero (c .before .if1 .left)
 
--- src/lib.rt:485:5
+-- src/lib.rt:499:5
 body-fields-requires : (t : ℕ) → body-lts.Need-fields-requires (
   head-reads.Asked,
   head-reads.Learnt,
@@ -245,7 +246,7 @@ body-fields-requires : (t : ℕ) → body-lts.Need-fields-requires (
 ) (body-at t) body.Post
 body-fields-requires t c κs = rw (c .deeper .ensures) (omega (arith, c .before .before .before .before .before .before .before .before .pre .1, pos-of-ne-zero (c .before .before .if1 .left)))
 
--- src/lib.rt:468:1
+-- src/lib.rt:482:1
 body-same-length : (t : ℕ) → body-lts.Need-same-length (
   head-reads.Asked,
   head-reads.Learnt,
@@ -256,7 +257,7 @@ body-same-length : (t : ℕ) → body-lts.Need-same-length (
 ) (body-at t) body.Post
 body-same-length t c = search needs
 
--- src/lib.rt:468:1
+-- src/lib.rt:482:1
 body-returns-2 : (t : ℕ) → body-lts.Need-returns-2 (
   head-reads.Asked,
   head-reads.Learnt,
@@ -267,7 +268,7 @@ body-returns-2 : (t : ℕ) → body-lts.Need-returns-2 (
 ) (body-at t) body.Post
 body-returns-2 t c = body-ends _ _ (c .before .before .before .before .before .before .before .before .before .before .before .args .f) _ _ _ (c .before .before .fields .result) (c .before .before .before .before .before .if1 .left) (rw (c .before .before .before .deeper .ensures) at (c .before .before .fields .ensures))
 
--- src/lib.rt:233:11
+-- src/lib.rt:247:11
 braced-open-brace-requires : (t : ℕ) → braced-lts.Need-open-brace-requires (
   open-brace-reads.Asked,
   open-brace-reads.Learnt,
@@ -280,7 +281,7 @@ braced-open-brace-requires : (t : ℕ) → braced-lts.Need-open-brace-requires (
 ) (braced-at t) braced.Post
 braced-open-brace-requires t c κs = omega (arith, c .before .before .before .before .pre .1 .0 .short)
 
--- src/lib.rt:234:20
+-- src/lib.rt:248:20
 braced-enum-known-a : (t : ℕ) → braced-lts.Need-enum-known-a (
   open-brace-reads.Asked,
   open-brace-reads.Learnt,
@@ -293,7 +294,7 @@ braced-enum-known-a : (t : ℕ) → braced-lts.Need-enum-known-a (
 ) (braced-at t) braced.Post
 braced-enum-known-a t c = search needs
 
--- src/lib.rt:236:40
+-- src/lib.rt:250:40
 braced-sub-body : (t : ℕ) → braced-lts.Need-sub-body (
   open-brace-reads.Asked,
   open-brace-reads.Learnt,
@@ -306,7 +307,7 @@ braced-sub-body : (t : ℕ) → braced-lts.Need-sub-body (
 ) (braced-at t) braced.Post
 braced-sub-body t c = let o = (rw (c .before .a .given .1) at (c .before .before .before .open-brace .ensures)) in omega (arith, o .within)
 
--- src/lib.rt:236:40
+-- src/lib.rt:250:40
 braced-part-body-start : (t : ℕ) → braced-lts.Need-part-body-start (
   open-brace-reads.Asked,
   open-brace-reads.Learnt,
@@ -319,7 +320,7 @@ braced-part-body-start : (t : ℕ) → braced-lts.Need-part-body-start (
 ) (braced-at t) braced.Post
 braced-part-body-start t c = let o = (rw (c .before .a .given .1) at (c .before .before .before .open-brace .ensures)) in omega (arith, o .within)
 
--- src/lib.rt:236:40
+-- src/lib.rt:250:40
 braced-part-body-end : (t : ℕ) → braced-lts.Need-part-body-end (
   open-brace-reads.Asked,
   open-brace-reads.Learnt,
@@ -332,7 +333,7 @@ braced-part-body-end : (t : ℕ) → braced-lts.Need-part-body-end (
 ) (braced-at t) braced.Post
 braced-part-body-end t c = let o = (rw (c .before .a .given .1) at (c .before .before .before .open-brace .ensures)) in omega (arith, o .within)
 
--- src/lib.rt:236:55
+-- src/lib.rt:250:55
 braced-inner-requires : (t : ℕ) → braced-lts.Need-inner-requires (
   open-brace-reads.Asked,
   open-brace-reads.Learnt,
@@ -345,7 +346,7 @@ braced-inner-requires : (t : ℕ) → braced-lts.Need-inner-requires (
 ) (braced-at t) braced.Post
 braced-inner-requires t c κs = let o = (rw (c .before .before .before .a .given .1) at (c .before .before .before .before .before .open-brace .ensures)) in omega (arith, o .within, c .before .before .before .before .before .before .before .before .before .before .pre .1 .0)
 
--- src/lib.rt:236:19
+-- src/lib.rt:250:19
 braced-body-requires : (t : ℕ) → braced-lts.Need-body-requires (
   open-brace-reads.Asked,
   open-brace-reads.Learnt,
@@ -358,7 +359,7 @@ braced-body-requires : (t : ℕ) → braced-lts.Need-body-requires (
 ) (braced-at t) braced.Post
 braced-body-requires t c κs = let o = (rw (c .before .before .before .before .a .given .1) at (c .before .before .before .before .before .before .open-brace .ensures)) in let q = room-inner (c .before .before .before .before .before .before .before .before .before .before .before .args .f) (now (c .before .before .before .before .before .before .before .before .before .before .before .args .s)) _ _ 0 (c .before .before .before .before .before .before .before .before .before .before .before .pre .1 .0) (step-within _ _ _ _ _ _ o .0) (o .within) in rw (c .inner .ensures) (omega (arith, q))
 
--- src/lib.rt:237:27
+-- src/lib.rt:251:27
 braced-enum-known-w : (t : ℕ) → braced-lts.Need-enum-known-w (
   open-brace-reads.Asked,
   open-brace-reads.Learnt,
@@ -371,7 +372,7 @@ braced-enum-known-w : (t : ℕ) → braced-lts.Need-enum-known-w (
 ) (braced-at t) braced.Post
 braced-enum-known-w t c = search needs
 
--- src/lib.rt:237:63
+-- src/lib.rt:251:63
 braced-add-shut : (t : ℕ) → braced-lts.Need-add-shut (
   open-brace-reads.Asked,
   open-brace-reads.Learnt,
@@ -384,7 +385,7 @@ braced-add-shut : (t : ℕ) → braced-lts.Need-add-shut (
 ) (braced-at t) braced.Post
 braced-add-shut t c = let b = (rw (c .before .before .before .before .before .before .before .before .inner .ensures, c .before .before .before .w .given .1) at (c .before .before .before .before .before .before .before .body .ensures)) in omega (arith, braced-within _ _ (c .before .before .before .before .before .before .before .before .before .before .before .before .before .before .before .before .before .before .before .args .f) _ _ _ _ _ [] (rw (c .before .before .before .before .before .before .before .before .before .before .before .before .a .given .1) at (c .before .before .before .before .before .before .before .before .before .before .before .before .before .before .open-brace .ensures)) _ _ b, c .before .before .before .before .before .before .before .before .before .before .before .before .before .before .before .before .before .before .before .pre .1 .0)
 
--- src/lib.rt:237:36
+-- src/lib.rt:251:36
 braced-shut-requires : (t : ℕ) → braced-lts.Need-shut-requires (
   open-brace-reads.Asked,
   open-brace-reads.Learnt,
@@ -397,7 +398,7 @@ braced-shut-requires : (t : ℕ) → braced-lts.Need-shut-requires (
 ) (braced-at t) braced.Post
 braced-shut-requires t c κs = let o = (rw (c .before .before .before .before .before .before .before .before .before .before .before .before .a .given .1) at (c .before .before .before .before .before .before .before .before .before .before .before .before .before .before .open-brace .ensures)) in omega (arith, o .less, o .within, c .before .before .before .before .before .before .before .before .before .before .before .before .before .before .before .before .before .before .before .pre .1 .0, c .before .before .before .before .before .before .before .before .before .before .before .before .before .before .before .before .before .before .before .pre .1 .1)
 
--- src/lib.rt:238:30
+-- src/lib.rt:252:30
 braced-enum-known-k : (t : ℕ) → braced-lts.Need-enum-known-k (
   open-brace-reads.Asked,
   open-brace-reads.Learnt,
@@ -410,7 +411,7 @@ braced-enum-known-k : (t : ℕ) → braced-lts.Need-enum-known-k (
 ) (braced-at t) braced.Post
 braced-enum-known-k t c = search needs
 
--- src/lib.rt:241:25
+-- src/lib.rt:255:25
 braced-enum-known-k-2 : (t : ℕ) → braced-lts.Need-enum-known-k-2 (
   open-brace-reads.Asked,
   open-brace-reads.Learnt,
@@ -423,7 +424,7 @@ braced-enum-known-k-2 : (t : ℕ) → braced-lts.Need-enum-known-k-2 (
 ) (braced-at t) braced.Post
 braced-enum-known-k-2 t c = search needs
 
--- src/lib.rt:220:1
+-- src/lib.rt:234:1
 braced-same-length : (t : ℕ) → braced-lts.Need-same-length (
   open-brace-reads.Asked,
   open-brace-reads.Learnt,
@@ -436,7 +437,7 @@ braced-same-length : (t : ℕ) → braced-lts.Need-same-length (
 ) (braced-at t) braced.Post
 braced-same-length t c = search needs
 
--- src/lib.rt:220:1
+-- src/lib.rt:234:1
 braced-returns : (t : ℕ) → braced-lts.Need-returns (
   open-brace-reads.Asked,
   open-brace-reads.Learnt,
@@ -449,7 +450,7 @@ braced-returns : (t : ℕ) → braced-lts.Need-returns (
 ) (braced-at t) braced.Post
 braced-returns t c = braced-ends _ _ (c .before .before .before .before .before .before .before .before .before .before .before .before .before .before .before .before .before .before .before .before .before .before .args .f) _ _ _ _ _ _ (rw (c .before .before .before .before .before .before .before .before .before .before .before .before .before .before .before .a .given .1) at (c .before .before .before .before .before .before .before .before .before .before .before .before .before .before .before .before .before .open-brace .ensures)) _ _ (rw (c .before .before .before .before .before .before .before .before .before .before .before .inner .ensures, c .before .before .before .before .before .before .w .given .1) at (c .before .before .before .before .before .before .before .before .before .before .body .ensures)) (c .before .before .shut .result) (c .before .before .shut .ensures)
 
--- src/lib.rt:220:1
+-- src/lib.rt:234:1
 braced-same-length-2 : (t : ℕ) → braced-lts.Need-same-length-2 (
   open-brace-reads.Asked,
   open-brace-reads.Learnt,
@@ -462,7 +463,7 @@ braced-same-length-2 : (t : ℕ) → braced-lts.Need-same-length-2 (
 ) (braced-at t) braced.Post
 braced-same-length-2 t c = search needs
 
--- src/lib.rt:220:1
+-- src/lib.rt:234:1
 braced-returns-2 : (t : ℕ) → braced-lts.Need-returns-2 (
   open-brace-reads.Asked,
   open-brace-reads.Learnt,
@@ -475,7 +476,7 @@ braced-returns-2 : (t : ℕ) → braced-lts.Need-returns-2 (
 ) (braced-at t) braced.Post
 braced-returns-2 t c = braced-refused _ _ (c .before .before .before .before .before .before .before .before .before .before .before .before .before .before .before .before .before .args .f) _ _ _ [] [] [] (rw (c .before .before .before .before .before .before .before .before .before .before .a .given .1) at (c .before .before .before .before .before .before .before .before .before .before .before .before .open-brace .ensures)) _ _ (rw (c .before .before .before .before .before .before .inner .ensures, c .before .k .given .1) at (c .before .before .before .before .before .body .ensures))
 
--- src/lib.rt:220:1
+-- src/lib.rt:234:1
 braced-returns-3 : (t : ℕ) → braced-lts.Need-returns-3 (
   open-brace-reads.Asked,
   open-brace-reads.Learnt,
@@ -494,7 +495,7 @@ choice-Inv-loop table offs n s rows₀ f g₀ rows g = Choosing (schemaAt table 
 abbrev choice-μ-loop : choice-lts.MeasureT-loop
 choice-μ-loop table offs n s rows₀ f g₀ rows g = length s - g .at
 
--- src/lib.rt:195:5
+-- src/lib.rt:209:5
 choice-loop-holds : (t : ℕ) → choice-lts.Need-loop-holds (
   core-reads.Asked,
   core-reads.Learnt,
@@ -515,7 +516,7 @@ choice-loop-holds : (t : ℕ) → choice-lts.Need-loop-holds (
 ) (choice-at t) choice.Post choice-Inv-loop choice-μ-loop
 choice-loop-holds t c = choosing-start _ _ _ _ _ (c .before .before .before .before .pre .1 .0) (c .before .before .before .before .pre .1 .1)
 
--- src/lib.rt:196:13
+-- src/lib.rt:210:13
 choice-core-requires : (t : ℕ) → choice-lts.Need-core-requires (
   core-reads.Asked,
   core-reads.Learnt,
@@ -536,7 +537,7 @@ choice-core-requires : (t : ℕ) → choice-lts.Need-core-requires (
 ) (choice-at t) choice.Post choice-Inv-loop choice-μ-loop
 choice-core-requires t c κs = search needs
 
--- src/lib.rt:197:13
+-- src/lib.rt:211:13
 choice-is-union-requires : (t : ℕ) → choice-lts.Need-is-union-requires (
   core-reads.Asked,
   core-reads.Learnt,
@@ -557,7 +558,7 @@ choice-is-union-requires : (t : ℕ) → choice-lts.Need-is-union-requires (
 ) (choice-at t) choice.Post choice-Inv-loop choice-μ-loop
 choice-is-union-requires t c κs = search needs
 
--- src/lib.rt:198:17
+-- src/lib.rt:212:17
 choice-value-requires : (t : ℕ) → choice-lts.Need-value-requires (
   core-reads.Asked,
   core-reads.Learnt,
@@ -578,7 +579,7 @@ choice-value-requires : (t : ℕ) → choice-lts.Need-value-requires (
 ) (choice-at t) choice.Post choice-Inv-loop choice-μ-loop
 choice-value-requires t c κs = let r = (choosing-room (c .before .before .before .before .loop .inv)) in omega (arith, r, c .before .before .before .before .loop .inv .down .named, choosing-depth (c .before .before .before .before .loop .inv))
 
--- src/lib.rt:199:13
+-- src/lib.rt:213:13
 choice-close-chain-requires : (t : ℕ) → choice-lts.Need-close-chain-requires (
   core-reads.Asked,
   core-reads.Learnt,
@@ -599,7 +600,7 @@ choice-close-chain-requires : (t : ℕ) → choice-lts.Need-close-chain-requires
 ) (choice-at t) choice.Post choice-Inv-loop choice-μ-loop
 choice-close-chain-requires t c κs = let r = (choosing-room (c .before .before .before .before .before .before .before .before .loop .inv)) in omega (arith, r, plain-fits _ _ _ _ _ _ (c .before .before .before .value .result) (c .before .before .before .before .before .before .before .core .ensures) (sym (c .before .before .before .before .before .before .is-union .ensures) ∙ not-true _ (c .before .before .before .before .before .if1 .taken)) (c .before .before .before .value .ensures), c .before .before .before .before .before .before .before .before .before .before .before .before .before .pre .1 .0)
 
--- src/lib.rt:199:13
+-- src/lib.rt:213:13
 choice-same-length : (t : ℕ) → choice-lts.Need-same-length (
   core-reads.Asked,
   core-reads.Learnt,
@@ -620,7 +621,7 @@ choice-same-length : (t : ℕ) → choice-lts.Need-same-length (
 ) (choice-at t) choice.Post choice-Inv-loop choice-μ-loop
 choice-same-length t c = search needs
 
--- src/lib.rt:199:13
+-- src/lib.rt:213:13
 choice-returns : (t : ℕ) → choice-lts.Need-returns (
   core-reads.Asked,
   core-reads.Learnt,
@@ -641,7 +642,7 @@ choice-returns : (t : ℕ) → choice-lts.Need-returns (
 ) (choice-at t) choice.Post choice-Inv-loop choice-μ-loop
 choice-returns t c = choosing-value (c .before .before .before .before .before .before .before .before .before .before .before .loop .inv) _ _ _ _ (c .before .before .before .before .before .before .value .result) (c .before .before .before .before .before .before .before .before .before .before .core .ensures) (sym (c .before .before .before .before .before .before .before .before .before .is-union .ensures) ∙ not-true _ (c .before .before .before .before .before .before .before .before .if1 .taken)) (c .before .before .before .before .before .before .value .ensures) (c .before .before .close-chain .ensures .0) (c .before .before .close-chain .ensures .1)
 
--- src/lib.rt:201:15
+-- src/lib.rt:215:15
 choice-choose-requires : (t : ℕ) → choice-lts.Need-choose-requires (
   core-reads.Asked,
   core-reads.Learnt,
@@ -662,7 +663,7 @@ choice-choose-requires : (t : ℕ) → choice-lts.Need-choose-requires (
 ) (choice-at t) choice.Post choice-Inv-loop choice-μ-loop
 choice-choose-requires t c κs = let r = (choosing-room (c .before .before .before .loop .inv)) in omega (arith, r)
 
--- src/lib.rt:202:28
+-- src/lib.rt:216:28
 choice-enum-known-q : (t : ℕ) → choice-lts.Need-enum-known-q (
   core-reads.Asked,
   core-reads.Learnt,
@@ -683,7 +684,7 @@ choice-enum-known-q : (t : ℕ) → choice-lts.Need-enum-known-q (
 ) (choice-at t) choice.Post choice-Inv-loop choice-μ-loop
 choice-enum-known-q t c = search needs
 
--- src/lib.rt:203:17
+-- src/lib.rt:217:17
 choice-open-row-requires : (t : ℕ) → choice-lts.Need-open-row-requires (
   core-reads.Asked,
   core-reads.Learnt,
@@ -704,7 +705,7 @@ choice-open-row-requires : (t : ℕ) → choice-lts.Need-open-row-requires (
 ) (choice-at t) choice.Post choice-Inv-loop choice-μ-loop
 choice-open-row-requires t c κs = let r = (choosing-room (c .before .before .before .before .before .before .before .before .loop .inv)) in let d = deeper-less (c .before .before .before .before .before .before .before .before .loop .inv) _ _ _ _ (rw (c .before .before .q .given .1) at (c .before .before .before .before .choose .ensures)) in omega (arith, r, d, c .before .before .before .before .before .before .before .before .loop .inv .down .named)
 
--- src/lib.rt:204:17
+-- src/lib.rt:218:17
 choice-under-requires : (t : ℕ) → choice-lts.Need-under-requires (
   core-reads.Asked,
   core-reads.Learnt,
@@ -725,7 +726,7 @@ choice-under-requires : (t : ℕ) → choice-lts.Need-under-requires (
 ) (choice-at t) choice.Post choice-Inv-loop choice-μ-loop
 choice-under-requires t c κs = let r = (choosing-room (c .before .before .before .before .before .before .before .before .before .before .before .loop .inv)) in omega (arith, r)
 
--- src/lib.rt:195:5
+-- src/lib.rt:209:5
 choice-loop-less : (t : ℕ) → choice-lts.Need-loop-less (
   core-reads.Asked,
   core-reads.Learnt,
@@ -746,7 +747,7 @@ choice-loop-less : (t : ℕ) → choice-lts.Need-loop-less (
 ) (choice-at t) choice.Post choice-Inv-loop choice-μ-loop
 choice-loop-less t c = let d = deeper-less (c .before .before .before .before .before .before .before .before .before .before .before .before .loop .inv) _ _ _ _ (rw (c .before .before .before .before .before .before .q .given .1) at (c .before .before .before .before .before .before .before .before .choose .ensures)) in rw (c .under .ensures) (omega (arith, d))
 
--- src/lib.rt:195:5
+-- src/lib.rt:209:5
 choice-loop-again : (t : ℕ) → choice-lts.Need-loop-again (
   core-reads.Asked,
   core-reads.Learnt,
@@ -767,7 +768,7 @@ choice-loop-again : (t : ℕ) → choice-lts.Need-loop-again (
 ) (choice-at t) choice.Post choice-Inv-loop choice-μ-loop
 choice-loop-again t c = choosing-on (c .before .before .before .before .before .before .before .before .before .before .before .before .loop .inv) _ _ _ _ _ _ (c .before .before .before .before .before .before .before .before .before .before .before .core .ensures) (sym (c .before .before .before .before .before .before .before .before .before .before .is-union .ensures) ∙ not-false _ (c .before .before .before .before .before .before .before .before .before .if1 .left)) (rw (c .before .before .before .before .before .before .q .given .1) at (c .before .before .before .before .before .before .before .before .choose .ensures)) (c .before .before .before .open-row .ensures) (c .under .ensures)
 
--- src/lib.rt:206:26
+-- src/lib.rt:220:26
 choice-enum-known-q-2 : (t : ℕ) → choice-lts.Need-enum-known-q-2 (
   core-reads.Asked,
   core-reads.Learnt,
@@ -788,7 +789,7 @@ choice-enum-known-q-2 : (t : ℕ) → choice-lts.Need-enum-known-q-2 (
 ) (choice-at t) choice.Post choice-Inv-loop choice-μ-loop
 choice-enum-known-q-2 t c = search needs
 
--- src/lib.rt:207:21
+-- src/lib.rt:221:21
 choice-whole-requires : (t : ℕ) → choice-lts.Need-whole-requires (
   core-reads.Asked,
   core-reads.Learnt,
@@ -809,7 +810,7 @@ choice-whole-requires : (t : ℕ) → choice-lts.Need-whole-requires (
 ) (choice-at t) choice.Post choice-Inv-loop choice-μ-loop
 choice-whole-requires t c κs = let r = (choosing-room (c .before .before .before .before .before .before .before .before .loop .inv)) in let w = (rw (c .before .before .q2 .given .1) at (c .before .before .before .before .choose .ensures)) in omega (arith, r, w .step .less, w .step .within, w .below, c .before .before .before .before .before .before .before .before .loop .inv .down .named)
 
--- src/lib.rt:208:17
+-- src/lib.rt:222:17
 choice-close-chain-requires-2 : (t : ℕ) → choice-lts.Need-close-chain-requires-2 (
   core-reads.Asked,
   core-reads.Learnt,
@@ -830,7 +831,7 @@ choice-close-chain-requires-2 : (t : ℕ) → choice-lts.Need-close-chain-requir
 ) (choice-at t) choice.Post choice-Inv-loop choice-μ-loop
 choice-close-chain-requires-2 t c κs = let r = (choosing-room (c .before .before .before .before .before .before .before .before .before .before .before .before .loop .inv)) in let w = (rw (c .before .before .before .before .before .before .q2 .given .1) at (c .before .before .before .before .before .before .before .before .choose .ensures)) in omega (arith, r, w .step .within, c .before .before .before .before .before .before .before .before .before .before .before .before .before .before .before .before .before .pre .1 .0, whole-fits _ _ _ _ _ _ (c .before .before .before .whole .result) (c .before .before .before .whole .ensures))
 
--- src/lib.rt:208:17
+-- src/lib.rt:222:17
 choice-same-length-2 : (t : ℕ) → choice-lts.Need-same-length-2 (
   core-reads.Asked,
   core-reads.Learnt,
@@ -851,7 +852,7 @@ choice-same-length-2 : (t : ℕ) → choice-lts.Need-same-length-2 (
 ) (choice-at t) choice.Post choice-Inv-loop choice-μ-loop
 choice-same-length-2 t c = search needs
 
--- src/lib.rt:208:17
+-- src/lib.rt:222:17
 choice-returns-2 : (t : ℕ) → choice-lts.Need-returns-2 (
   core-reads.Asked,
   core-reads.Learnt,
@@ -872,7 +873,7 @@ choice-returns-2 : (t : ℕ) → choice-lts.Need-returns-2 (
 ) (choice-at t) choice.Post choice-Inv-loop choice-μ-loop
 choice-returns-2 t c = choosing-whole (c .before .before .before .before .before .before .before .before .before .before .before .before .before .before .before .loop .inv) _ _ _ _ _ _ _ (c .before .before .before .before .before .before .whole .result) (c .before .before .before .before .before .before .before .before .before .before .before .before .before .before .core .ensures) (sym (c .before .before .before .before .before .before .before .before .before .before .before .before .before .is-union .ensures) ∙ not-false _ (c .before .before .before .before .before .before .before .before .before .before .before .before .if1 .left)) (rw (c .before .before .before .before .before .before .before .before .before .q2 .given .1) at (c .before .before .before .before .before .before .before .before .before .before .before .choose .ensures)) (c .before .before .before .before .before .before .whole .ensures) (c .before .before .close-chain2 .ensures .0) (c .before .before .close-chain2 .ensures .1)
 
--- src/lib.rt:210:29
+-- src/lib.rt:224:29
 choice-enum-known-k : (t : ℕ) → choice-lts.Need-enum-known-k (
   core-reads.Asked,
   core-reads.Learnt,
@@ -893,7 +894,7 @@ choice-enum-known-k : (t : ℕ) → choice-lts.Need-enum-known-k (
 ) (choice-at t) choice.Post choice-Inv-loop choice-μ-loop
 choice-enum-known-k t c = search needs
 
--- src/lib.rt:211:17
+-- src/lib.rt:225:17
 choice-same-length-3 : (t : ℕ) → choice-lts.Need-same-length-3 (
   core-reads.Asked,
   core-reads.Learnt,
@@ -914,7 +915,7 @@ choice-same-length-3 : (t : ℕ) → choice-lts.Need-same-length-3 (
 ) (choice-at t) choice.Post choice-Inv-loop choice-μ-loop
 choice-same-length-3 t c = search needs
 
--- src/lib.rt:211:17
+-- src/lib.rt:225:17
 choice-returns-3 : (t : ℕ) → choice-lts.Need-returns-3 (
   core-reads.Asked,
   core-reads.Learnt,
@@ -935,7 +936,7 @@ choice-returns-3 : (t : ℕ) → choice-lts.Need-returns-3 (
 ) (choice-at t) choice.Post choice-Inv-loop choice-μ-loop
 choice-returns-3 t c = choosing-stopped (c .before .before .before .before .before .before .before .loop .inv) _ _ _ (c .before .before .before .before .before .before .core .ensures) (sym (c .before .before .before .before .before .is-union .ensures) ∙ not-false _ (c .before .before .before .before .if1 .left)) (rw (c .before .k .given .1) at (c .before .before .before .choose .ensures))
 
--- src/lib.rt:277:11
+-- src/lib.rt:291:11
 element-choice-requires : (t : ℕ) → element-lts.Need-choice-requires (
   choice-below t,
   choice.Post,
@@ -944,7 +945,7 @@ element-choice-requires : (t : ℕ) → element-lts.Need-choice-requires (
 ) (element-at t) element.Post
 element-choice-requires t c κs = omega (arith, c .before .before .before .before .before .pre .1)
 
--- src/lib.rt:278:19
+-- src/lib.rt:292:19
 element-enum-known-v : (t : ℕ) → element-lts.Need-enum-known-v (
   choice-below t,
   choice.Post,
@@ -953,7 +954,7 @@ element-enum-known-v : (t : ℕ) → element-lts.Need-enum-known-v (
 ) (element-at t) element.Post
 element-enum-known-v t c = search needs
 
--- src/lib.rt:286:13
+-- src/lib.rt:300:13
 element-add-after-value : (t : ℕ) → element-lts.Need-add-after-value (
   choice-below t,
   choice.Post,
@@ -962,7 +963,7 @@ element-add-after-value : (t : ℕ) → element-lts.Need-add-after-value (
 ) (element-at t) element.Post
 element-add-after-value t c = omega (arith, c .before .before .before .before .before .before .before .before .before .before .before .pre .1 .1)
 
--- src/lib.rt:278:34
+-- src/lib.rt:292:34
 element-after-value-requires : (t : ℕ) → element-lts.Need-after-value-requires (
   choice-below t,
   choice.Post,
@@ -971,7 +972,7 @@ element-after-value-requires : (t : ℕ) → element-lts.Need-after-value-requir
 ) (element-at t) element.Post
 element-after-value-requires t c κs = omega (arith, c .before .before .before .before .before .before .before .before .before .before .before .pre .1 .0 .short)
 
--- src/lib.rt:288:25
+-- src/lib.rt:302:25
 element-enum-known-w : (t : ℕ) → element-lts.Need-enum-known-w (
   choice-below t,
   choice.Post,
@@ -980,7 +981,7 @@ element-enum-known-w : (t : ℕ) → element-lts.Need-enum-known-w (
 ) (element-at t) element.Post
 element-enum-known-w t c = search needs
 
--- src/lib.rt:289:38
+-- src/lib.rt:303:38
 element-enum-told : (t : ℕ) → element-lts.Need-enum-told (
   choice-below t,
   choice.Post,
@@ -989,7 +990,7 @@ element-enum-told : (t : ℕ) → element-lts.Need-enum-told (
 ) (element-at t) element.Post
 element-enum-told t c = search needs
 
--- src/lib.rt:290:28
+-- src/lib.rt:304:28
 element-enum-known-k : (t : ℕ) → element-lts.Need-enum-known-k (
   choice-below t,
   choice.Post,
@@ -998,7 +999,7 @@ element-enum-known-k : (t : ℕ) → element-lts.Need-enum-known-k (
 ) (element-at t) element.Post
 element-enum-known-k t c = search needs
 
--- src/lib.rt:292:22
+-- src/lib.rt:306:22
 element-enum-known-k-2 : (t : ℕ) → element-lts.Need-enum-known-k-2 (
   choice-below t,
   choice.Post,
@@ -1007,7 +1008,7 @@ element-enum-known-k-2 : (t : ℕ) → element-lts.Need-enum-known-k-2 (
 ) (element-at t) element.Post
 element-enum-known-k-2 t c = search needs
 
--- src/lib.rt:264:1
+-- src/lib.rt:278:1
 element-same-length : (t : ℕ) → element-lts.Need-same-length (
   choice-below t,
   choice.Post,
@@ -1016,7 +1017,7 @@ element-same-length : (t : ℕ) → element-lts.Need-same-length (
 ) (element-at t) element.Post
 element-same-length t c = search needs
 
--- src/lib.rt:264:1
+-- src/lib.rt:278:1
 element-returns : (t : ℕ) → element-lts.Need-returns (
   choice-below t,
   choice.Post,
@@ -1025,7 +1026,7 @@ element-returns : (t : ℕ) → element-lts.Need-returns (
 ) (element-at t) element.Post
 element-returns t c = element-more _ _ (c .before .before .before .before .before .before .before .before .before .before .before .before .before .before .before .args .f) _ _ _ _ _ (rw (c .before .before .before .before .before .v .given .1) at (c .before .before .before .before .before .before .before .before .before .choice .ensures)) _ (rw (c .before .w .given .1) at (c .before .before .before .after-value .ensures))
 
--- src/lib.rt:264:1
+-- src/lib.rt:278:1
 element-same-length-2 : (t : ℕ) → element-lts.Need-same-length-2 (
   choice-below t,
   choice.Post,
@@ -1034,7 +1035,7 @@ element-same-length-2 : (t : ℕ) → element-lts.Need-same-length-2 (
 ) (element-at t) element.Post
 element-same-length-2 t c = search needs
 
--- src/lib.rt:264:1
+-- src/lib.rt:278:1
 element-returns-2 : (t : ℕ) → element-lts.Need-returns-2 (
   choice-below t,
   choice.Post,
@@ -1043,7 +1044,7 @@ element-returns-2 : (t : ℕ) → element-lts.Need-returns-2 (
 ) (element-at t) element.Post
 element-returns-2 t c = element-last _ _ (c .before .before .before .before .before .before .before .before .before .before .before .before .before .before .args .f) _ _ _ _ _ (rw (c .before .before .before .before .v .given .1) at (c .before .before .before .before .before .before .before .before .choice .ensures)) (rw (c .enum-told .given .1) at (c .before .before .after-value .ensures))
 
--- src/lib.rt:264:1
+-- src/lib.rt:278:1
 element-same-length-3 : (t : ℕ) → element-lts.Need-same-length-3 (
   choice-below t,
   choice.Post,
@@ -1052,7 +1053,7 @@ element-same-length-3 : (t : ℕ) → element-lts.Need-same-length-3 (
 ) (element-at t) element.Post
 element-same-length-3 t c = search needs
 
--- src/lib.rt:264:1
+-- src/lib.rt:278:1
 element-returns-3 : (t : ℕ) → element-lts.Need-returns-3 (
   choice-below t,
   choice.Post,
@@ -1061,7 +1062,7 @@ element-returns-3 : (t : ℕ) → element-lts.Need-returns-3 (
 ) (element-at t) element.Post
 element-returns-3 t c = element-after _ _ (c .before .before .before .before .before .before .before .before .before .before .before .before .before .before .before .args .f) _ _ _ _ _ (rw (c .before .before .before .before .before .v .given .1) at (c .before .before .before .before .before .before .before .before .before .choice .ensures)) _ _ (rw (c .before .k .given .1) at (c .before .before .before .after-value .ensures))
 
--- src/lib.rt:264:1
+-- src/lib.rt:278:1
 element-same-length-4 : (t : ℕ) → element-lts.Need-same-length-4 (
   choice-below t,
   choice.Post,
@@ -1070,7 +1071,7 @@ element-same-length-4 : (t : ℕ) → element-lts.Need-same-length-4 (
 ) (element-at t) element.Post
 element-same-length-4 t c = search needs
 
--- src/lib.rt:264:1
+-- src/lib.rt:278:1
 element-returns-4 : (t : ℕ) → element-lts.Need-returns-4 (
   choice-below t,
   choice.Post,
@@ -1079,7 +1080,7 @@ element-returns-4 : (t : ℕ) → element-lts.Need-returns-4 (
 ) (element-at t) element.Post
 element-returns-4 t c = element-refused _ _ (c .before .before .before .before .before .before .before .before .before .before .before .args .f) _ _ _ (rw (c .before .k2 .given .1) at (c .before .before .before .before .before .choice .ensures))
 
--- src/lib.rt:424:11
+-- src/lib.rt:438:11
 field-field-at-requires : (t : ℕ) → field-lts.Need-field-at-requires (
   field-at-reads.Asked,
   field-at-reads.Learnt,
@@ -1088,7 +1089,7 @@ field-field-at-requires : (t : ℕ) → field-lts.Need-field-at-requires (
 ) (field-at t) field.Post
 field-field-at-requires t c κs = omega (arith, c .before .before .before .before .pre .1 .0 .short)
 
--- src/lib.rt:425:54
+-- src/lib.rt:439:54
 field-enum-told : (t : ℕ) → field-lts.Need-enum-told (
   field-at-reads.Asked,
   field-at-reads.Learnt,
@@ -1097,7 +1098,7 @@ field-enum-told : (t : ℕ) → field-lts.Need-enum-told (
 ) (field-at t) field.Post
 field-enum-told t c = search needs
 
--- src/lib.rt:425:30
+-- src/lib.rt:439:30
 field-list-requires : (t : ℕ) → field-lts.Need-list-requires (
   field-at-reads.Asked,
   field-at-reads.Learnt,
@@ -1106,7 +1107,7 @@ field-list-requires : (t : ℕ) → field-lts.Need-list-requires (
 ) (field-at t) field.Post
 field-list-requires t c κs = omega (arith, c .before .before .before .before .before .before .before .before .pre .1)
 
--- src/lib.rt:426:23
+-- src/lib.rt:440:23
 field-enum-known-v : (t : ℕ) → field-lts.Need-enum-known-v (
   field-at-reads.Asked,
   field-at-reads.Learnt,
@@ -1115,7 +1116,7 @@ field-enum-known-v : (t : ℕ) → field-lts.Need-enum-known-v (
 ) (field-at t) field.Post
 field-enum-known-v t c = search needs
 
--- src/lib.rt:427:26
+-- src/lib.rt:441:26
 field-enum-known-k : (t : ℕ) → field-lts.Need-enum-known-k (
   field-at-reads.Asked,
   field-at-reads.Learnt,
@@ -1124,7 +1125,7 @@ field-enum-known-k : (t : ℕ) → field-lts.Need-enum-known-k (
 ) (field-at t) field.Post
 field-enum-known-k t c = search needs
 
--- src/lib.rt:429:43
+-- src/lib.rt:443:43
 field-enum-told-2 : (t : ℕ) → field-lts.Need-enum-told-2 (
   field-at-reads.Asked,
   field-at-reads.Learnt,
@@ -1133,7 +1134,7 @@ field-enum-told-2 : (t : ℕ) → field-lts.Need-enum-told-2 (
 ) (field-at t) field.Post
 field-enum-told-2 t c = search needs
 
--- src/lib.rt:430:24
+-- src/lib.rt:444:24
 field-enum-known-k-2 : (t : ℕ) → field-lts.Need-enum-known-k-2 (
   field-at-reads.Asked,
   field-at-reads.Learnt,
@@ -1142,7 +1143,7 @@ field-enum-known-k-2 : (t : ℕ) → field-lts.Need-enum-known-k-2 (
 ) (field-at t) field.Post
 field-enum-known-k-2 t c = search needs
 
--- src/lib.rt:411:1
+-- src/lib.rt:425:1
 field-same-length : (t : ℕ) → field-lts.Need-same-length (
   field-at-reads.Asked,
   field-at-reads.Learnt,
@@ -1151,7 +1152,7 @@ field-same-length : (t : ℕ) → field-lts.Need-same-length (
 ) (field-at t) field.Post
 field-same-length t c = search needs
 
--- src/lib.rt:411:1
+-- src/lib.rt:425:1
 field-returns : (t : ℕ) → field-lts.Need-returns (
   field-at-reads.Asked,
   field-at-reads.Learnt,
@@ -1160,7 +1161,7 @@ field-returns : (t : ℕ) → field-lts.Need-returns (
 ) (field-at t) field.Post
 field-returns t c = λ p qs. field-on _ _ (c .before .before .before .before .before .before .before .before .before .before .before .before .before .before .args .f) _ _ _ p qs ((rw (c .before .before .before .before .before .before .before .enum-told .given .1) at (c .before .before .before .before .before .before .before .before .before .field-at .ensures)) _ p qs) _ _ (rw (c .before .v .given .1) at (c .before .before .before .before .before .list .ensures))
 
--- src/lib.rt:411:1
+-- src/lib.rt:425:1
 field-same-length-2 : (t : ℕ) → field-lts.Need-same-length-2 (
   field-at-reads.Asked,
   field-at-reads.Learnt,
@@ -1169,7 +1170,7 @@ field-same-length-2 : (t : ℕ) → field-lts.Need-same-length-2 (
 ) (field-at t) field.Post
 field-same-length-2 t c = search needs
 
--- src/lib.rt:411:1
+-- src/lib.rt:425:1
 field-returns-2 : (t : ℕ) → field-lts.Need-returns-2 (
   field-at-reads.Asked,
   field-at-reads.Learnt,
@@ -1178,7 +1179,7 @@ field-returns-2 : (t : ℕ) → field-lts.Need-returns-2 (
 ) (field-at t) field.Post
 field-returns-2 t c = λ p qs. field-refused _ _ (c .before .before .before .before .before .before .before .before .before .before .before .before .before .before .args .f) _ [] [] p qs ((rw (c .before .before .before .before .before .before .before .enum-told .given .1) at (c .before .before .before .before .before .before .before .before .before .field-at .ensures)) _ p qs) _ _ (rw (c .before .k .given .1) at (c .before .before .before .before .before .list .ensures))
 
--- src/lib.rt:411:1
+-- src/lib.rt:425:1
 field-returns-3 : (t : ℕ) → field-lts.Need-returns-3 (
   field-at-reads.Asked,
   field-at-reads.Learnt,
@@ -1187,7 +1188,7 @@ field-returns-3 : (t : ℕ) → field-lts.Need-returns-3 (
 ) (field-at t) field.Post
 field-returns-3 t c = λ p qs. field-none _ _ (c .before .before .before .before .before .before .before .args .f) _ _ p qs ((rw (c .enum-told2 .given .1) at (c .before .before .field-at .ensures)) _ p qs) (c .before .before .before .before .before .before .before .pre .1 .0 .here)
 
--- src/lib.rt:411:1
+-- src/lib.rt:425:1
 field-returns-4 : (t : ℕ) → field-lts.Need-returns-4 (
   field-at-reads.Asked,
   field-at-reads.Learnt,
@@ -1202,7 +1203,7 @@ fields-Inv-loop table offs n s rows₀ inside g₀ i₀ rows g i = Fielding tabl
 abbrev fields-μ-loop : fields-lts.MeasureT-loop
 fields-μ-loop table offs n s rows₀ inside g₀ i₀ rows g i = n - i
 
--- src/lib.rt:449:5
+-- src/lib.rt:463:5
 fields-loop-holds : (t : ℕ) → fields-lts.Need-loop-holds (
   next-untagged-reads.Asked,
   next-untagged-reads.Learnt,
@@ -1217,7 +1218,7 @@ fields-loop-holds : (t : ℕ) → fields-lts.Need-loop-holds (
 ) (fields-at t) fields.Post fields-Inv-loop fields-μ-loop
 fields-loop-holds t c = fielding-start _ _ _ _ _ _ _ (c .before .before .before .before .pre .1 .here)
 
--- src/lib.rt:450:15
+-- src/lib.rt:464:15
 fields-next-untagged-requires : (t : ℕ) → fields-lts.Need-next-untagged-requires (
   next-untagged-reads.Asked,
   next-untagged-reads.Learnt,
@@ -1232,7 +1233,7 @@ fields-next-untagged-requires : (t : ℕ) → fields-lts.Need-next-untagged-requ
 ) (fields-at t) fields.Post fields-Inv-loop fields-μ-loop
 fields-next-untagged-requires t c κs = search needs
 
--- src/lib.rt:452:49
+-- src/lib.rt:466:49
 fields-enum-told : (t : ℕ) → fields-lts.Need-enum-told (
   next-untagged-reads.Asked,
   next-untagged-reads.Learnt,
@@ -1247,7 +1248,7 @@ fields-enum-told : (t : ℕ) → fields-lts.Need-enum-told (
 ) (fields-at t) fields.Post fields-Inv-loop fields-μ-loop
 fields-enum-told t c = search needs
 
--- src/lib.rt:452:17
+-- src/lib.rt:466:17
 fields-items-requires : (t : ℕ) → fields-lts.Need-items-requires (
   next-untagged-reads.Asked,
   next-untagged-reads.Learnt,
@@ -1262,7 +1263,7 @@ fields-items-requires : (t : ℕ) → fields-lts.Need-items-requires (
 ) (fields-at t) fields.Post fields-Inv-loop fields-μ-loop
 fields-items-requires t c κs = let r = (fielding-room (c .before .before .before .before .loop .inv) (c .before .before .before .before .before .before .before .before .before .pre .1)) in omega (arith, r, fielding-depth (c .before .before .before .before .loop .inv))
 
--- src/lib.rt:452:17
+-- src/lib.rt:466:17
 fields-same-length : (t : ℕ) → fields-lts.Need-same-length (
   next-untagged-reads.Asked,
   next-untagged-reads.Learnt,
@@ -1277,7 +1278,7 @@ fields-same-length : (t : ℕ) → fields-lts.Need-same-length (
 ) (fields-at t) fields.Post fields-Inv-loop fields-μ-loop
 fields-same-length t c = search needs
 
--- src/lib.rt:452:17
+-- src/lib.rt:466:17
 fields-returns : (t : ℕ) → fields-lts.Need-returns (
   next-untagged-reads.Asked,
   next-untagged-reads.Learnt,
@@ -1292,7 +1293,7 @@ fields-returns : (t : ℕ) → fields-lts.Need-returns (
 ) (fields-at t) fields.Post fields-Inv-loop fields-μ-loop
 fields-returns t c = fielding-items (c .before .before .before .before .before .before .before .loop .inv) _ (c .before .before .items .result) (found-none (c .before .before .before .before .before .before .next-untagged .result) _ (c .before .before .before .before .enum-told .given .1) (c .before .before .before .before .before .before .next-untagged .ensures)) (c .before .before .items .ensures)
 
--- src/lib.rt:454:23
+-- src/lib.rt:468:23
 fields-enum-known-q : (t : ℕ) → fields-lts.Need-enum-known-q (
   next-untagged-reads.Asked,
   next-untagged-reads.Learnt,
@@ -1307,7 +1308,7 @@ fields-enum-known-q : (t : ℕ) → fields-lts.Need-enum-known-q (
 ) (fields-at t) fields.Post fields-Inv-loop fields-μ-loop
 fields-enum-known-q t c = search needs
 
--- src/lib.rt:454:66
+-- src/lib.rt:468:66
 fields-for-field-requires : (t : ℕ) → fields-lts.Need-for-field-requires (
   next-untagged-reads.Asked,
   next-untagged-reads.Learnt,
@@ -1322,7 +1323,7 @@ fields-for-field-requires : (t : ℕ) → fields-lts.Need-for-field-requires (
 ) (fields-at t) fields.Post fields-Inv-loop fields-μ-loop
 fields-for-field-requires t c κs = search needs
 
--- src/lib.rt:454:35
+-- src/lib.rt:468:35
 fields-field-requires : (t : ℕ) → fields-lts.Need-field-requires (
   next-untagged-reads.Asked,
   next-untagged-reads.Learnt,
@@ -1337,7 +1338,7 @@ fields-field-requires : (t : ℕ) → fields-lts.Need-field-requires (
 ) (fields-at t) fields.Post fields-Inv-loop fields-μ-loop
 fields-field-requires t c κs = let r = (fielding-room (c .before .before .before .before .before .before .loop .inv) (c .before .before .before .before .before .before .before .before .before .before .before .pre .1)) in let q = next-between _ _ _ _ _ _ (found-at (c .before .before .before .before .before .next-untagged .result) _ _ (c .before .before .before .q .given .1) (c .before .before .before .before .before .next-untagged .ensures)) in rw (c .for-field .ensures) (omega (arith, r, q, fielding-depth (c .before .before .before .before .before .before .loop .inv)))
 
--- src/lib.rt:455:26
+-- src/lib.rt:469:26
 fields-enum-known-v : (t : ℕ) → fields-lts.Need-enum-known-v (
   next-untagged-reads.Asked,
   next-untagged-reads.Learnt,
@@ -1352,7 +1353,7 @@ fields-enum-known-v : (t : ℕ) → fields-lts.Need-enum-known-v (
 ) (fields-at t) fields.Post fields-Inv-loop fields-μ-loop
 fields-enum-known-v t c = search needs
 
--- src/lib.rt:456:21
+-- src/lib.rt:470:21
 fields-moved-requires : (t : ℕ) → fields-lts.Need-moved-requires (
   next-untagged-reads.Asked,
   next-untagged-reads.Learnt,
@@ -1367,7 +1368,7 @@ fields-moved-requires : (t : ℕ) → fields-lts.Need-moved-requires (
 ) (fields-at t) fields.Post fields-Inv-loop fields-μ-loop
 fields-moved-requires t c κs = search needs
 
--- src/lib.rt:457:25
+-- src/lib.rt:471:25
 fields-add-i : (t : ℕ) → fields-lts.Need-add-i (
   next-untagged-reads.Asked,
   next-untagged-reads.Learnt,
@@ -1382,7 +1383,7 @@ fields-add-i : (t : ℕ) → fields-lts.Need-add-i (
 ) (fields-at t) fields.Post fields-Inv-loop fields-μ-loop
 fields-add-i t c = let q = next-between _ _ _ _ _ _ (found-at (c .before .before .before .before .before .before .before .before .before .before .before .before .next-untagged .result) _ _ (c .before .before .before .before .before .before .before .before .before .before .q .given .1) (c .before .before .before .before .before .before .before .before .before .before .before .before .next-untagged .ensures)) in omega (arith, q, c .before .before .before .before .before .before .before .before .before .before .before .before .before .before .before .before .before .before .pre .1 .known)
 
--- src/lib.rt:449:5
+-- src/lib.rt:463:5
 fields-loop-less : (t : ℕ) → fields-lts.Need-loop-less (
   next-untagged-reads.Asked,
   next-untagged-reads.Learnt,
@@ -1397,7 +1398,7 @@ fields-loop-less : (t : ℕ) → fields-lts.Need-loop-less (
 ) (fields-at t) fields.Post fields-Inv-loop fields-μ-loop
 fields-loop-less t c = let q = next-between _ _ _ _ _ _ (found-at (c .before .before .before .before .before .before .before .before .before .before .before .before .next-untagged .result) _ _ (c .before .before .before .before .before .before .before .before .before .before .q .given .1) (c .before .before .before .before .before .before .before .before .before .before .before .before .next-untagged .ensures)) in omega (arith, q)
 
--- src/lib.rt:449:5
+-- src/lib.rt:463:5
 fields-loop-again : (t : ℕ) → fields-lts.Need-loop-again (
   next-untagged-reads.Asked,
   next-untagged-reads.Learnt,
@@ -1412,7 +1413,7 @@ fields-loop-again : (t : ℕ) → fields-lts.Need-loop-again (
 ) (fields-at t) fields.Post fields-Inv-loop fields-μ-loop
 fields-loop-again t c = fielding-on (c .before .before .before .before .before .before .before .before .before .before .before .before .before .loop .inv) _ (found-at (c .before .before .before .before .before .before .before .before .before .before .before .before .next-untagged .result) _ _ (c .before .before .before .before .before .before .before .before .before .before .q .given .1) (c .before .before .before .before .before .before .before .before .before .before .before .before .next-untagged .ensures)) _ (c .before .before .before .before .before .before .field .result) (rw (c .before .before .before .before .before .before .before .for-field .ensures) at (c .before .before .before .before .before .before .field .ensures)) _ _ _ (c .before .before .v .given .1) (c .moved .ensures)
 
--- src/lib.rt:459:27
+-- src/lib.rt:473:27
 fields-enum-known-o : (t : ℕ) → fields-lts.Need-enum-known-o (
   next-untagged-reads.Asked,
   next-untagged-reads.Learnt,
@@ -1427,7 +1428,7 @@ fields-enum-known-o : (t : ℕ) → fields-lts.Need-enum-known-o (
 ) (fields-at t) fields.Post fields-Inv-loop fields-μ-loop
 fields-enum-known-o t c = search needs
 
--- src/lib.rt:460:21
+-- src/lib.rt:474:21
 fields-same-length-2 : (t : ℕ) → fields-lts.Need-same-length-2 (
   next-untagged-reads.Asked,
   next-untagged-reads.Learnt,
@@ -1442,7 +1443,7 @@ fields-same-length-2 : (t : ℕ) → fields-lts.Need-same-length-2 (
 ) (fields-at t) fields.Post fields-Inv-loop fields-μ-loop
 fields-same-length-2 t c = search needs
 
--- src/lib.rt:460:21
+-- src/lib.rt:474:21
 fields-returns-2 : (t : ℕ) → fields-lts.Need-returns-2 (
   next-untagged-reads.Asked,
   next-untagged-reads.Learnt,
@@ -1457,7 +1458,7 @@ fields-returns-2 : (t : ℕ) → fields-lts.Need-returns-2 (
 ) (fields-at t) fields.Post fields-Inv-loop fields-μ-loop
 fields-returns-2 t c = fielding-out (c .before .before .before .before .before .before .before .before .before .before .before .before .loop .inv) _ (found-at (c .before .before .before .before .before .before .before .before .before .before .before .next-untagged .result) _ _ (c .before .before .before .before .before .before .before .before .before .q .given .1) (c .before .before .before .before .before .before .before .before .before .before .before .next-untagged .ensures)) _ (c .before .before .before .before .before .field .result) (rw (c .before .before .before .before .before .before .for-field .ensures) at (c .before .before .before .before .before .field .ensures)) _ (c .before .o .given .1)
 
--- src/lib.rt:356:11
+-- src/lib.rt:370:11
 item-item-at-requires : (t : ℕ) → item-lts.Need-item-at-requires (
   item-at-reads.Asked,
   item-at-reads.Learnt,
@@ -1472,7 +1473,7 @@ item-item-at-requires : (t : ℕ) → item-lts.Need-item-at-requires (
 ) (item-at t) item.Post
 item-item-at-requires t c κs = omega (arith, c .before .before .before .before .before .pre .1 .0 .short)
 
--- src/lib.rt:357:42
+-- src/lib.rt:371:42
 item-enum-told : (t : ℕ) → item-lts.Need-enum-told (
   item-at-reads.Asked,
   item-at-reads.Learnt,
@@ -1487,7 +1488,7 @@ item-enum-told : (t : ℕ) → item-lts.Need-enum-told (
 ) (item-at t) item.Post
 item-enum-told t c = search needs
 
--- src/lib.rt:358:20
+-- src/lib.rt:372:20
 item-enum-known-q : (t : ℕ) → item-lts.Need-enum-known-q (
   item-at-reads.Asked,
   item-at-reads.Learnt,
@@ -1502,7 +1503,7 @@ item-enum-known-q : (t : ℕ) → item-lts.Need-enum-known-q (
 ) (item-at t) item.Post
 item-enum-known-q t c = search needs
 
--- src/lib.rt:359:13
+-- src/lib.rt:373:13
 item-mark-requires : (t : ℕ) → item-lts.Need-mark-requires (
   item-at-reads.Asked,
   item-at-reads.Learnt,
@@ -1517,7 +1518,7 @@ item-mark-requires : (t : ℕ) → item-lts.Need-mark-requires (
 ) (item-at t) item.Post
 item-mark-requires t c κs = search needs
 
--- src/lib.rt:366:28
+-- src/lib.rt:380:28
 item-add-t31 : (t : ℕ) → item-lts.Need-add-t31 (
   item-at-reads.Asked,
   item-at-reads.Learnt,
@@ -1532,7 +1533,7 @@ item-add-t31 : (t : ℕ) → item-lts.Need-add-t31 (
 ) (item-at t) item.Post
 item-add-t31 t c = let w = ((rw (c .before .before .before .before .before .q .given .1) at (c .before .before .before .before .before .before .before .item-at .ensures)) (c .before .before .before .before .before .before .before .before .before .before .before .before .before .pre .1 .1 .ks) (c .before .before .before .before .before .before .before .before .before .before .before .before .before .pre .1 .1 .marks)) in omega (arith, w .step .less, w .step .within, c .before .before .before .before .before .before .before .before .before .before .before .before .before .pre .1 .0 .short)
 
--- src/lib.rt:367:26
+-- src/lib.rt:381:26
 item-add-t32 : (t : ℕ) → item-lts.Need-add-t32 (
   item-at-reads.Asked,
   item-at-reads.Learnt,
@@ -1547,7 +1548,7 @@ item-add-t32 : (t : ℕ) → item-lts.Need-add-t32 (
 ) (item-at t) item.Post
 item-add-t32 t c = let w = ((rw (c .before .before .before .before .before .before .before .q .given .1) at (c .before .before .before .before .before .before .before .before .before .item-at .ensures)) (c .before .before .before .before .before .before .before .before .before .before .before .before .before .before .before .pre .1 .1 .ks) (c .before .before .before .before .before .before .before .before .before .before .before .before .before .before .before .pre .1 .1 .marks)) in omega (arith, w .step .less, w .step .within, c .before .before .before .before .before .before .before .before .before .before .before .before .before .before .before .pre .1 .0 .short)
 
--- src/lib.rt:360:13
+-- src/lib.rt:374:13
 item-put-row-requires : (t : ℕ) → item-lts.Need-put-row-requires (
   item-at-reads.Asked,
   item-at-reads.Learnt,
@@ -1562,7 +1563,7 @@ item-put-row-requires : (t : ℕ) → item-lts.Need-put-row-requires (
 ) (item-at t) item.Post
 item-put-row-requires t c κs = let w = ((rw (c .before .before .before .before .before .before .before .q .given .1) at (c .before .before .before .before .before .before .before .before .before .item-at .ensures)) (c .before .before .before .before .before .before .before .before .before .before .before .before .before .before .before .pre .1 .1 .ks) (c .before .before .before .before .before .before .before .before .before .before .before .before .before .before .before .pre .1 .1 .marks)) in omega (arith, w .step .less, w .step .within, w .below, c .before .before .before .before .before .before .before .before .before .before .before .before .before .before .before .pre .1 .0)
 
--- src/lib.rt:370:25
+-- src/lib.rt:384:25
 item-add-t31-2 : (t : ℕ) → item-lts.Need-add-t31-2 (
   item-at-reads.Asked,
   item-at-reads.Learnt,
@@ -1577,7 +1578,7 @@ item-add-t31-2 : (t : ℕ) → item-lts.Need-add-t31-2 (
 ) (item-at t) item.Post
 item-add-t31-2 t c = omega (arith, c .before .before .before .before .before .before .before .before .before .before .before .before .before .before .before .before .before .before .before .pre .1 .0)
 
--- src/lib.rt:372:20
+-- src/lib.rt:386:20
 item-enum-known-q-2 : (t : ℕ) → item-lts.Need-enum-known-q-2 (
   item-at-reads.Asked,
   item-at-reads.Learnt,
@@ -1592,7 +1593,7 @@ item-enum-known-q-2 : (t : ℕ) → item-lts.Need-enum-known-q-2 (
 ) (item-at t) item.Post
 item-enum-known-q-2 t c = search needs
 
--- src/lib.rt:373:13
+-- src/lib.rt:387:13
 item-mark-requires-2 : (t : ℕ) → item-lts.Need-mark-requires-2 (
   item-at-reads.Asked,
   item-at-reads.Learnt,
@@ -1607,7 +1608,7 @@ item-mark-requires-2 : (t : ℕ) → item-lts.Need-mark-requires-2 (
 ) (item-at t) item.Post
 item-mark-requires-2 t c κs = search needs
 
--- src/lib.rt:374:49
+-- src/lib.rt:388:49
 item-for-field-requires : (t : ℕ) → item-lts.Need-for-field-requires (
   item-at-reads.Asked,
   item-at-reads.Learnt,
@@ -1622,7 +1623,7 @@ item-for-field-requires : (t : ℕ) → item-lts.Need-for-field-requires (
 ) (item-at t) item.Post
 item-for-field-requires t c κs = search needs
 
--- src/lib.rt:374:19
+-- src/lib.rt:388:19
 item-list-requires : (t : ℕ) → item-lts.Need-list-requires (
   item-at-reads.Asked,
   item-at-reads.Learnt,
@@ -1637,7 +1638,7 @@ item-list-requires : (t : ℕ) → item-lts.Need-list-requires (
 ) (item-at t) item.Post
 item-list-requires t c κs = let w = ((rw (c .before .before .before .before .before .q2 .given .1) at (c .before .before .before .before .before .before .before .item-at .ensures)) (c .before .before .before .before .before .before .before .before .before .before .before .before .before .pre .1 .1 .ks) (c .before .before .before .before .before .before .before .before .before .before .before .before .before .pre .1 .1 .marks)) in rw (c .for-field .ensures) (omega (arith, w .first .least, w .first .less, w .second .least, w .second .less, w .second .within, w .below, c .before .before .before .before .before .before .before .before .before .before .before .before .before .pre .1 .0))
 
--- src/lib.rt:375:27
+-- src/lib.rt:389:27
 item-enum-known-w : (t : ℕ) → item-lts.Need-enum-known-w (
   item-at-reads.Asked,
   item-at-reads.Learnt,
@@ -1652,7 +1653,7 @@ item-enum-known-w : (t : ℕ) → item-lts.Need-enum-known-w (
 ) (item-at t) item.Post
 item-enum-known-w t c = search needs
 
--- src/lib.rt:376:30
+-- src/lib.rt:390:30
 item-enum-known-k : (t : ℕ) → item-lts.Need-enum-known-k (
   item-at-reads.Asked,
   item-at-reads.Learnt,
@@ -1667,7 +1668,7 @@ item-enum-known-k : (t : ℕ) → item-lts.Need-enum-known-k (
 ) (item-at t) item.Post
 item-enum-known-k t c = search needs
 
--- src/lib.rt:379:23
+-- src/lib.rt:393:23
 item-enum-known-v : (t : ℕ) → item-lts.Need-enum-known-v (
   item-at-reads.Asked,
   item-at-reads.Learnt,
@@ -1682,7 +1683,7 @@ item-enum-known-v : (t : ℕ) → item-lts.Need-enum-known-v (
 ) (item-at t) item.Post
 item-enum-known-v t c = search needs
 
--- src/lib.rt:380:23
+-- src/lib.rt:394:23
 item-enum-known-k-2 : (t : ℕ) → item-lts.Need-enum-known-k-2 (
   item-at-reads.Asked,
   item-at-reads.Learnt,
@@ -1697,7 +1698,7 @@ item-enum-known-k-2 : (t : ℕ) → item-lts.Need-enum-known-k-2 (
 ) (item-at t) item.Post
 item-enum-known-k-2 t c = search needs
 
--- src/lib.rt:342:1
+-- src/lib.rt:356:1
 item-returns : (t : ℕ) → item-lts.Need-returns (
   item-at-reads.Asked,
   item-at-reads.Learnt,
@@ -1712,7 +1713,7 @@ item-returns : (t : ℕ) → item-lts.Need-returns (
 ) (item-at t) item.Post
 item-returns t c = λ ks m. λ fuel. items-none _ _ (c .before .before .before .before .before .before .before .before .args .f) _ _ fuel ks ((rw (c .enum-told .given .1) at (c .before .before .item-at .ensures)) ks m _ fuel) (c .before .before .before .before .before .before .before .before .pre .1 .0 .here)
 
--- src/lib.rt:342:1
+-- src/lib.rt:356:1
 item-same-length : (t : ℕ) → item-lts.Need-same-length (
   item-at-reads.Asked,
   item-at-reads.Learnt,
@@ -1727,7 +1728,7 @@ item-same-length : (t : ℕ) → item-lts.Need-same-length (
 ) (item-at t) item.Post
 item-same-length t c = search needs
 
--- src/lib.rt:342:1
+-- src/lib.rt:356:1
 item-returns-2 : (t : ℕ) → item-lts.Need-returns-2 (
   item-at-reads.Asked,
   item-at-reads.Learnt,
@@ -1742,7 +1743,7 @@ item-returns-2 : (t : ℕ) → item-lts.Need-returns-2 (
 ) (item-at t) item.Post
 item-returns-2 t c = λ ks m. let w = (rw (c .before .before .before .before .before .before .before .before .before .before .before .q .given .1) at (c .before .before .before .before .before .before .before .before .before .before .before .before .before .item-at .ensures)) ks m in item-void _ _ _ (c .before .before .before .before .before .before .before .before .before .before .before .before .before .before .before .before .before .before .before .args .f) _ ks _ _ _ _ _ _ w (rw (c .before .before .before .before .before .before .before .before .mark .ensures) (marks-more _ ks _ (omega (arith, w .below, c .before .before .before .before .before .before .before .before .before .before .before .before .before .before .before .before .before .before .before .pre .1 .0 .known)) m)) (c .before .before .before .put-row .ensures)
 
--- src/lib.rt:342:1
+-- src/lib.rt:356:1
 item-same-length-2 : (t : ℕ) → item-lts.Need-same-length-2 (
   item-at-reads.Asked,
   item-at-reads.Learnt,
@@ -1757,7 +1758,7 @@ item-same-length-2 : (t : ℕ) → item-lts.Need-same-length-2 (
 ) (item-at t) item.Post
 item-same-length-2 t c = search needs
 
--- src/lib.rt:342:1
+-- src/lib.rt:356:1
 item-returns-3 : (t : ℕ) → item-lts.Need-returns-3 (
   item-at-reads.Asked,
   item-at-reads.Learnt,
@@ -1772,7 +1773,7 @@ item-returns-3 : (t : ℕ) → item-lts.Need-returns-3 (
 ) (item-at t) item.Post
 item-returns-3 t c = λ ks m. let w = (rw (c .before .before .before .before .before .before .before .before .before .before .before .q2 .given .1) at (c .before .before .before .before .before .before .before .before .before .before .before .before .before .item-at .ensures)) ks m in item-list _ _ _ (c .before .before .before .before .before .before .before .before .before .before .before .before .before .before .before .before .before .before .before .args .f) _ ks _ _ _ _ _ w _ _ (rw (c .before .before .before .before .before .before .before .before .mark2 .ensures) (marks-more _ ks _ (omega (arith, w .below, c .before .before .before .before .before .before .before .before .before .before .before .before .before .before .before .before .before .before .before .pre .1 .0 .known)) m)) (rw (c .before .before .before .before .before .before .for-field .ensures, c .before .w .given .1) at (c .before .before .before .before .before .list .ensures))
 
--- src/lib.rt:342:1
+-- src/lib.rt:356:1
 item-same-length-3 : (t : ℕ) → item-lts.Need-same-length-3 (
   item-at-reads.Asked,
   item-at-reads.Learnt,
@@ -1787,7 +1788,7 @@ item-same-length-3 : (t : ℕ) → item-lts.Need-same-length-3 (
 ) (item-at t) item.Post
 item-same-length-3 t c = search needs
 
--- src/lib.rt:342:1
+-- src/lib.rt:356:1
 item-returns-4 : (t : ℕ) → item-lts.Need-returns-4 (
   item-at-reads.Asked,
   item-at-reads.Learnt,
@@ -1802,7 +1803,7 @@ item-returns-4 : (t : ℕ) → item-lts.Need-returns-4 (
 ) (item-at t) item.Post
 item-returns-4 t c = λ ks m. λ fuel. item-refused _ _ _ (c .before .before .before .before .before .before .before .before .before .before .before .before .before .before .before .before .before .before .before .args .f) _ ks [] [] [] _ _ ((rw (c .before .before .before .before .before .before .before .before .before .before .before .q2 .given .1) at (c .before .before .before .before .before .before .before .before .before .before .before .before .before .item-at .ensures)) ks m) _ _ (rw (c .before .before .before .before .before .before .for-field .ensures, c .before .k .given .1) at (c .before .before .before .before .before .list .ensures)) fuel
 
--- src/lib.rt:342:1
+-- src/lib.rt:356:1
 item-returns-5 : (t : ℕ) → item-lts.Need-returns-5 (
   item-at-reads.Asked,
   item-at-reads.Learnt,
@@ -1817,7 +1818,7 @@ item-returns-5 : (t : ℕ) → item-lts.Need-returns-5 (
 ) (item-at t) item.Post
 item-returns-5 t c = λ ks m. item-passed _ (c .before .before .before .before .before .before .before .before .before .args .n) _ (c .before .before .before .before .before .before .before .before .before .args .f) _ ks _ _ _ _ ((rw (c .before .v .given .1) at (c .before .before .before .item-at .ensures)) ks m) m refl
 
--- src/lib.rt:342:1
+-- src/lib.rt:356:1
 item-returns-6 : (t : ℕ) → item-lts.Need-returns-6 (
   item-at-reads.Asked,
   item-at-reads.Learnt,
@@ -1838,7 +1839,7 @@ items-Inv-loop table offs n s rows₀ inside seen₀ g₀ rows seen g = Iteming 
 abbrev items-μ-loop : items-lts.MeasureT-loop
 items-μ-loop table offs n s rows₀ inside seen₀ g₀ rows seen g = length s - g .at
 
--- src/lib.rt:396:20
+-- src/lib.rt:410:20
 items-no-marks-requires : (t : ℕ) → items-lts.Need-no-marks-requires (
   no-marks-reads.Asked,
   no-marks-reads.Learnt,
@@ -1849,7 +1850,7 @@ items-no-marks-requires : (t : ℕ) → items-lts.Need-no-marks-requires (
 ) (items-at t) items.Post items-Inv-loop items-μ-loop
 items-no-marks-requires t c κs = search needs
 
--- src/lib.rt:398:5
+-- src/lib.rt:412:5
 items-loop-holds : (t : ℕ) → items-lts.Need-loop-holds (
   no-marks-reads.Asked,
   no-marks-reads.Learnt,
@@ -1860,7 +1861,7 @@ items-loop-holds : (t : ℕ) → items-lts.Need-loop-holds (
 ) (items-at t) items.Post items-Inv-loop items-μ-loop
 items-loop-holds t c = iteming-start _ _ _ _ _ _ (c .no-marks .ensures) (c .before .before .before .before .before .pre .1 .here)
 
--- src/lib.rt:399:15
+-- src/lib.rt:413:15
 items-item-requires : (t : ℕ) → items-lts.Need-item-requires (
   no-marks-reads.Asked,
   no-marks-reads.Learnt,
@@ -1871,7 +1872,7 @@ items-item-requires : (t : ℕ) → items-lts.Need-item-requires (
 ) (items-at t) items.Post items-Inv-loop items-μ-loop
 items-item-requires t c κs = let r = iteming-room (c .before .before .loop .inv) _ (c .before .before .before .before .before .before .before .before .pre .1) in let d = iteming-depth (c .before .before .loop .inv) in let m : Marked _ = record { ks = c .before .before .loop .inv .seen; marks = c .before .before .loop .inv .marked } in search needs
 
--- src/lib.rt:400:22
+-- src/lib.rt:414:22
 items-enum-known-v : (t : ℕ) → items-lts.Need-enum-known-v (
   no-marks-reads.Asked,
   no-marks-reads.Learnt,
@@ -1882,7 +1883,7 @@ items-enum-known-v : (t : ℕ) → items-lts.Need-enum-known-v (
 ) (items-at t) items.Post items-Inv-loop items-μ-loop
 items-enum-known-v t c = search needs
 
--- src/lib.rt:401:17
+-- src/lib.rt:415:17
 items-moved-requires : (t : ℕ) → items-lts.Need-moved-requires (
   no-marks-reads.Asked,
   no-marks-reads.Learnt,
@@ -1893,7 +1894,7 @@ items-moved-requires : (t : ℕ) → items-lts.Need-moved-requires (
 ) (items-at t) items.Post items-Inv-loop items-μ-loop
 items-moved-requires t c κs = search needs
 
--- src/lib.rt:398:5
+-- src/lib.rt:412:5
 items-loop-less : (t : ℕ) → items-lts.Need-loop-less (
   no-marks-reads.Asked,
   no-marks-reads.Learnt,
@@ -1904,7 +1905,7 @@ items-loop-less : (t : ℕ) → items-lts.Need-loop-less (
 ) (items-at t) items.Post items-Inv-loop items-μ-loop
 items-loop-less t c = let t = (iteming-turn (c .before .before .before .before .before .before .before .before .before .loop .inv) _ _ (c .before .before .before .before .before .before .item .result) (c .before .before .before .before .before .before .item .ensures) _ _ (c .before .before .v .given .1)) in rw (c .moved .ensures) (omega (arith, t))
 
--- src/lib.rt:398:5
+-- src/lib.rt:412:5
 items-loop-again : (t : ℕ) → items-lts.Need-loop-again (
   no-marks-reads.Asked,
   no-marks-reads.Learnt,
@@ -1915,7 +1916,7 @@ items-loop-again : (t : ℕ) → items-lts.Need-loop-again (
 ) (items-at t) items.Post items-Inv-loop items-μ-loop
 items-loop-again t c = iteming-on (c .before .before .before .before .before .before .before .before .before .loop .inv) _ _ (c .before .before .before .before .before .before .item .result) (c .before .before .before .before .before .before .item .ensures) _ _ _ (c .before .before .v .given .1) (c .moved .ensures)
 
--- src/lib.rt:403:23
+-- src/lib.rt:417:23
 items-enum-known-o : (t : ℕ) → items-lts.Need-enum-known-o (
   no-marks-reads.Asked,
   no-marks-reads.Learnt,
@@ -1926,7 +1927,7 @@ items-enum-known-o : (t : ℕ) → items-lts.Need-enum-known-o (
 ) (items-at t) items.Post items-Inv-loop items-μ-loop
 items-enum-known-o t c = search needs
 
--- src/lib.rt:404:17
+-- src/lib.rt:418:17
 items-same-length : (t : ℕ) → items-lts.Need-same-length (
   no-marks-reads.Asked,
   no-marks-reads.Learnt,
@@ -1937,7 +1938,7 @@ items-same-length : (t : ℕ) → items-lts.Need-same-length (
 ) (items-at t) items.Post items-Inv-loop items-μ-loop
 items-same-length t c = search needs
 
--- src/lib.rt:404:17
+-- src/lib.rt:418:17
 items-returns : (t : ℕ) → items-lts.Need-returns (
   no-marks-reads.Asked,
   no-marks-reads.Learnt,
@@ -1954,128 +1955,128 @@ list-Inv-loop table offs n s rows₀ e g₀ c₀ rows g c = Listing (schemaAt ta
 abbrev list-μ-loop : list-lts.MeasureT-loop
 list-μ-loop table offs n s rows₀ e g₀ c₀ rows g c = length s - g .at
 
--- src/lib.rt:323:9
+-- src/lib.rt:337:9
 list-ints-of-requires : (t : ℕ) → list-lts.Need-ints-of-requires (
   ints-of-reads.Asked,
   ints-of-reads.Learnt,
   next-element-below t,
   next-element.Post,
-  moved-reads.Asked,
-  moved-reads.Learnt,
+  next-value-reads.Asked,
+  next-value-reads.Learnt,
 ) (list-at t) list.Post list-Inv-loop list-μ-loop
 list-ints-of-requires t c κs = search needs
 
--- src/lib.rt:326:5
+-- src/lib.rt:340:5
 list-loop-holds : (t : ℕ) → list-lts.Need-loop-holds (
   ints-of-reads.Asked,
   ints-of-reads.Learnt,
   next-element-below t,
   next-element.Post,
-  moved-reads.Asked,
-  moved-reads.Learnt,
+  next-value-reads.Asked,
+  next-value-reads.Learnt,
 ) (list-at t) list.Post list-Inv-loop list-μ-loop
 list-loop-holds t c = listing-start _ _ _ _ (c .before .before .before .before .before .pre .1 .0 .here)
 
--- src/lib.rt:327:15
+-- src/lib.rt:341:15
 list-next-element-requires : (t : ℕ) → list-lts.Need-next-element-requires (
   ints-of-reads.Asked,
   ints-of-reads.Learnt,
   next-element-below t,
   next-element.Post,
-  moved-reads.Asked,
-  moved-reads.Learnt,
+  next-value-reads.Asked,
+  next-value-reads.Learnt,
 ) (list-at t) list.Post list-Inv-loop list-μ-loop
 list-next-element-requires t c κs = let r = (listing-room (c .before .loop .inv) _ (c .before .before .before .before .before .before .before .pre .1 .0)) in let d = listing-depth (c .before .loop .inv) in let k = listing-named (c .before .loop .inv) in let i = listing-ints (c .before .loop .inv) _ (c .before .before .ints-of .ensures) in let w = c .before .loop .inv .few in let p = c .before .before .before .before .before .before .before .pre .1 .1 in (omega (arith, d), (r, (omega (arith, k, w, p, r), i)))
 
--- src/lib.rt:328:22
+-- src/lib.rt:342:22
 list-enum-known-v : (t : ℕ) → list-lts.Need-enum-known-v (
   ints-of-reads.Asked,
   ints-of-reads.Learnt,
   next-element-below t,
   next-element.Post,
-  moved-reads.Asked,
-  moved-reads.Learnt,
+  next-value-reads.Asked,
+  next-value-reads.Learnt,
 ) (list-at t) list.Post list-Inv-loop list-μ-loop
 list-enum-known-v t c = search needs
 
--- src/lib.rt:329:17
-list-moved-requires : (t : ℕ) → list-lts.Need-moved-requires (
+-- src/lib.rt:343:17
+list-next-value-requires : (t : ℕ) → list-lts.Need-next-value-requires (
   ints-of-reads.Asked,
   ints-of-reads.Learnt,
   next-element-below t,
   next-element.Post,
-  moved-reads.Asked,
-  moved-reads.Learnt,
+  next-value-reads.Asked,
+  next-value-reads.Learnt,
 ) (list-at t) list.Post list-Inv-loop list-μ-loop
-list-moved-requires t c κs = search needs
+list-next-value-requires t c κs = search needs
 
--- src/lib.rt:330:17
+-- src/lib.rt:344:17
 list-add-c : (t : ℕ) → list-lts.Need-add-c (
   ints-of-reads.Asked,
   ints-of-reads.Learnt,
   next-element-below t,
   next-element.Post,
-  moved-reads.Asked,
-  moved-reads.Learnt,
+  next-value-reads.Asked,
+  next-value-reads.Learnt,
 ) (list-at t) list.Post list-Inv-loop list-μ-loop
 list-add-c t c = let r = (listing-room (c .before .before .before .before .before .before .before .before .loop .inv) _ (c .before .before .before .before .before .before .before .before .before .before .before .before .before .before .pre .1 .0)) in omega (arith, r, c .before .before .before .before .before .before .before .before .loop .inv .few)
 
--- src/lib.rt:326:5
+-- src/lib.rt:340:5
 list-loop-less : (t : ℕ) → list-lts.Need-loop-less (
   ints-of-reads.Asked,
   ints-of-reads.Learnt,
   next-element-below t,
   next-element.Post,
-  moved-reads.Asked,
-  moved-reads.Learnt,
+  next-value-reads.Asked,
+  next-value-reads.Learnt,
 ) (list-at t) list.Post list-Inv-loop list-μ-loop
-list-loop-less t c = let t = (listing-turn (c .before .before .before .before .before .before .before .before .loop .inv) _ (c .before .before .before .before .before .before .next-element .result) _ _ (c .before .before .before .before .before .before .next-element .ensures) (c .before .before .v .given .1)) in rw (c .moved .ensures) (omega (arith, t))
+list-loop-less t c = let t = (listing-turn (c .before .before .before .before .before .before .before .before .loop .inv) _ (c .before .before .before .before .before .before .next-element .result) _ _ (c .before .before .before .before .before .before .next-element .ensures) (c .before .before .v .given .1)) in rw (c .next-value .ensures) (omega (arith, t))
 
--- src/lib.rt:326:5
+-- src/lib.rt:340:5
 list-loop-again : (t : ℕ) → list-lts.Need-loop-again (
   ints-of-reads.Asked,
   ints-of-reads.Learnt,
   next-element-below t,
   next-element.Post,
-  moved-reads.Asked,
-  moved-reads.Learnt,
+  next-value-reads.Asked,
+  next-value-reads.Learnt,
 ) (list-at t) list.Post list-Inv-loop list-μ-loop
-list-loop-again t c = listing-on (c .before .before .before .before .before .before .before .before .loop .inv) _ (c .before .before .before .before .before .before .next-element .result) _ _ _ (c .before .before .before .before .before .before .next-element .ensures) (c .before .before .v .given .1) (c .moved .ensures)
+list-loop-again t c = listing-on (c .before .before .before .before .before .before .before .before .loop .inv) _ (c .before .before .before .before .before .before .next-element .result) _ _ _ (c .before .before .before .before .before .before .next-element .ensures) (c .before .before .v .given .1) (c .next-value .ensures)
 
--- src/lib.rt:332:23
+-- src/lib.rt:346:23
 list-enum-known-o : (t : ℕ) → list-lts.Need-enum-known-o (
   ints-of-reads.Asked,
   ints-of-reads.Learnt,
   next-element-below t,
   next-element.Post,
-  moved-reads.Asked,
-  moved-reads.Learnt,
+  next-value-reads.Asked,
+  next-value-reads.Learnt,
 ) (list-at t) list.Post list-Inv-loop list-μ-loop
 list-enum-known-o t c = search needs
 
--- src/lib.rt:333:17
+-- src/lib.rt:347:17
 list-same-length : (t : ℕ) → list-lts.Need-same-length (
   ints-of-reads.Asked,
   ints-of-reads.Learnt,
   next-element-below t,
   next-element.Post,
-  moved-reads.Asked,
-  moved-reads.Learnt,
+  next-value-reads.Asked,
+  next-value-reads.Learnt,
 ) (list-at t) list.Post list-Inv-loop list-μ-loop
 list-same-length t c = search needs
 
--- src/lib.rt:333:17
+-- src/lib.rt:347:17
 list-returns : (t : ℕ) → list-lts.Need-returns (
   ints-of-reads.Asked,
   ints-of-reads.Learnt,
   next-element-below t,
   next-element.Post,
-  moved-reads.Asked,
-  moved-reads.Learnt,
+  next-value-reads.Asked,
+  next-value-reads.Learnt,
 ) (list-at t) list.Post list-Inv-loop list-μ-loop
 list-returns t c = listing-out (c .before .before .before .before .before .before .before .loop .inv) _ (c .before .before .before .before .before .next-element .result) _ (c .before .before .before .before .before .next-element .ensures) (c .before .o .given .1)
 
--- src/lib.rt:312:11
+-- src/lib.rt:326:11
 next-element-quick-int-requires : (t : ℕ) → next-element-lts.Need-quick-int-requires (
   quick-int-reads.Asked,
   quick-int-reads.Learnt,
@@ -2084,7 +2085,7 @@ next-element-quick-int-requires : (t : ℕ) → next-element-lts.Need-quick-int-
 ) (next-element-at t) next-element.Post
 next-element-quick-int-requires t c κs = c .before .before .before .before .before .pre .1
 
--- src/lib.rt:313:19
+-- src/lib.rt:327:19
 next-element-enum-known-v : (t : ℕ) → next-element-lts.Need-enum-known-v (
   quick-int-reads.Asked,
   quick-int-reads.Learnt,
@@ -2093,7 +2094,7 @@ next-element-enum-known-v : (t : ℕ) → next-element-lts.Need-enum-known-v (
 ) (next-element-at t) next-element.Post
 next-element-enum-known-v t c = search needs
 
--- src/lib.rt:314:51
+-- src/lib.rt:328:51
 next-element-enum-told : (t : ℕ) → next-element-lts.Need-enum-told (
   quick-int-reads.Asked,
   quick-int-reads.Learnt,
@@ -2102,7 +2103,7 @@ next-element-enum-told : (t : ℕ) → next-element-lts.Need-enum-told (
 ) (next-element-at t) next-element.Post
 next-element-enum-told t c = search needs
 
--- src/lib.rt:314:24
+-- src/lib.rt:328:24
 next-element-element-requires : (t : ℕ) → next-element-lts.Need-element-requires (
   quick-int-reads.Asked,
   quick-int-reads.Learnt,
@@ -2111,7 +2112,7 @@ next-element-element-requires : (t : ℕ) → next-element-lts.Need-element-requ
 ) (next-element-at t) next-element.Post
 next-element-element-requires t c κs = omega (arith, c .before .before .before .before .before .before .before .before .before .before .before .pre .1 .0, c .before .before .before .before .before .before .before .before .before .before .before .pre .1 .1 .0)
 
--- src/lib.rt:297:1
+-- src/lib.rt:311:1
 next-element-same-length : (t : ℕ) → next-element-lts.Need-same-length (
   quick-int-reads.Asked,
   quick-int-reads.Learnt,
@@ -2120,7 +2121,7 @@ next-element-same-length : (t : ℕ) → next-element-lts.Need-same-length (
 ) (next-element-at t) next-element.Post
 next-element-same-length t c = search needs
 
--- src/lib.rt:297:1
+-- src/lib.rt:311:1
 next-element-returns : (t : ℕ) → next-element-lts.Need-returns (
   quick-int-reads.Asked,
   quick-int-reads.Learnt,
@@ -2129,7 +2130,7 @@ next-element-returns : (t : ℕ) → next-element-lts.Need-returns (
 ) (next-element-at t) next-element.Post
 next-element-returns t c = quick-element _ _ (c .before .before .before .before .before .before .before .before .before .before .before .args .f) _ _ _ _ _ (rw (c .before .v .given .1) at (c .before .before .before .before .before .quick-int .ensures))
 
--- src/lib.rt:297:1
+-- src/lib.rt:311:1
 next-element-same-length-2 : (t : ℕ) → next-element-lts.Need-same-length-2 (
   quick-int-reads.Asked,
   quick-int-reads.Learnt,
@@ -2138,7 +2139,7 @@ next-element-same-length-2 : (t : ℕ) → next-element-lts.Need-same-length-2 (
 ) (next-element-at t) next-element.Post
 next-element-same-length-2 t c = search needs
 
--- src/lib.rt:297:1
+-- src/lib.rt:311:1
 next-element-returns-2 : (t : ℕ) → next-element-lts.Need-returns-2 (
   quick-int-reads.Asked,
   quick-int-reads.Learnt,
@@ -2147,7 +2148,7 @@ next-element-returns-2 : (t : ℕ) → next-element-lts.Need-returns-2 (
 ) (next-element-at t) next-element.Post
 next-element-returns-2 t c = rw (rw (c .before .before .before .before .enum-told .given .1) at (c .before .before .before .before .before .before .before .before .quick-int .ensures)) at (c .before .before .element .ensures)
 
--- src/lib.rt:251:9
+-- src/lib.rt:265:9
 value-core-requires : (t : ℕ) → value-lts.Need-core-requires (
   core-reads.Asked,
   core-reads.Learnt,
@@ -2162,7 +2163,7 @@ value-core-requires : (t : ℕ) → value-lts.Need-core-requires (
 ) (value-at t) value.Post
 value-core-requires t c κs = search needs
 
--- src/lib.rt:252:11
+-- src/lib.rt:266:11
 value-kind-requires : (t : ℕ) → value-lts.Need-kind-requires (
   core-reads.Asked,
   core-reads.Learnt,
@@ -2177,7 +2178,7 @@ value-kind-requires : (t : ℕ) → value-lts.Need-kind-requires (
 ) (value-at t) value.Post
 value-kind-requires t c κs = search needs
 
--- src/lib.rt:253:24
+-- src/lib.rt:267:24
 value-enum-told : (t : ℕ) → value-lts.Need-enum-told (
   core-reads.Asked,
   core-reads.Learnt,
@@ -2192,7 +2193,7 @@ value-enum-told : (t : ℕ) → value-lts.Need-enum-told (
 ) (value-at t) value.Post
 value-enum-told t c = search needs
 
--- src/lib.rt:253:24
+-- src/lib.rt:267:24
 value-no-value-requires : (t : ℕ) → value-lts.Need-no-value-requires (
   core-reads.Asked,
   core-reads.Learnt,
@@ -2207,7 +2208,7 @@ value-no-value-requires : (t : ℕ) → value-lts.Need-no-value-requires (
 ) (value-at t) value.Post
 value-no-value-requires t c κs = omega (arith, c .before .before .before .before .before .before .before .before .pre .1 .0 .short)
 
--- src/lib.rt:254:59
+-- src/lib.rt:268:59
 value-enum-told-2 : (t : ℕ) → value-lts.Need-enum-told-2 (
   core-reads.Asked,
   core-reads.Learnt,
@@ -2222,7 +2223,7 @@ value-enum-told-2 : (t : ℕ) → value-lts.Need-enum-told-2 (
 ) (value-at t) value.Post
 value-enum-told-2 t c = search needs
 
--- src/lib.rt:254:26
+-- src/lib.rt:268:26
 value-simple-requires : (t : ℕ) → value-lts.Need-simple-requires (
   core-reads.Asked,
   core-reads.Learnt,
@@ -2237,7 +2238,7 @@ value-simple-requires : (t : ℕ) → value-lts.Need-simple-requires (
 ) (value-at t) value.Post
 value-simple-requires t c κs = omega (arith, c .before .before .before .before .before .before .before .before .before .pre .1)
 
--- src/lib.rt:255:52
+-- src/lib.rt:269:52
 value-enum-told-3 : (t : ℕ) → value-lts.Need-enum-told-3 (
   core-reads.Asked,
   core-reads.Learnt,
@@ -2252,7 +2253,7 @@ value-enum-told-3 : (t : ℕ) → value-lts.Need-enum-told-3 (
 ) (value-at t) value.Post
 value-enum-told-3 t c = search needs
 
--- src/lib.rt:255:26
+-- src/lib.rt:269:26
 value-braced-requires : (t : ℕ) → value-lts.Need-braced-requires (
   core-reads.Asked,
   core-reads.Learnt,
@@ -2267,7 +2268,7 @@ value-braced-requires : (t : ℕ) → value-lts.Need-braced-requires (
 ) (value-at t) value.Post
 value-braced-requires t c κs = omega (arith, c .before .before .before .before .before .before .before .before .before .pre .1)
 
--- src/lib.rt:256:25
+-- src/lib.rt:270:25
 value-enum-told-4 : (t : ℕ) → value-lts.Need-enum-told-4 (
   core-reads.Asked,
   core-reads.Learnt,
@@ -2282,7 +2283,7 @@ value-enum-told-4 : (t : ℕ) → value-lts.Need-enum-told-4 (
 ) (value-at t) value.Post
 value-enum-told-4 t c = search needs
 
--- src/lib.rt:256:25
+-- src/lib.rt:270:25
 value-no-value-requires-2 : (t : ℕ) → value-lts.Need-no-value-requires-2 (
   core-reads.Asked,
   core-reads.Learnt,
@@ -2297,7 +2298,7 @@ value-no-value-requires-2 : (t : ℕ) → value-lts.Need-no-value-requires-2 (
 ) (value-at t) value.Post
 value-no-value-requires-2 t c κs = omega (arith, c .before .before .before .before .before .before .before .before .pre .1 .0 .short)
 
--- src/lib.rt:257:29
+-- src/lib.rt:271:29
 value-enum-told-5 : (t : ℕ) → value-lts.Need-enum-told-5 (
   core-reads.Asked,
   core-reads.Learnt,
@@ -2312,7 +2313,7 @@ value-enum-told-5 : (t : ℕ) → value-lts.Need-enum-told-5 (
 ) (value-at t) value.Post
 value-enum-told-5 t c = search needs
 
--- src/lib.rt:257:29
+-- src/lib.rt:271:29
 value-no-value-requires-3 : (t : ℕ) → value-lts.Need-no-value-requires-3 (
   core-reads.Asked,
   core-reads.Learnt,
@@ -2327,7 +2328,7 @@ value-no-value-requires-3 : (t : ℕ) → value-lts.Need-no-value-requires-3 (
 ) (value-at t) value.Post
 value-no-value-requires-3 t c κs = omega (arith, c .before .before .before .before .before .before .before .before .pre .1 .0 .short)
 
--- src/lib.rt:246:1
+-- src/lib.rt:260:1
 value-returns : (t : ℕ) → value-lts.Need-returns (
   core-reads.Asked,
   core-reads.Learnt,
@@ -2343,7 +2344,7 @@ value-returns : (t : ℕ) → value-lts.Need-returns (
 unfolding isPlace
 value-returns t c = plain-none _ _ (c .before .before .before .before .before .before .before .before .before .args .f) _ _ (c .no-value .result) schema.void (rw (← c .before .before .before .before .core .ensures) (sym (c .before .before .before .kind .ensures) ∙ ap shapeOf (c .before .enum-told .given .1))) refl (c .no-value .ensures)
 
--- src/lib.rt:246:1
+-- src/lib.rt:260:1
 value-same-length : (t : ℕ) → value-lts.Need-same-length (
   core-reads.Asked,
   core-reads.Learnt,
@@ -2358,7 +2359,7 @@ value-same-length : (t : ℕ) → value-lts.Need-same-length (
 ) (value-at t) value.Post
 value-same-length t c = search needs
 
--- src/lib.rt:246:1
+-- src/lib.rt:260:1
 value-returns-2 : (t : ℕ) → value-lts.Need-returns-2 (
   core-reads.Asked,
   core-reads.Learnt,
@@ -2373,7 +2374,7 @@ value-returns-2 : (t : ℕ) → value-lts.Need-returns-2 (
 ) (value-at t) value.Post
 value-returns-2 t c = plain-simple _ _ (c .before .before .before .before .before .before .before .before .before .before .before .before .args .f) _ _ (c .before .before .simple .result) _ (c .before .before .before .before .before .before .before .core .ensures) (sym (c .before .before .before .before .before .before .kind .ensures) ∙ ap shapeOf (c .before .before .before .before .enum-told2 .given .1)) (c .before .before .simple .ensures)
 
--- src/lib.rt:246:1
+-- src/lib.rt:260:1
 value-same-length-2 : (t : ℕ) → value-lts.Need-same-length-2 (
   core-reads.Asked,
   core-reads.Learnt,
@@ -2388,7 +2389,7 @@ value-same-length-2 : (t : ℕ) → value-lts.Need-same-length-2 (
 ) (value-at t) value.Post
 value-same-length-2 t c = search needs
 
--- src/lib.rt:246:1
+-- src/lib.rt:260:1
 value-returns-3 : (t : ℕ) → value-lts.Need-returns-3 (
   core-reads.Asked,
   core-reads.Learnt,
@@ -2403,7 +2404,7 @@ value-returns-3 : (t : ℕ) → value-lts.Need-returns-3 (
 ) (value-at t) value.Post
 value-returns-3 t c = plain-struct _ _ (c .before .before .before .before .before .before .before .before .before .before .before .before .args .f) _ _ (c .before .before .braced .result) _ (c .before .before .before .before .before .before .before .core .ensures) (sym (c .before .before .before .before .before .before .kind .ensures) ∙ ap shapeOf (c .before .before .before .before .enum-told3 .given .1)) (c .before .before .braced .ensures)
 
--- src/lib.rt:246:1
+-- src/lib.rt:260:1
 value-returns-4 : (t : ℕ) → value-lts.Need-returns-4 (
   core-reads.Asked,
   core-reads.Learnt,
@@ -2419,7 +2420,7 @@ value-returns-4 : (t : ℕ) → value-lts.Need-returns-4 (
 unfolding isPlace
 value-returns-4 t c = plain-none _ _ (c .before .before .before .before .before .before .before .before .before .args .f) _ _ (c .no-value2 .result) schema.union (rw (← c .before .before .before .before .core .ensures) (sym (c .before .before .before .kind .ensures) ∙ ap shapeOf (c .before .enum-told4 .given .1))) refl (c .no-value2 .ensures)
 
--- src/lib.rt:246:1
+-- src/lib.rt:260:1
 value-returns-5 : (t : ℕ) → value-lts.Need-returns-5 (
   core-reads.Asked,
   core-reads.Learnt,
@@ -2679,8 +2680,8 @@ pub +body+braced+choice+element+field+fields+item+items+list+next-element+value-
       ints-of-reads.Learnt,
       next-element-below t,
       next-element.Post,
-      moved-reads.Asked,
-      moved-reads.Learnt,
+      next-value-reads.Asked,
+      next-value-reads.Learnt,
     )
     (list-at t)
     list.Post
@@ -2690,7 +2691,7 @@ pub +body+braced+choice+element+field+fields+item+items+list+next-element+value-
     (list-loop-holds t)
     (list-next-element-requires t)
     (list-enum-known-v t)
-    (list-moved-requires t)
+    (list-next-value-requires t)
     (list-add-c t)
     (list-loop-less t)
     (list-loop-again t)
