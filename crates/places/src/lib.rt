@@ -1,4 +1,4 @@
-// Lines and columns of a place in a text.
+// Lines and columns of a place in a text. A place in it, or its end, is asked for: another has no line.
 ghost use mathlib.Core.Path.{_≡_};
 ghost use Prim.Native.Nat.{_≤_};
 ghost use lib.ListN.{length};

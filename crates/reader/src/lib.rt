@@ -1,5 +1,6 @@
 // The readers of a message: body, list, choice and value call each other, and fill rows into a lent slice.
-// s is the message from base on, or a part of it that starts after a brace.
+// s is the message from base on, or a part of it that starts after a brace. It is short, and the rows so far are few
+// (`Room`), so that no sum of places overflows.
 ghost use mathlib.Core.Path.{_≡_};
 ghost use mathlib.Core.Bool.{true, false};
 ghost use mathlib.Core.List.{List, []};

@@ -146,7 +146,7 @@ fn put_needed(out: &mut [u8], at: usize, file: &[u8], number: u32, needed: usize
     put_refused(out, o, number)
 }
 
-// The lines of a refusal.
+// The lines of a refusal. The text is shorter than 2^32 bytes, so that line and column are numbers that can be written.
 pub fn put_refusal(
     out: &mut [u8],
     at: usize,

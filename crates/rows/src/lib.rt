@@ -51,7 +51,7 @@ pub fn put_row(rows: &mut [u32], row: usize, r: Row)
     put(rows, i + 3, r.end);
 }
 
-// The same end for each row from first up to last.
+// The same end for each row from first up to last. Both are small, as messages are.
 pub fn put_ends(rows: &mut [u32], first: usize, last: usize, end: usize)
     requires { ⌜ (last < 4294967296) × (end < 4294967296) ⌝ }
     ensures { λ _. ⌜ now (rows .exit) ≡ withEnds (now (rows .entry)) first (last - first) end ⌝ }

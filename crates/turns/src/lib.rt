@@ -1,5 +1,6 @@
 // What a reader decides at one token: each function renders a row of the decision table.
 // s is the message from base on; the rows of a reading are written as soon as their end is known.
+// Each function asks for a short message and few rows so far (`Room`), so that no sum of places overflows.
 ghost use mathlib.Core.Path.{_≡_};
 ghost use Prim.Native.Nat.{ℕ, _+_, _-_, _≤_, _<_};
 ghost use lib.ListN.{length};
