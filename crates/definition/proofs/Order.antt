@@ -2,7 +2,7 @@
 use mathlib.Core.Path.{_≡_, refl, ap, sym, _∙_}
 use mathlib.Core.Bool.{Bool, true, false, not, _&&_}
 use mathlib.Core.List.{List, [], _∷_, _++_}
-use Prim.Native.Nat.{ℕ, zero, suc, _+_, _*_, _≤_, _<_}
+use Prim.Native.Nat.{ℕ, zero, suc, _+_, _-_, _*_, _≤_, _<_}
 use native.Mathlib.Omega.{arith}
 use lib.Dec.{eqb, ltb}
 use lib.ListN.{length, getD, take, drop, length-append}
@@ -14,16 +14,20 @@ use Rattle.schema.specs.Record.{Record}
 use Rattle.definition_rules.specs.Words.{kindIsCompound}
 use Rattle.definition_rules.specs.Declarations.{Noted, declarationsOf}
 use Rattle.definition_rules.specs.Records.{recordsOf, topNames}
-use Rattle.definition_rules.specs.Table.{encode}
+use Rattle.definition_rules.specs.Table.{encode, just, decode}
 use Rattle.definition_rules.specs.Finite.{finites, isEndless}
 use Rattle.definition_rules.specs.Faults.{spotsWhere, recordSpots, rule7Broken, tagRepeated, rootNoStruct, dangling, repeatedNames, faults5, faults6, faults7, faults8, faults9, faults10}
 use Rattle.definition_rules.specs.Compile.{Check, check, Finding, clean, fault, leastOf, findingOf, firstFault, Verdict, refused, table, verdictOf, Answer, compiled, refusal, answerOf, lentAfter}
 use Rattle.declared.specs.declared.Place.{Place}
 use Rattle.declared.specs.declared.Place.the-variants.{Nowhere, At}
-use Rattle.declared.specs.Cells.{cellAt, notedFrom}
+use Rattle.declared.specs.Cells.{cellAt, part, notedFrom}
 use Rattle.declared.specs.Places.{atIf, lesser, leastPlace, leastFrom}
 use Rattle.declared.proofs.PlaceLaws.{least-append, from-same}
 use Rattle.records.specs.Stored.{recordIn, recordsAt}
+use Rattle.records.proofs.Laws.{length-records}
+use Rattle.walk.specs.Walked.{Counted, Uncounted, Walked}
+use Rattle.walk.specs.declared.Walk.{Walk}
+use Rattle.walk.specs.declared.Walk.the-variants.{Count, Bad}
 use Rattle.record_checks.specs.Rounds.{Found}
 use Rattle.record_faults.specs.RecordFaults.{faultAt}
 use Rattle.record_faults.proofs.FaultLaws.{spots-from}
@@ -133,24 +137,43 @@ module _ (text cs : List ℕ) (n : ℕ) where
   unfolding verdictFrom declarationChecks verdictOf
   refuse-six p a e = ap (λ f. verdictOf f records) (pass 5 (faults5 kept) _ (sym a) ∙ hit 6 (faults6 records kept) _ p (sym e))
 
-  -- the records that were written are those of the declarations
-  later : (t offs : List ℕ) (f : Finding) → Nowhere ≡ leastPlace (faults5 kept) → Nowhere ≡ leastPlace (faults6 records kept) → recordsAt t offs n ≡ records → f ≡ firstFault (recordChecks (recordsAt t offs n) kept) → verdictFrom text cs n ≡ verdictOf f records
+  later : (f : Finding) → Nowhere ≡ leastPlace (faults5 kept) → Nowhere ≡ leastPlace (faults6 records kept) → f ≡ firstFault (recordChecks records kept) → verdictFrom text cs n ≡ verdictOf f records
   unfolding verdictFrom declarationChecks
-  later t offs f a b w e =
-      ap (λ g. verdictOf g records) (pass 5 (faults5 kept) _ (sym a) ∙ (pass 6 (faults6 records kept) _ (sym b) ∙ (ap (λ r. firstFault (recordChecks r kept)) (sym w) ∙ sym e)))
+  later f a b e =
+      ap (λ g. verdictOf g records) (pass 5 (faults5 kept) _ (sym a) ∙ (pass 6 (faults6 records kept) _ (sym b) ∙ sym e))
 
-  pub later-fault : (t offs : List ℕ) (k p : ℕ) → Nowhere ≡ leastPlace (faults5 kept) → Nowhere ≡ leastPlace (faults6 records kept) → recordsAt t offs n ≡ records → fault k p ≡ firstFault (recordChecks (recordsAt t offs n) kept) → verdictFrom text cs n ≡ refused k p
+  pub later-fault : (k p : ℕ) → Nowhere ≡ leastPlace (faults5 kept) → Nowhere ≡ leastPlace (faults6 records kept) → fault k p ≡ firstFault (recordChecks records kept) → verdictFrom text cs n ≡ refused k p
   unfolding verdictOf
-  later-fault t offs k p a b w e = later t offs (fault k p) a b w e
+  later-fault k p a b e = later (fault k p) a b e
 
-  pub later-clean : (t offs : List ℕ) → Nowhere ≡ leastPlace (faults5 kept) → Nowhere ≡ leastPlace (faults6 records kept) → recordsAt t offs n ≡ records → clean ≡ firstFault (recordChecks (recordsAt t offs n) kept) → verdictFrom text cs n ≡ table (encode records)
+  pub later-clean : Nowhere ≡ leastPlace (faults5 kept) → Nowhere ≡ leastPlace (faults6 records kept) → clean ≡ firstFault (recordChecks records kept) → verdictFrom text cs n ≡ table (encode records)
   unfolding verdictOf
-  later-clean t offs a b w e = later t offs clean a b w e
+  later-clean a b e = later clean a b e
 
   -- what the writer made of declarations without a fault 5
-  pub wrote : (len : ℕ) (scratch after offs starts : List ℕ) → n ≤ parameterLimit → ((i : ℕ) → i < n → cellAt cs i 15 ≤ none16) → Nowhere ≡ leastPlace (faults5 kept) → length scratch ≡ 22528 → length offs ≡ 256 → Wrote (writtenRecords text cs n) len scratch after offs starts → Held (writtenRecords text cs n) n len scratch after starts
-  wrote len scratch after offs starts few parents e long room w =
-      held text cs n len scratch after offs starts (record { few = few; parents = parents; labels = labels-short text cs n (sym e) }) (omega arith) (omega arith) w
+  pub wrote : (len : ℕ) (scratch after : List ℕ) → n ≤ parameterLimit → ((i : ℕ) → i < n → cellAt cs i 15 ≤ none16) → Nowhere ≡ leastPlace (faults5 kept) → length scratch ≡ 22528 → Wrote (writtenRecords text cs n) len scratch after → Held (writtenRecords text cs n) n len scratch after
+  wrote len scratch after few parents e long w =
+      held text cs n len scratch after (record { few = few; parents = parents; labels = labels-short text cs n (sym e) }) (omega arith) w
+
+-- the front of what was written
+pub front : (p s : List ℕ) (len : ℕ) → p ≡ part s 0 len → p ≡ take len s
+front p s len e = let q : len - 0 ≡ len = omega arith in e ∙ rw q
+
+-- ---- the records of a table, unpacked
+
+module _ (t offs : List ℕ) (n : ℕ) (rs : List Record) (d : decode t ≡ just rs) (l : length rs ≡ n) where
+  pub unpacked-all : (w : Walk) (m : ℕ) → Walked t offs w → w ≡ Count m → recordsAt t offs n ≡ rs
+  unfolding Walked
+  unpacked-all w m h e =
+      let c : Counted t offs m = (rw e at h) in
+      let q : just (recordsAt t offs m) ≡ just rs = sym (c .these) ∙ d in
+      let r : recordsAt t offs m ≡ rs = cc in
+      let k : m ≡ n = sym (length-records t offs m 0) ∙ (ap length r ∙ l) in
+      ap (recordsAt t offs) (sym k) ∙ r
+
+  pub unpacked-some : {X : Type 0} (w : Walk) → n ≤ parameterLimit → Walked t offs w → w ≡ Bad → X
+  unfolding Walked
+  unpacked-some w f h e = let u : Uncounted t = (rw e at h) in absurd (omega (arith, u rs d, l, f))
 
 -- ---- the answer and the lent table after
 

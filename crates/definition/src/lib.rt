@@ -1,10 +1,14 @@
 // The definition compiler: from a definition's text to its table.
 use declared::Place;
 use forms::Formed;
+use walk::Walk;
 ghost use mathlib.Core.Path.{_≡_};
+ghost use mathlib.Core.List.{List};
 ghost use Prim.Native.Nat.{ℕ, _≤_, _<_};
 ghost use lib.ListN.{length};
 ghost use Rattle.numbers.specs.Limits.{parameterLimit, textLimit, none16};
+ghost use Rattle.schema.specs.Record.{Record};
+ghost use Rattle.definition_rules.specs.Table.{just, decode};
 ghost use Rattle.definition_rules.specs.Compile.{firstFault, answerOf, lentAfter, compileAnswer, tableAfter};
 ghost use Rattle.table_rules.specs.Endless.{EndlessPromise};
 ghost use Rattle.declared.specs.Cells.{cellAt, notedFrom};
@@ -37,10 +41,10 @@ fn blank_bytes() -> [u8; 22528]
     [0; 22528]
 }
 
-fn blank_offsets() -> [u32; 256]
-    ensures { λ r. ⌜ length r ≡ 256 ⌝ }
+fn blank_records() -> [u32; 2880]
+    ensures { λ r. ⌜ length r ≡ 2880 ⌝ }
 {
-    [0; 256]
+    [0; 2880]
 }
 
 fn blank_marks() -> [bool; 256]
@@ -87,6 +91,18 @@ fn record_fault(text: &[u8], cells: &[u32], table: &[u8], offs: &[u32], n: usize
     }
 }
 
+// The same, over the table in which the records were written. A table of these records is walked to its end.
+fn written_fault(text: &[u8], cells: &[u32], table: &[u8], n: usize) -> Stop
+    requires { ⌜ n ≤ parameterLimit ⌝ }
+    ensures { λ r. ⌜ ((rs : List Record) → decode (now (table .entry)) ≡ just rs → length rs ≡ n → found r ≡ firstFault (recordChecks rs (notedFrom (now (text .entry)) (now (cells .entry)) n 0))) ⌝ }
+{
+    let mut offs = blank_records();
+    match walk::unpack(table, &mut offs) {
+        Walk::Count(_) => record_fault(text, cells, table, &offs, n),
+        Walk::Bad => Stop::Clear,
+    }
+}
+
 // From the declarations to the table: numbers 5 to 11. The records are written into scratch space first,
 // so that the lent table is touched only when nothing can be refused any more.
 fn compile_declarations(text: &[u8], cells: &[u32], n: usize, table: &mut [u8]) -> Compiled
@@ -108,9 +124,8 @@ fn compile_declarations(text: &[u8], cells: &[u32], n: usize, table: &mut [u8]) 
         Place::Nowhere => {}
     }
     let mut scratch = blank_bytes();
-    let mut offs = blank_offsets();
-    let len = writer::write_records(text, cells, n, &mut scratch, &mut offs);
-    match record_fault(text, cells, &scratch, &offs, n) {
+    let len = writer::write_records(text, cells, n, &mut scratch);
+    match written_fault(text, cells, declared::part(&scratch, 0, len), n) {
         Stop::Fault(k, p) => {
             return Compiled::Refused(k, p);
         }

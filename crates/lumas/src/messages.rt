@@ -56,7 +56,7 @@ fn accept(
     count: usize,
     out: &mut [u8],
 ) -> u8 {
-    let mut offs = [0u32; 256];
+    let mut offs = [0u32; 2880];
     records_of(table, &mut offs);
     let page = print_rows(table, &offs, message, rows, count, out);
     let at = wording::put_accepted(out, page.at, path, count);

@@ -52,16 +52,16 @@ pub fn table_of(path: &[u8], table: &mut [u8], out: &mut [u8]) -> Source {
     }
 }
 
-// How many records a table has, with their offsets.
+// How many records a table has, unpacked into lent cells.
 pub fn records_of(table: &[u8], offs: &mut [u32]) -> usize {
-    match walk::offsets(table, offs) {
+    match walk::unpack(table, offs) {
         Walk::Count(n) => n,
         Walk::Bad => 0,
     }
 }
 
 fn say_size(path: &[u8], table: &[u8], out: &mut [u8]) -> u8 {
-    let mut offs = [0u32; 256];
+    let mut offs = [0u32; 2880];
     let n = records_of(table, &mut offs);
     let at = wording::put_size(out, 0, path, n, table.len());
     ended(out, started(at), ACCEPTED)
@@ -100,7 +100,7 @@ pub fn compile_file(path: &[u8], to: &[u8], out: &mut [u8]) -> u8 {
 // ---- show and check
 
 fn print_records(table: &[u8], out: &mut [u8]) -> u8 {
-    let mut offs = [0u32; 256];
+    let mut offs = [0u32; 2880];
     let mut widths = [0usize; 8];
     let n = records_of(table, &mut offs);
     report::record_widths(table, &offs, n, &mut widths);

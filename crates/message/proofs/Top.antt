@@ -39,24 +39,6 @@ good-table table message lent after offs n a e c x y =
     let q = records-are table offs n c in
     (x ∙ rw (← e, readAnswer, q), y ∙ rw (← e, rowsAfter, q))
 
-few : (limit : ℕ) (rs : List Record) → recordRules limit rs ≡ true → length rs ≤ limit
-unfolding recordRules
-few limit rs e = and-both (leb 1 (length rs)) _ e (λ a b. and-both (leb (length rs) limit) _ b (λ c d. leb-true (length rs) limit c))
-
--- a table that keeps the rules is walked to its end
-pub walked : {X : Type 0} (table : List ℕ) → true ≡ tableRules parameterLimit table → Uncounted table → X
-walked table e u =
-    let x = bytes-records table (sym e) in
-    absurd (let f = few parameterLimit (x .0) (x .2) in let g = u (x .0) (x .1) in omega arith)
-
-pub counted : (table offs : List ℕ) (w : Walk) (n : ℕ) → Walked table offs w → w ≡ Count n → Counted table offs n
-unfolding Walked
-counted table offs w n x e = subst (Walked table offs) e x
-
-pub uncounted : (table offs : List ℕ) (w : Walk) → Walked table offs w → w ≡ Bad → Uncounted table
-unfolding Walked
-uncounted table offs w x e = subst (Walked table offs) e x
-
 -- ---- the promise
 
 pub promised : (table message lent after : List ℕ) (a : Answer) → ((i : ℕ) → getD table i 0 < 2 ^ 8) → (a ≡ readAnswer table message (length lent)) × (after ≡ rowsAfter table message lent) → (a ≡ readAnswer table message (length lent)) × ((after ≡ rowsAfter table message lent) × ReadPromise table message lent a after)

@@ -6,6 +6,7 @@ ghost use lib.ListN.{length};
 ghost use lib.Seq.{sets};
 ghost use Rattle.numbers.specs.Limits.{messageLimit, parameterLimit};
 ghost use Rattle.records.specs.Stored.{recordsAt};
+ghost use Rattle.walk.specs.Walked.{Enough};
 ghost use Rattle.message_rules.specs.RowBytes.{rowBytes};
 ghost use Rattle.message_rules.specs.Rows.{Row, cells};
 ghost use Rattle.message_rules.specs.Verdict.{roomFree, withRoom, written, readAnswer, rowsAfter};
@@ -134,10 +135,16 @@ fn read_tokens(table: &[u8], offs: &[u32], n: usize, message: &[u8], rows: &mut 
     }
 }
 
-fn blank_offsets() -> [u32; 256]
-    ensures { λ r. ⌜ 256 ≡ length r ⌝ }
+// The same with cells lent, which are enough for the table's records: number 20 first.
+fn read_with(table: &[u8], offs: &mut [u32], message: &[u8], rows: &mut [u32]) -> Verdict
+    requires { ⌜ Enough (length (now table)) (length (now offs)) ⌝ }
+    ensures { λ r. ⌜ answerOf r ≡ readAnswer (now (table .entry)) (now (message .entry)) (length (now (rows .entry))) ⌝ }
+    ensures { λ _. ⌜ now (rows .exit) ≡ rowsAfter (now (table .entry)) (now (message .entry)) (now (rows .entry)) ⌝ }
 {
-    [0; 256]
+    match table::checked(table, offs) {
+        Walk::Count(n) => read_records(table, offs, n, message, rows),
+        Walk::Bad => Verdict::Refused(20, 0),
+    }
 }
 
 // Reads a message by a table. The answer and the lent numbers after are those of the definitions, and they mean what the
@@ -148,16 +155,10 @@ pub fn read(table: &[u8], message: &[u8], rows: &mut [u32]) -> Verdict
     ensures { λ _. ⌜ now (rows .exit) ≡ rowsAfter (now (table .entry)) (now (message .entry)) (now (rows .entry)) ⌝ }
     ensures { λ r. ⌜ ReadPromise (now (table .entry)) (now (message .entry)) (now (rows .entry)) (answerOf r) (now (rows .exit)) ⌝ }
 {
-    if table::table_ok(table) {
-        let mut offs = blank_offsets();
-        match walk::offsets(table, &mut offs) {
-            Walk::Count(n) => {
-                return read_records(table, &offs, n, message, rows);
-            }
-            Walk::Bad => {
-                return Verdict::Refused(20, 0);
-            }
-        }
+    if table.len() <= 400 {
+        let mut few = table::few_cells();
+        return read_with(table, &mut few, message, rows);
     }
-    Verdict::Refused(20, 0)
+    let mut many = table::many_cells();
+    read_with(table, &mut many, message, rows)
 }

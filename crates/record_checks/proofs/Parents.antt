@@ -10,7 +10,7 @@ use Rattle.numbers.specs.Limits.{none16}
 use Rattle.schema.specs.Record.{Record, Up, top, under, isTop, sameUp, blank}
 use Rattle.definition_rules.specs.Table.{upNumber, numberUp}
 use Rattle.definition_rules.specs.Faults.{parentKind, beside}
-use Rattle.records.specs.Stored.{storedAt, recordIn, recordsAt}
+use Rattle.records.specs.Stored.{recordIn, recordsAt}
 use Rattle.records.proofs.Laws.{record-at, record-past}
 
 -- ---- any parent that a number gives
@@ -48,7 +48,7 @@ read-same (some h) (some k) = refl
 -- ---- the parents of records
 
 parent-read : (t offs : List ℕ) (i p : ℕ) → p ≡ upNumber (recordIn t offs i .parent) → Read p (recordIn t offs i .parent)
-unfolding storedAt
+unfolding recordIn
 parent-read t offs i p e = let r = read _ in rw (e ∙ number-of r) r
 
 module _ (t offs : List ℕ) where
@@ -60,7 +60,7 @@ module _ (t offs : List ℕ) where
 
   -- a record's parent by its number
   pub parent-number : (i p : ℕ) → p ≡ upNumber (recordIn t offs i .parent) → numberUp p ≡ recordIn t offs i .parent
-  unfolding storedAt
+  unfolding recordIn
   parent-number i p e = ap numberUp (e ∙ number-of (read _))
 
   pub parent-top : (i p : ℕ) → p ≡ upNumber (recordIn t offs i .parent) → p ≡ none16 → recordIn t offs i .parent ≡ top

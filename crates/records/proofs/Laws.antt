@@ -1,11 +1,10 @@
--- Records found by offsets: their number, each of them, and one more in a loop.
+-- Unpacked records: their number, each of them, and one more in a loop.
 use mathlib.Core.Path.{_≡_, refl, ap, _∙_}
 use mathlib.Core.List.{List, [], _∷_, _++_}
 use Prim.Native.Nat.{ℕ, zero, suc, _+_, _-_, _≤_, _<_}
 use native.Mathlib.Omega.{arith}
 use native.Mathlib.Numerals.{add-one}
-use lib.ListN.{length, getD, drop, set, List·getD-eq-default}
-use lib.Seq.{getD-set-other}
+use lib.ListN.{length, getD, drop, List·getD-eq-default}
 use Rattle.schema.specs.Record.{blank, recordAt}
 use Rattle.records.specs.Stored.{recordIn, recordsFrom, recordsAt}
 
@@ -77,16 +76,15 @@ module _ (t offs : List ℕ) where
   unfolding recordsFrom
   records-one-more n = records-append n 1 0 ∙ ap (λ (k : ℕ). recordsAt t offs n ++ (recordIn t offs k ∷ [])) (omega arith)
 
--- ---- offsets that agree
+-- ---- cells that give the same records
 
-pub records-agree : (t a b : List ℕ) (n i : ℕ) → ((k : ℕ) → i ≤ k → k < i + n → getD a k 0 ≡ getD b k 0) → recordsFrom t a n i ≡ recordsFrom t b n i
+pub records-agree : (t a b : List ℕ) (n i : ℕ) → ((k : ℕ) → i ≤ k → k < i + n → recordIn t a k ≡ recordIn t b k) → recordsFrom t a n i ≡ recordsFrom t b n i
 unfolding recordsFrom
 records-agree t a b zero i f = refl
 records-agree t a b (suc n) i f =
     rw (f i (omega arith) (omega arith))
     (ap (_∷_ (recordIn t b i)) (records-agree t a b n (suc i) (λ k g h. f k (omega arith) (omega arith))))
 
--- an offset that is noted behind them
-pub records-noted : (t offs : List ℕ) (n k v : ℕ) → n ≤ k → recordsAt t (set offs k v) n ≡ recordsAt t offs n
-records-noted t offs n k v h =
-    records-agree t (set offs k v) offs n 0 (λ j g l. getD-set-other offs k j v 0 (omega arith))
+-- a record that is unpacked behind them
+pub records-unpacked : (t a b : List ℕ) (n : ℕ) → ((k : ℕ) → k < n → recordIn t b k ≡ recordIn t a k) → recordsAt t b n ≡ recordsAt t a n
+records-unpacked t a b n f = records-agree t b a n 0 (λ k g h. f k (omega arith))

@@ -1,10 +1,14 @@
--- Records as they stand in a table's bytes, found by a row of offsets.
+-- Records of a table: as they stand in its bytes, and unpacked, with their numbers kept in a row of cells.
+use mathlib.Core.Path.{_≡_}
 use mathlib.Core.List.{List, [], _∷_}
-use Prim.Native.Nat.{ℕ, zero, suc, _+_}
-use lib.ListN.{getD, take, drop}
+use Prim.Native.Nat.{ℕ, zero, suc, _+_, _*_, _<_}
+use lib.Dec.{leb}
+use lib.ListN.{length, getD, set, take, drop}
+use Rattle.classes.specs.Lists.{pick}
+use Rattle.numbers.specs.Limits.{parameterLimit}
 use Rattle.numbers.specs.LittleEndian.{le16, le32}
 use Rattle.schema.specs.Record.{Record}
-use Rattle.definition_rules.specs.Table.{recordOf}
+use Rattle.definition_rules.specs.Table.{recordOf, numberUp, flag1, flag2, flag4}
 
 -- the record whose bytes begin at o
 unfoldable pub storedAt : List ℕ → ℕ → Record
@@ -12,18 +16,55 @@ storedAt t o =
     recordOf (le16 t (o + 2)) (le16 t (o + 4)) (le16 t (o + 6)) (le16 t (o + 8)) (le16 t (o + 10)) (le32 t (o + 12)) (le32 t (o + 16)) (le16 t (o + 20))
     (take (le16 t (o + 22)) (drop (o + 24) t))
 
--- its flags, as one number
-abbrev pub flagsAt : List ℕ → ℕ → ℕ
-flagsAt t o = le16 t (o + 6)
+-- ---- unpacked
 
--- the i-th record, found by the offsets
-abbrev pub recordIn : List ℕ → List ℕ → ℕ → Record
-recordIn t offs i = storedAt t (getD offs i 0)
+-- the first cells are no record's: crate tags keeps its heads there
+abbrev pub headCells : ℕ
+headCells = 64
 
--- n records, from the i-th offset on
+-- a record's cells: where its bytes begin, its numbers, and one that crate tags keeps
+abbrev pub recordCells : ℕ
+recordCells = 11
+
+-- where the k-th cell of the i-th record is
+abbrev pub cellPlace : ℕ → ℕ → ℕ
+cellPlace i k = headCells + recordCells * i + k
+
+-- what it holds; 0 past the end, and for records past the limit
+unfoldable pub cellIn : List ℕ → ℕ → ℕ → ℕ
+cellIn cs i k = pick (leb parameterLimit i) 0 (getD cs (cellPlace i k) 0)
+
+-- the cells with another number in one of them
+unfoldable pub keptIn : List ℕ → ℕ → ℕ → ℕ → List ℕ
+keptIn cs i k x = pick (leb parameterLimit i) cs (set cs (cellPlace i k) x)
+
+-- the i-th record, from its cells and its label in the table
+unfoldable pub recordIn : List ℕ → List ℕ → ℕ → Record
+recordIn t cs i =
+    record {
+      kind = cellIn cs i 1;
+      parent = numberUp (cellIn cs i 2);
+      untagged = flag1 (cellIn cs i 3);
+      extension = flag2 (cellIn cs i 3);
+      plugin = flag4 (cellIn cs i 3);
+      loCount = cellIn cs i 4;
+      hiCount = cellIn cs i 5;
+      least = cellIn cs i 6;
+      most = cellIn cs i 7;
+      target = cellIn cs i 8;
+      label = take (cellIn cs i 9) (drop (cellIn cs i 0 + 24) t);
+    }
+
+-- n records, from the i-th on
 unfoldable pub recordsFrom : List ℕ → List ℕ → ℕ → ℕ → List Record
-recordsFrom t offs zero i = []
-recordsFrom t offs (suc n) i = storedAt t (getD offs i 0) ∷ recordsFrom t offs n (suc i)
+recordsFrom t cs zero i = []
+recordsFrom t cs (suc n) i = recordIn t cs i ∷ recordsFrom t cs n (suc i)
 
 abbrev pub recordsAt : List ℕ → List ℕ → ℕ → List Record
-recordsAt t offs n = recordsFrom t offs n 0
+recordsAt t cs n = recordsFrom t cs n 0
+
+-- what unpacking leaves: the i-th record is the one whose bytes begin at o, and those before it are as they were
+pub record Unpacked (t : List ℕ) (o : ℕ) (before : List ℕ) (i : ℕ) (after : List ℕ) : Type 0 where
+  pub here : recordIn t after i ≡ storedAt t o
+  pub others : (j : ℕ) → j < i → recordIn t after j ≡ recordIn t before j
+  pub size : length after ≡ length before

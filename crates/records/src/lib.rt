@@ -1,84 +1,109 @@
-// Records of a compiled table, read from its bytes; specs/Stored says what is read.
-// A place past the table's end, or past the offsets' end, counts as 0.
+// Records of a compiled table. A table's records are unpacked once: their numbers are kept in lent cells, and read from
+// there; specs/Stored says which cell holds what. A cell past the end, or of a record past the limit, counts as 0.
 ghost use mathlib.Core.Path.{_≡_};
-ghost use Prim.Native.Nat.{_+_, _<_};
-ghost use lib.ListN.{getD, take, drop};
+ghost use Prim.Native.Nat.{_+_, _*_, _≤_, _<_};
+ghost use lib.ListN.{length, take, drop};
 ghost use Rattle.numbers.specs.Limits.{parameterLimit};
 ghost use Rattle.numbers.specs.LittleEndian.{le16, leInt};
 ghost use Rattle.schema.specs.Schema.{isUnder};
 ghost use Rattle.definition_rules.specs.Table.{upNumber};
-ghost use Rattle.records.specs.Stored.{flagsAt, recordIn};
+ghost use Rattle.records.specs.Stored.{headCells, recordCells, cellIn, keptIn, recordIn, Unpacked};
 
-// How many offsets a caller lends.
-pub fn offsets_width() -> usize
-    ensures { λ r. ⌜ r ≡ parameterLimit ⌝ }
-{
-    256
-}
+// Cells that are no record's, and those of each record.
+const HEADS: usize = 64;
 
-// Where a record's bytes begin.
-pub fn offset(offs: &[u32], i: usize) -> usize
-    ensures { λ r. ⌜ (r ≡ getD (now (offs .entry)) i 0) × (r < 0x1_0000_0000) ⌝ }
+const WIDTH: usize = 11;
+
+// The k-th cell of record i.
+fn cell(offs: &[u32], i: usize, k: u8) -> u32
+    ensures { λ r. ⌜ r ≡ cellIn (now (offs .entry)) i k ⌝ }
 {
-    if i < offs.len() {
-        return offs[i] as usize;
+    if 256 <= i {
+        return 0;
+    }
+    let at = HEADS + WIDTH * i + k as usize;
+    if at < offs.len() {
+        return offs[at];
     }
     0
 }
 
-fn wide(n: u16) -> usize
-    ensures { λ r. ⌜ (r ≡ n) × (r < 65536) ⌝ }
+fn wide(n: u32) -> usize
+    ensures { λ r. ⌜ (r ≡ n) × (r < 4294967296) ⌝ }
 {
     n as usize
 }
 
-fn narrow(n: u16) -> u32
-    ensures { λ r. ⌜ r ≡ n ⌝ }
+// The number in two bytes, which begin j bytes after a place.
+fn number_at(table: &[u8], at: u32, j: u8) -> u32
+    ensures { λ r. ⌜ r ≡ le16 (now (table .entry)) (at + j) ⌝ }
 {
-    n as u32
+    numbers::u16_at(table, wide(at) + j as usize) as u32
 }
 
-// The record's number in its bytes at k and k + 1.
-fn number_at(table: &[u8], offs: &[u32], i: usize, k: u8) -> u16
-    ensures { λ r. ⌜ r ≡ le16 (now (table .entry)) (getD (now (offs .entry)) i 0 + k) ⌝ }
+// The i32 in four bytes, counted from the least.
+fn int_at(table: &[u8], at: u32, j: u8) -> u32
+    ensures { λ r. ⌜ r ≡ leInt (now (table .entry)) (at + j) ⌝ }
 {
-    numbers::u16_at(table, offset(offs, i) + k as usize)
+    numbers::int_at(table, wide(at) + j as usize)
 }
 
-// The record's i32 in its four bytes from k on, counted from the least.
-fn int_at(table: &[u8], offs: &[u32], i: usize, k: u8) -> u32
-    ensures { λ r. ⌜ r ≡ leInt (now (table .entry)) (getD (now (offs .entry)) i 0 + k) ⌝ }
+// Keeps a number in the k-th cell of record i, where it is there.
+fn keep(offs: &mut [u32], i: usize, k: u8, x: u32)
+    ensures { λ _. ⌜ now (offs .exit) ≡ keptIn (now (offs .entry)) i k x ⌝ }
 {
-    numbers::int_at(table, offset(offs, i) + k as usize)
+    if 256 <= i {
+        return;
+    }
+    let at = HEADS + WIDTH * i + k as usize;
+    if at < offs.len() {
+        offs[at] = x;
+    }
+}
+
+// Unpacks the record whose bytes begin at a place into the cells of record i, where they are there.
+pub fn unpack(table: &[u8], at: u32, offs: &mut [u32], i: usize)
+    ensures { λ _. ⌜ (i < parameterLimit → headCells + recordCells * (i + 1) ≤ length (now (offs .entry)) → Unpacked (now (table .entry)) at (now (offs .entry)) i (now (offs .exit))) ⌝ }
+{
+    keep(offs, i, 0, at);
+    keep(offs, i, 1, number_at(table, at, 2));
+    keep(offs, i, 2, number_at(table, at, 4));
+    keep(offs, i, 3, number_at(table, at, 6));
+    keep(offs, i, 4, number_at(table, at, 8));
+    keep(offs, i, 5, number_at(table, at, 10));
+    keep(offs, i, 6, int_at(table, at, 12));
+    keep(offs, i, 7, int_at(table, at, 16));
+    keep(offs, i, 8, number_at(table, at, 20));
+    keep(offs, i, 9, number_at(table, at, 22));
 }
 
 // Kinds 1 to 10.
 pub fn kind_at(table: &[u8], offs: &[u32], i: usize) -> u32
     ensures { λ r. ⌜ r ≡ recordIn (now (table .entry)) (now (offs .entry)) i .kind ⌝ }
 {
-    narrow(number_at(table, offs, i, 2))
+    cell(offs, i, 1)
 }
 
 // The parent's number, 65,535 for a top.
 pub fn parent_at(table: &[u8], offs: &[u32], i: usize) -> usize
     ensures { λ r. ⌜ r ≡ upNumber (recordIn (now (table .entry)) (now (offs .entry)) i .parent) ⌝ }
 {
-    wide(number_at(table, offs, i, 4))
+    wide(cell(offs, i, 2))
 }
 
 // The record stands in the body of p.
 pub fn is_under(table: &[u8], offs: &[u32], i: usize, p: usize) -> bool
     ensures { λ r. ⌜ r ≡ isUnder p (recordIn (now (table .entry)) (now (offs .entry)) i .parent) ⌝ }
 {
-    let up = wide(number_at(table, offs, i, 4));
+    let up = wide(cell(offs, i, 2));
     (up != 65_535) & (up == p)
 }
 
 // The flags, as one number.
 pub fn flags_at(table: &[u8], offs: &[u32], i: usize) -> u32
-    ensures { λ r. ⌜ r ≡ flagsAt (now (table .entry)) (getD (now (offs .entry)) i 0) ⌝ }
+    ensures { λ r. ⌜ r ≡ cellIn (now (offs .entry)) i 3 ⌝ }
 {
-    narrow(number_at(table, offs, i, 6))
+    cell(offs, i, 3)
 }
 
 pub fn untagged_at(table: &[u8], offs: &[u32], i: usize) -> bool
@@ -102,31 +127,31 @@ pub fn plugin_at(table: &[u8], offs: &[u32], i: usize) -> bool
 pub fn lo_count_at(table: &[u8], offs: &[u32], i: usize) -> usize
     ensures { λ r. ⌜ r ≡ recordIn (now (table .entry)) (now (offs .entry)) i .loCount ⌝ }
 {
-    wide(number_at(table, offs, i, 8))
+    wide(cell(offs, i, 4))
 }
 
 pub fn hi_count_at(table: &[u8], offs: &[u32], i: usize) -> usize
     ensures { λ r. ⌜ r ≡ recordIn (now (table .entry)) (now (offs .entry)) i .hiCount ⌝ }
 {
-    wide(number_at(table, offs, i, 10))
+    wide(cell(offs, i, 5))
 }
 
 pub fn least_at(table: &[u8], offs: &[u32], i: usize) -> u32
     ensures { λ r. ⌜ r ≡ recordIn (now (table .entry)) (now (offs .entry)) i .least ⌝ }
 {
-    int_at(table, offs, i, 12)
+    cell(offs, i, 6)
 }
 
 pub fn most_at(table: &[u8], offs: &[u32], i: usize) -> u32
     ensures { λ r. ⌜ r ≡ recordIn (now (table .entry)) (now (offs .entry)) i .most ⌝ }
 {
-    int_at(table, offs, i, 16)
+    cell(offs, i, 7)
 }
 
 pub fn target_at(table: &[u8], offs: &[u32], i: usize) -> usize
     ensures { λ r. ⌜ r ≡ recordIn (now (table .entry)) (now (offs .entry)) i .target ⌝ }
 {
-    wide(number_at(table, offs, i, 20))
+    wide(cell(offs, i, 8))
 }
 
 // Up to n bytes from a place on.
@@ -147,6 +172,6 @@ fn part<'a>(s: &'a [u8], at: usize, n: usize) -> &'a [u8]
 pub fn label_at<'a>(table: &'a [u8], offs: &[u32], i: usize) -> &'a [u8]
     ensures { λ r. ⌜ now r ≡ recordIn (now (table .entry)) (now (offs .entry)) i .label ⌝ }
 {
-    let n = wide(number_at(table, offs, i, 22));
-    part(table, offset(offs, i) + 24, n)
+    let n = wide(cell(offs, i, 9));
+    part(table, wide(cell(offs, i, 0)) + 24, n)
 }

@@ -22,10 +22,10 @@ use Rattle.record_checks.specs.Rounds.{Found}
 use Rattle.definition_rules.specs.Faults.{voidMany, rule7Broken, tagRepeated, rootNoStruct}
 use Rattle.walk.specs.declared.Walk.{Walk}
 use Rattle.walk.specs.declared.Walk.the-variants.{Count, Bad}
-use Rattle.walk.specs.Walked.{Counted, Uncounted, Walked}
+use Rattle.walk.specs.Walked.{Enough, Counted, Uncounted, Walked}
 use Rattle.table.specs.declared.Check.{Check}
 use Rattle.table.specs.declared.Check.the-variants.{Voids, Rule7, Tags, Root, Finite}
-use Rattle.table.specs.Checks.{isBroken}
+use Rattle.table.specs.Checks.{isBroken, Fine, Checked}
 
 -- ---- one check over all records
 
@@ -134,3 +134,19 @@ walked-bad t offs w h e = rw e at h
 -- the rules are what the paper asks
 pub promised : (t : List ℕ) (b : Bool) → ((i : ℕ) → getD t i 0 < 2 ^ 8) → b ≡ tableRules parameterLimit t → (b ≡ tableRules parameterLimit t) × ((b ≡ true) ↔ Compilable t)
 promised t b h e = (e, ((λ x. rules-iff t h .0 (sym e ∙ x)), λ c. e ∙ rules-iff t h .1 c))
+
+-- ---- the check
+
+pub checked-fine : (t cs : List ℕ) (w : Walk) (n : ℕ) → Checked t cs w → w ≡ Count n → Fine t cs n
+unfolding Checked
+checked-fine t cs w n h e = rw e at h
+
+pub checked-bad : (t cs : List ℕ) (w : Walk) → Checked t cs w → w ≡ Bad → tableRules parameterLimit t ≡ false
+unfolding Checked
+checked-bad t cs w h e = rw e at h
+
+pub few-enough : (bytes room : ℕ) → bytes ≤ 400 → 240 ≡ room → Enough bytes room
+few-enough bytes room h e n a b = omega arith
+
+pub many-enough : (bytes room : ℕ) → 2880 ≡ room → Enough bytes room
+many-enough bytes room e n a b = omega arith

@@ -1,2 +1,2 @@
 -- the compiler's checks over all records, and the rules over the bytes
-mod Laws
+pub mod Laws

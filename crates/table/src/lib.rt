@@ -8,7 +8,8 @@ ghost use mathlib.Core.Logic.{_↔_};
 ghost use Rattle.table_rules.specs.Compilable.{Compilable};
 ghost use Rattle.table_rules.specs.RecordRules.{noneBroken, recordChecks, recordRules, tableRules};
 ghost use Rattle.records.specs.Stored.{recordIn, recordsAt};
-ghost use Rattle.table.specs.Checks.{isBroken};
+ghost use Rattle.walk.specs.Walked.{Enough};
+ghost use Rattle.table.specs.Checks.{isBroken, Checked};
 use walk::Walk;
 
 // What the compiler asks of records alone.
@@ -94,10 +95,46 @@ fn rules(table: &[u8], offs: &[u32], n: usize) -> bool
     checks_fine(table, offs, n)
 }
 
-fn no_offsets() -> [u32; 256]
-    ensures { λ r. ⌜ 256 ≡ length r ⌝ }
+// ---- a table's bytes
+
+// The records of a table that some definition compiles to, unpacked; of another table it says so. The cells are enough
+// for the table's records.
+pub fn checked(table: &[u8], offs: &mut [u32]) -> Walk
+    requires { ⌜ Enough (length (now table)) (length (now offs)) ⌝ }
+    ensures { λ r. ⌜ Checked (now (table .entry)) (now (offs .exit)) r ⌝ }
 {
-    [0u32; 256]
+    match walk::unpack(table, offs) {
+        Walk::Count(n) => {
+            if rules(table, offs, n) {
+                return Walk::Count(n);
+            }
+            Walk::Bad
+        }
+        Walk::Bad => Walk::Bad,
+    }
+}
+
+fn passes(table: &[u8], offs: &mut [u32]) -> bool
+    requires { ⌜ Enough (length (now table)) (length (now offs)) ⌝ }
+    ensures { λ r. ⌜ r ≡ tableRules parameterLimit (now (table .entry)) ⌝ }
+{
+    match checked(table, offs) {
+        Walk::Count(_) => true,
+        Walk::Bad => false,
+    }
+}
+
+// Cells for 16 records, which is all that 400 bytes can hold, and for as many as there may be.
+pub fn few_cells() -> [u32; 240]
+    ensures { λ r. ⌜ 240 ≡ length r ⌝ }
+{
+    [0u32; 240]
+}
+
+pub fn many_cells() -> [u32; 2880]
+    ensures { λ r. ⌜ 2880 ≡ length r ⌝ }
+{
+    [0u32; 2880]
 }
 
 // Some definition compiles to the table: the record rules hold, which is to say that there are a text and a room with which
@@ -106,9 +143,10 @@ pub fn table_ok(table: &[u8]) -> bool
     ensures { λ r. ⌜ r ≡ tableRules parameterLimit (now (table .entry)) ⌝ }
     ensures { λ r. ⌜ (r ≡ true) ↔ Compilable (now (table .entry)) ⌝ }
 {
-    let mut offs = no_offsets();
-    match walk::offsets(table, &mut offs) {
-        Walk::Count(n) => rules(table, &offs, n),
-        Walk::Bad => false,
+    if table.len() <= 400 {
+        let mut few = few_cells();
+        return passes(table, &mut few);
     }
+    let mut many = many_cells();
+    passes(table, &mut many)
 }

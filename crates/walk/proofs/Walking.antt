@@ -5,8 +5,7 @@ use mathlib.Core.List.{List, [], _∷_, _++_, append-assoc, append-nil}
 use Prim.Native.Nat.{ℕ, zero, suc, _+_, _-_, _*_, _≤_, _<_}
 use native.Mathlib.Omega.{arith}
 use lib.Dec.{eqb, ltb, leb}
-use lib.ListN.{length, set, drop, length-drop, length-append, length-set, drop-of-length-le}
-use lib.Seq.{getD-set-same}
+use lib.ListN.{length, drop, length-drop, length-append, drop-of-length-le}
 use borrow.Author.Tests.{eqb-true, eqb-false, leb-true, leb-false, ltb-true, ltb-false, ne-eqb, eq-eqb, lt-leb, le-leb, lt-ltb, le-ltb}
 use Rattle.classes.specs.Lists.{pick}
 use Rattle.numbers.specs.Limits.{parameterLimit}
@@ -14,9 +13,9 @@ use Rattle.numbers.specs.LittleEndian.{le16}
 use Rattle.schema.specs.Record.{Record}
 use Rattle.definition_rules.specs.Table.{Maybe, none, just, decodeRecord, decodeUpTo, decode, mapMaybe}
 use Rattle.definition_rules.proofs.TableLaws.{none-just}
-use Rattle.records.specs.Stored.{storedAt, recordsFrom, recordsAt}
-use Rattle.records.proofs.Laws.{length-records, records-one-more, records-noted}
-use Rattle.walk.specs.Walked.{isWhole, lengthAt, Counted, Uncounted}
+use Rattle.records.specs.Stored.{headCells, recordCells, storedAt, recordsFrom, recordsAt, Unpacked}
+use Rattle.records.proofs.Laws.{length-records, records-one-more, records-unpacked}
+use Rattle.walk.specs.Walked.{isWhole, lengthAt, Enough, Counted, Uncounted}
 use Rattle.walk.proofs.Decoding.{short-record, whole-record, wrong-length, wrong-flags, cut-label}
 
 -- ---- the length that the code finds
@@ -112,7 +111,7 @@ pub record Along (t offs : List ℕ) (n at : ℕ) : Type 0 where
   pub least : 24 * n ≤ at
   pub most : at ≤ 65536 * n
   pub few : n ≤ 256
-  pub found : 256 ≤ length offs → decode t ≡ after (recordsAt t offs n) (decodeUpTo (length t - n) (drop at t))
+  pub found : Enough (length t) (length offs) → decode t ≡ after (recordsAt t offs n) (decodeUpTo (length t - n) (drop at t))
 
 pub along-start : (t offs : List ℕ) → Along t offs 0 0
 along-start t offs = record {
@@ -127,7 +126,7 @@ along-start t offs = record {
     e = omega arith
 
 module _ (t offs : List ℕ) (n at : ℕ) (a : Along t offs n at) where
-  pub along-end : length t ≤ at → 256 ≤ length offs → Counted t offs n
+  pub along-end : length t ≤ at → Enough (length t) (length offs) → Counted t offs n
   along-end h r = record {
     few = a .few;
     these = a .found r ∙ (rw (drop-of-length-le t h, upto-end (length t - n)) (unfold mapMaybe in (ap just (append-nil (recordsAt t offs n)))));
@@ -140,32 +139,34 @@ module _ (t offs : List ℕ) (n at : ℕ) (a : Along t offs n at) where
         let e : length t - n ≡ suc (length t - (n + 1)) = omega (arith, a .least) in
         rw e (upto-more (length t - (n + 1)) (drop at t) (rw length-drop (omega arith)))
 
-    pub along-more : (s : ℕ) → s ≡ lengthAt t at → s < 65536 → (s ≡ 0 → ⊥) → (n ≡ 256 → ⊥) → Along t (set offs n at) (n + 1) (at + s)
-    along-more s e b z m = go s (rw e (look t at h)) b z
+    -- one record more is unpacked
+    pub along-more : (s : ℕ) (cs : List ℕ) → s ≡ lengthAt t at → s < 65536 → (s ≡ 0 → ⊥) → (n ≡ 256 → ⊥) → length cs ≡ length offs → (n < parameterLimit → headCells + recordCells * (n + 1) ≤ length offs → Unpacked t at offs n cs) → Along t cs (n + 1) (at + s)
+    along-more s cs e b z m l u = go s (rw e (look t at h)) b z
       where
-        noted : n < length offs → recordsAt t (set offs n at) (n + 1) ≡ recordsAt t offs n ++ (storedAt t at ∷ [])
-        noted l =
-            records-one-more t (set offs n at) n ∙
-            rw (records-noted t offs n n at (omega arith), getD-set-same offs n at 0 l)
+        noted : Unpacked t at offs n cs → recordsAt t cs (n + 1) ≡ recordsAt t offs n ++ (storedAt t at ∷ [])
+        noted v = records-one-more t cs n ∙ rw (records-unpacked t offs cs n (v .others), v .here)
 
-        go : (s : ℕ) → Look t at s → s < 65536 → (s ≡ 0 → ⊥) → Along t (set offs n at) (n + 1) (at + s)
+        go : (s : ℕ) → Look t at s → s < 65536 → (s ≡ 0 → ⊥) → Along t cs (n + 1) (at + s)
         go s (nothing f) b z = absurd (z refl)
         go s (whole i k f) b z = record {
           inside = i;
           least = omega (arith, a .least);
           most = omega (arith, a .most);
           few = omega (arith, a .few);
-          found = λ r. (let q : 256 ≤ length offs = (rw length-set at r) in a .found q ∙ (rw (next-record, f _, noted (omega (arith, a .few))) (after-one (recordsAt t offs n) (storedAt t at) _)));
+          found = λ r.
+              (let q : Enough (length t) (length offs) = (rw l at r) in
+              let v : Unpacked t at offs n cs = u (omega (arith, a .few)) (q (n + 1) (omega (arith, a .few)) (omega (arith, a .least, i, k))) in
+              a .found q ∙ (rw (next-record, f _, noted v) (after-one (recordsAt t offs n) (storedAt t at) _)));
         }
 
-    pub along-stuck : (s : ℕ) → s ≡ lengthAt t at → s ≡ 0 → 256 ≤ length offs → Uncounted t
+    pub along-stuck : (s : ℕ) → s ≡ lengthAt t at → s ≡ 0 → Enough (length t) (length offs) → Uncounted t
     along-stuck s e z r rs d = go s (rw e (look t at h)) z
       where
         go : (s : ℕ) → Look t at s → s ≡ 0 → parameterLimit < length rs
         go s (nothing f) z = none-just (sym (a .found r ∙ rw (next-record, f _) (unfold mapMaybe in refl)) ∙ d)
         go s (whole i k f) z = absurd (omega arith)
 
-    pub along-full : n ≡ 256 → 256 ≤ length offs → Uncounted t
+    pub along-full : n ≡ 256 → Enough (length t) (length offs) → Uncounted t
     along-full m r rs d = go (look t at h)
       where
         more : (q : Maybe (List Record)) → after (recordsAt t offs n) (mapMaybe (λ qs. storedAt t at ∷ qs) q) ≡ just rs → parameterLimit < length rs

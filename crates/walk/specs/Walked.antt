@@ -2,7 +2,7 @@
 use mathlib.Core.Path.{_≡_}
 use mathlib.Core.Bool.{Bool, _&&_}
 use mathlib.Core.List.{List}
-use Prim.Native.Nat.{ℕ, _+_, _-_, _≤_, _<_}
+use Prim.Native.Nat.{ℕ, _+_, _-_, _*_, _≤_, _<_}
 use lib.Dec.{eqb, ltb, leb}
 use lib.ListN.{length}
 use Rattle.numbers.specs.Limits.{parameterLimit}
@@ -10,7 +10,7 @@ use Rattle.numbers.specs.LittleEndian.{le16}
 use Rattle.classes.specs.Lists.{pick}
 use Rattle.schema.specs.Record.{Record}
 use Rattle.definition_rules.specs.Table.{just, decode}
-use Rattle.records.specs.Stored.{recordsAt}
+use Rattle.records.specs.Stored.{headCells, recordCells, recordsAt}
 use Rattle.walk.specs.declared.Walk.{Walk}
 use Rattle.walk.specs.declared.Walk.the-variants.{Count, Bad}
 
@@ -22,6 +22,10 @@ isWhole t at =
 -- its length; 0 where none begins
 unfoldable pub lengthAt : List ℕ → ℕ → ℕ
 lengthAt t at = pick (isWhole t at) (le16 t at) 0
+
+-- there is room to unpack the records of a table of so many bytes
+abbrev pub Enough : ℕ → ℕ → Type 0
+Enough bytes room = (n : ℕ) → n ≤ parameterLimit → 24 * n ≤ bytes → headCells + recordCells * n ≤ room
 
 -- what a walk says: the table is these records, no more than there may be
 pub record Counted (t offs : List ℕ) (n : ℕ) : Type 0 where

@@ -1,9 +1,8 @@
 // The walk over a table's records, by their lengths.
 ghost use mathlib.Core.Path.{_≡_};
-ghost use Prim.Native.Nat.{_<_, _≤_};
-ghost use lib.ListN.{length, set};
-ghost use Rattle.numbers.specs.Limits.{parameterLimit};
-ghost use Rattle.walk.specs.Walked.{lengthAt, Walked};
+ghost use Prim.Native.Nat.{_<_};
+ghost use lib.ListN.{length};
+ghost use Rattle.walk.specs.Walked.{lengthAt, Enough, Walked};
 
 // How many records a table has, or that its bytes are no whole records, or over 256.
 pub enum Walk {
@@ -41,17 +40,9 @@ fn length_at(table: &[u8], at: usize) -> usize
     size
 }
 
-fn put(offs: &mut [u32], i: usize, x: u32)
-    ensures { λ _. ⌜ now (offs .exit) ≡ set (now (offs .entry)) i x ⌝ }
-{
-    if i < offs.len() {
-        offs[i] = x;
-    }
-}
-
-// Notes where each record of a table begins, if there is room for 256 numbers.
-pub fn offsets(table: &[u8], offs: &mut [u32]) -> Walk
-    ensures { λ r. ⌜ (parameterLimit ≤ length (now (offs .entry)) → Walked (now (table .entry)) (now (offs .exit)) r) ⌝ }
+// Unpacks the records of a table, if there is room for them all.
+pub fn unpack(table: &[u8], offs: &mut [u32]) -> Walk
+    ensures { λ r. ⌜ (Enough (length (now (table .entry))) (length (now (offs .entry))) → Walked (now (table .entry)) (now (offs .exit)) r) ⌝ }
 {
     let mut n: usize = 0;
     let mut at: usize = 0;
@@ -63,7 +54,7 @@ pub fn offsets(table: &[u8], offs: &mut [u32]) -> Walk
         if size == 0 {
             return Walk::Bad;
         }
-        put(offs, n, at as u32);
+        records::unpack(table, at as u32, offs, n);
         n += 1;
         at += size;
     }

@@ -21,7 +21,7 @@ use Rattle.definition_rules.specs.Table.{upNumber, numberUp, bit, flagsNumber, 
 use Rattle.declared.specs.Cells.{cellAt, part, runAt, tagAt, notedAt, notedFrom}
 use Rattle.declared.proofs.CellLaws.{noted-more, noted-end, noted-all}
 use Rattle.headings.specs.Heads.{kindAt, limitsAt, countsAt, labelAt, targetAt, namesFrom}
-use Rattle.writer.specs.Written.{declarationIn, recordAt, recordsIn, recordsAfter, cut, cutBytes, encodeCut, offsetsOf}
+use Rattle.writer.specs.Written.{declarationIn, recordAt, recordsIn, recordsAfter, cut, cutBytes, encodeCut}
 
 -- ---- stores in a row
 
@@ -184,10 +184,6 @@ module _ (t cs : List ℕ) (n i at k : ℕ) (ek : k ≡ 24 + length (labelAt t c
   length-more all q =
       q ∙ (rw (records-more t cs n i h, encode-length (recordAt t cs n i) (encode (recordsAfter t cs n (i + 1))), record-label t cs n i, ← ek) (omega arith))
 
-  pub offsets-more : (all d e : List ℕ) → all ≡ sets d i (offsetsOf at (recordsAfter t cs n i)) → e ≡ set d i at → all ≡ sets e (i + 1) (offsetsOf (at + k) (recordsAfter t cs n (i + 1)))
-  unfolding offsetsOf
-  offsets-more all d e q p = q ∙ rw (records-more t cs n i h, record-label t cs n i, ← ek, add-one i, p)
-
 module _ (t cs : List ℕ) (n i at : ℕ) (h : n ≤ i) where
   pub bytes-end : (all d : List ℕ) → all ≡ sets d at (encodeCut (recordsAfter t cs n i)) → d ≡ all
   unfolding encodeCut
@@ -196,7 +192,3 @@ module _ (t cs : List ℕ) (n i at : ℕ) (h : n ≤ i) where
   pub length-end : (all : ℕ) → all ≡ at + length (encode (recordsAfter t cs n i)) → at ≡ all
   unfolding encode
   length-end all q = sym (q ∙ rw (records-end t cs n i h) (omega arith))
-
-  pub offsets-end : (all d : List ℕ) → all ≡ sets d i (offsetsOf at (recordsAfter t cs n i)) → d ≡ all
-  unfolding offsetsOf
-  offsets-end all d q = sym (q ∙ rw (records-end t cs n i h))

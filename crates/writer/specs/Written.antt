@@ -1,4 +1,4 @@
--- The records of the declarations that are kept, their bytes as they are written, and where each begins.
+-- The records of the declarations that are kept, and their bytes as they are written.
 use mathlib.Core.Path.{_≡_}
 use mathlib.Core.List.{List, [], _∷_, _++_}
 use Prim.Native.Nat.{ℕ, _+_, _-_, _%_}
@@ -48,13 +48,7 @@ unfoldable pub encodeCut : List Record → List ℕ
 encodeCut [] = []
 encodeCut (r ∷ rs) = cutBytes r ++ encodeCut rs
 
--- where each record begins, the first at at
-unfoldable pub offsetsOf : ℕ → List Record → List ℕ
-offsetsOf at [] = []
-offsetsOf at (r ∷ rs) = at ∷ offsetsOf (at + (24 + length (r .label))) rs
-
--- what the writer leaves: the length of all, the table and the offsets
-pub record Wrote (rs : List Record) (len : ℕ) (table tableAfter offs offsAfter : List ℕ) : Type 0 where
+-- what the writer leaves: the length of all, and the table
+pub record Wrote (rs : List Record) (len : ℕ) (table tableAfter : List ℕ) : Type 0 where
   pub size : len ≡ length (encode rs)
   pub bytes : tableAfter ≡ sets table 0 (encodeCut rs)
-  pub starts : offsAfter ≡ sets offs 0 (offsetsOf 0 rs)

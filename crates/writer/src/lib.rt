@@ -3,7 +3,7 @@ ghost use mathlib.Core.Path.{_≡_};
 ghost use mathlib.Core.List.{[]};
 ghost use Prim.Native.Nat.{_+_, _≤_, _%_};
 ghost use lib.Dec.{eqb};
-ghost use lib.ListN.{length, set, take};
+ghost use lib.ListN.{length, take};
 ghost use lib.Seq.{sets};
 ghost use Rattle.numbers.specs.LittleEndian.{put16, put32, signed};
 ghost use Rattle.definition_rules.specs.Table.{bit as bitOf, flagsNumber};
@@ -25,14 +25,6 @@ fn put_limit(table: &mut [u8], at: usize, v: u32)
     ensures { λ _. ⌜ now (table .exit) ≡ sets (now (table .entry)) at (put32 (signed v) []) ⌝ }
 {
     numbers::put_int(table, at, v);
-}
-
-fn put_offset(offs: &mut [u32], i: usize, at: u32)
-    ensures { λ _. ⌜ now (offs .exit) ≡ set (now (offs .entry)) i at ⌝ }
-{
-    if i < offs.len() {
-        offs[i] = at;
-    }
 }
 
 // Writes a row of bytes.
@@ -112,22 +104,15 @@ fn record_length(text: &[u8], cells: &[u32], i: usize) -> usize
     24 + label.len()
 }
 
-// Writes the records one after the other and notes where each begins; gives the length of all.
+// Writes the records one after the other; gives the length of all.
 // The sizes are those that the first and the fourth refusal leave: with them the length is a number of 32 bits.
-pub fn write_records(
-    text: &[u8],
-    cells: &[u32],
-    n: usize,
-    table: &mut [u8],
-    offs: &mut [u32],
-) -> usize
+pub fn write_records(text: &[u8], cells: &[u32], n: usize, table: &mut [u8]) -> usize
     requires { ⌜ (n ≤ 256) × (length (now text) ≤ 65535) ⌝ }
-    ensures { λ r. ⌜ Wrote (recordsIn (now (text .entry)) (now (cells .entry)) n) r (now (table .entry)) (now (table .exit)) (now (offs .entry)) (now (offs .exit)) ⌝ }
+    ensures { λ r. ⌜ Wrote (recordsIn (now (text .entry)) (now (cells .entry)) n) r (now (table .entry)) (now (table .exit)) ⌝ }
 {
     let mut i: usize = 0;
     let mut at: usize = 0;
     while i < n {
-        put_offset(offs, i, at as u32);
         write_record(text, cells, n, i, table, at);
         at += record_length(text, cells, i);
         i += 1;

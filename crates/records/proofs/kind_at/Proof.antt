@@ -1,18 +1,19 @@
-use mathlib.Core.Path.{_∙_}
-use Rattle.records.specs.Stored.{storedAt}
+use Rattle.records.specs.Stored.{recordIn}
 use borrow.Author.Needs.{needs}
 use Rattle.records.proofs.kind_at.Statement.{statement}
 use Rattle.records.proofs.kind_at.Tie as tie
+use Rattle.records.proofs.kind_at.Reads as reads
+use Rattle.records.proofs.kind_at.Lts as lts
+use Rattle.records.proofs.cell.Reads as cell-reads
 
-number-at-requires : tie.Need-number-at-requires
-number-at-requires c κs = search needs
+-- src/lib.rt:73:5
+cell-requires : tie.Need-cell-requires
+cell-requires c κs = search needs
 
-narrow-requires : tie.Need-narrow-requires
-narrow-requires c κs = search needs
-
+-- src/lib.rt:70:1
 returns : tie.Need-returns
-unfolding storedAt
-returns c = c .narrow .ensures ∙ c .before .number-at .ensures
+unfolding recordIn
+returns c = c .cell .ensures
 
 pub kind-at-spec : {M : Type 1} → statement M
-kind-at-spec = tie.close (tie.spec number-at-requires narrow-requires returns)
+kind-at-spec = tie.close (tie.spec cell-requires returns)

@@ -1,14 +1,19 @@
-use Rattle.records.specs.Stored.{storedAt}
+use Rattle.records.specs.Stored.{recordIn}
 use borrow.Author.Needs.{needs}
 use Rattle.records.proofs.most_at.Statement.{statement}
 use Rattle.records.proofs.most_at.Tie as tie
+use Rattle.records.proofs.most_at.Reads as reads
+use Rattle.records.proofs.most_at.Lts as lts
+use Rattle.records.proofs.cell.Reads as cell-reads
 
-int-at-requires : tie.Need-int-at-requires
-int-at-requires c κs = search needs
+-- src/lib.rt:137:5
+cell-requires : tie.Need-cell-requires
+cell-requires c κs = search needs
 
+-- src/lib.rt:134:1
 returns : tie.Need-returns
-unfolding storedAt
-returns c = c .int-at .ensures
+unfolding recordIn
+returns c = c .cell .ensures
 
 pub most-at-spec : {M : Type 1} → statement M
-most-at-spec = tie.close (tie.spec int-at-requires returns)
+most-at-spec = tie.close (tie.spec cell-requires returns)

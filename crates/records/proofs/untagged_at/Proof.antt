@@ -1,14 +1,19 @@
 use Rattle.definition_rules.specs.Table.{flag1}
-use Rattle.records.specs.Stored.{storedAt}
+use Rattle.records.specs.Stored.{recordIn}
 use borrow.Author.Needs.{needs}
 use Rattle.records.proofs.untagged_at.Statement.{statement}
 use Rattle.records.proofs.untagged_at.Tie as tie
+use Rattle.records.proofs.untagged_at.Reads as reads
+use Rattle.records.proofs.untagged_at.Lts as lts
+use Rattle.records.proofs.flags_at.Reads as flags-at-reads
 
+-- src/lib.rt:101:5
 flags-at-requires : tie.Need-flags-at-requires
 flags-at-requires c κs = search needs
 
+-- src/lib.rt:98:1
 returns : tie.Need-returns
-unfolding storedAt flag1
+unfolding recordIn flag1
 returns c = rw (c .flags-at .ensures)
 
 pub untagged-at-spec : {M : Type 1} → statement M
