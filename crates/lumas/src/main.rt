@@ -1,10 +1,7 @@
 // lumas: compiles definitions, reads messages by them, shows tables and says what refusals mean.
 // An answer goes to standard output, what keeps it from answering to standard error, and the exit
 // status as one digit to descriptor 3, where bin/lumas reads it: a program itself can't give one.
-mod files;
 mod messages;
-mod pages;
-mod tables;
 
 use files::Loaded;
 use files::word;
@@ -15,9 +12,9 @@ use pages::UNUSABLE;
 use pages::ended;
 use pages::misused;
 use pages::started;
-use tables::check_file;
-use tables::compile_file;
-use tables::show_file;
+use table_files::check_file;
+use table_files::compile_file;
+use table_files::show_file;
 
 const STATUS_FILENO: i32 = 3;
 

@@ -1,18 +1,18 @@
 // read.
-use crate::files::Loaded;
-use crate::files::load;
-use crate::pages::ACCEPTED;
-use crate::pages::MANY;
-use crate::pages::Page;
-use crate::pages::UNUSABLE;
-use crate::pages::ended;
-use crate::pages::flushed;
-use crate::pages::refuse;
-use crate::pages::started;
-use crate::tables::Source;
-use crate::tables::records_of;
-use crate::tables::table_of;
+use files::Loaded;
+use files::load;
 use message::Verdict;
+use pages::ACCEPTED;
+use pages::MANY;
+use pages::Page;
+use pages::UNUSABLE;
+use pages::ended;
+use pages::flushed;
+use pages::refuse;
+use pages::started;
+use table_files::Source;
+use table_files::records_of;
+use table_files::table_of;
 
 fn print_numbers(rows: &[u32], count: usize, out: &mut [u8]) -> u8 {
     let mut page = started(0);

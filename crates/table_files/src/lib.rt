@@ -1,16 +1,16 @@
 // compile, show and check.
-use crate::files::Loaded;
-use crate::files::load;
-use crate::files::save;
-use crate::pages::ACCEPTED;
-use crate::pages::MANY;
-use crate::pages::UNUSABLE;
-use crate::pages::ended;
-use crate::pages::flushed;
-use crate::pages::refuse;
-use crate::pages::started;
 use definition::Compiled;
+use files::Loaded;
+use files::load;
+use files::save;
 use libc::STDERR_FILENO;
+use pages::ACCEPTED;
+use pages::MANY;
+use pages::UNUSABLE;
+use pages::ended;
+use pages::flushed;
+use pages::refuse;
+use pages::started;
 use walk::Walk;
 
 // The length of a table, or the status to end with.

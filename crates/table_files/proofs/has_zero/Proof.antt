@@ -1,8 +1,8 @@
 use Prim.Native.Nat.{_-_}
 use lib.ListN.{length}
 use borrow.Author.Needs.{needs}
-use Rattle.lumas.proofs.tables.has_zero.Statement.{statement}
-use Rattle.lumas.proofs.tables.has_zero.Tie as tie
+use Rattle.table_files.proofs.has_zero.Statement.{statement}
+use Rattle.table_files.proofs.has_zero.Tie as tie
 
 abbrev Inv-loop : tie.InvT-loop
 Inv-loop bytes i₀ i = Unit {0}

@@ -1,8 +1,8 @@
 use native.Mathlib.Omega.{arith}
 use lib.ListN.{length-take}
 use borrow.Author.Needs.{needs}
-use Rattle.lumas.proofs.pages.refuse.Statement.{statement}
-use Rattle.lumas.proofs.pages.refuse.Tie as tie
+use Rattle.pages.proofs.refuse.Statement.{statement}
+use Rattle.pages.proofs.refuse.Tie as tie
 
 part-requires : tie.Need-part-requires
 part-requires c κs = search needs

@@ -2,8 +2,8 @@ use mathlib.Core.Path.{_≡_}
 use Prim.Native.Nat.{_-_}
 use lib.ListN.{length}
 use borrow.Author.Needs.{needs}
-use Rattle.lumas.proofs.tables.print_records.Statement.{statement}
-use Rattle.lumas.proofs.tables.print_records.Tie as tie
+use Rattle.table_files.proofs.print_records.Statement.{statement}
+use Rattle.table_files.proofs.print_records.Tie as tie
 
 abbrev Inv-loop : tie.InvT-loop
 Inv-loop table out₀ offs widths n head page₀ i₀ out page i = length out ≡ length out₀
