@@ -1,7 +1,10 @@
 // Numbers in words, and the lines that say how a file was taken.
 use text::put_text;
 ghost use mathlib.Core.Path.{_≡_};
+ghost use Prim.Native.Nat.{_≤_};
+ghost use lib.ListN.{length, drop};
 ghost use Rattle.text.specs.Text.{Wrote};
+ghost use Rattle.wording.specs.Lines.{firstLine, behindLine, lineAt};
 ghost use Rattle.wording.specs.Sayings.{isRefusal, meaning, placeMeaning, kindName, refusedLine, explanation, counted, acceptedLine, sizeLine};
 
 // The numbers that a refusal can have.
@@ -11,83 +14,139 @@ pub fn is_refusal(number: u32) -> bool
     ((1 <= number) & (number <= 11)) | ((20 <= number) & (number <= 29))
 }
 
+// ---- texts by number
+
+// What each refusal means: a line for each number from 0 to 29, empty where it is none of a refusal.
+const MEANINGS: [u8; 831] = *b"\
+    \n\
+    the definition is longer than 65,535 bytes\n\
+    a wrong character, an endless /* or a ninth {\n\
+    this can't stand here, or the text ends early\n\
+    more than 256 parameters\n\
+    not a proper name, reference or tag\n\
+    not a proper range, or none may stand here\n\
+    a rule on untagged, plugin or void is broken\n\
+    this name or tag was given before\n\
+    the root is no struct, or no top has this name\n\
+    a value of this struct or union can never end\n\
+    the table does not fit the room for it\n\
+    \n\n\n\n\n\n\n\n\
+    no definition compiles to this table\n\
+    the message is longer than 16,384 bytes\n\
+    a wrong character, a lone \" or a 17th {\n\
+    this can't stand here, or the message ends early\n\
+    not a value of the type, or outside its range\n\
+    too few or too many values in this list\n\
+    this tag was given before\n\
+    a required field is missing\n\
+    no alternative has this tag\n\
+    the rows do not fit the room for them\n\
+";
+
+// What each refusal's place is, in the same way.
+const PLACE_MEANINGS: [u8; 574] = *b"\
+    \n\
+    the first byte too many\n\
+    the character, the /* or the {\n\
+    what can't stand there, or the end\n\
+    the name of the 257th parameter\n\
+    the name, reference or tag\n\
+    the range\n\
+    the name of the field\n\
+    the later name or tag\n\
+    the root's name, or the reference\n\
+    the name of the struct or union\n\
+    the number of bytes needed\n\
+    \n\n\n\n\n\n\n\n\
+    the first byte of the table\n\
+    the first byte too many\n\
+    the character, the \" or the {\n\
+    what can't stand there, or the end\n\
+    the value\n\
+    what follows a short list, or the extra comma\n\
+    the later one\n\
+    the } of the struct, or the end of the message\n\
+    the word\n\
+    the number of rows needed\n\
+";
+
+// The kinds as definitions write them, a line for each number from 0 to 10.
+const KINDS: [u8; 69] = *b"\
+    \n\
+    void\n\
+    bool\n\
+    int\n\
+    ascii\n\
+    unquoted-ascii\n\
+    date\n\
+    time\n\
+    struct\n\
+    union\n\
+    reference\n\
+";
+
+// Where the line behind the one of a place begins, or the end.
+fn next_line(s: &[u8], from: usize) -> usize
+    requires { ⌜ from ≤ length (now s) ⌝ }
+    ensures { λ r. ⌜ (drop r (now (s .entry)) ≡ behindLine (drop from (now (s .entry)))) × (r ≤ length (now (s .entry))) ⌝ }
+{
+    let end = places::line_end(s, from);
+    if end < s.len() {
+        return end + 1;
+    }
+    end
+}
+
+// Where a line begins, counted from 0.
+fn line_from(s: &[u8], n: u32) -> usize
+    ensures { λ r. ⌜ (lineAt n (now (s .entry)) ≡ firstLine (drop r (now (s .entry)))) × (r ≤ length (now (s .entry))) ⌝ }
+{
+    let mut from = 0;
+    let mut i = 0;
+    while i < n {
+        from = next_line(s, from);
+        i += 1;
+    }
+    from
+}
+
+// A line of a text, counted from 0.
+fn put_line(out: &mut [u8], at: usize, lines: &[u8], n: u32) -> usize
+    ensures { λ r. ⌜ Wrote (lineAt n (now (lines .entry))) (now (out .entry)) at (now (out .exit)) r ⌝ }
+{
+    let from = line_from(lines, n);
+    let to = places::line_end(lines, from);
+    put_text(out, at, text::part(lines, from, to))
+}
+
 // What a refusal means.
 pub fn put_meaning(out: &mut [u8], at: usize, number: u32) -> usize
     ensures { λ r. ⌜ Wrote (meaning number) (now (out .entry)) at (now (out .exit)) r ⌝ }
 {
-    match number {
-        1 => put_text(out, at, b"the definition is longer than 65,535 bytes"),
-        2 => put_text(out, at, b"a wrong character, an endless /* or a ninth {"),
-        3 => put_text(out, at, b"this can't stand here, or the text ends early"),
-        4 => put_text(out, at, b"more than 256 parameters"),
-        5 => put_text(out, at, b"not a proper name, reference or tag"),
-        6 => put_text(out, at, b"not a proper range, or none may stand here"),
-        7 => put_text(out, at, b"a rule on untagged, plugin or void is broken"),
-        8 => put_text(out, at, b"this name or tag was given before"),
-        9 => put_text(out, at, b"the root is no struct, or no top has this name"),
-        10 => put_text(out, at, b"a value of this struct or union can never end"),
-        11 => put_text(out, at, b"the table does not fit the room for it"),
-        20 => put_text(out, at, b"no definition compiles to this table"),
-        21 => put_text(out, at, b"the message is longer than 16,384 bytes"),
-        22 => put_text(out, at, b"a wrong character, a lone \" or a 17th {"),
-        23 => put_text(out, at, b"this can't stand here, or the message ends early"),
-        24 => put_text(out, at, b"not a value of the type, or outside its range"),
-        25 => put_text(out, at, b"too few or too many values in this list"),
-        26 => put_text(out, at, b"this tag was given before"),
-        27 => put_text(out, at, b"a required field is missing"),
-        28 => put_text(out, at, b"no alternative has this tag"),
-        29 => put_text(out, at, b"the rows do not fit the room for them"),
-        _ => at,
+    if number < 30 {
+        return put_line(out, at, &MEANINGS, number);
     }
+    at
 }
 
 // What a refusal's place is.
 fn put_place_meaning(out: &mut [u8], at: usize, number: u32) -> usize
     ensures { λ r. ⌜ Wrote (placeMeaning number) (now (out .entry)) at (now (out .exit)) r ⌝ }
 {
-    match number {
-        1 => put_text(out, at, b"the first byte too many"),
-        2 => put_text(out, at, b"the character, the /* or the {"),
-        3 => put_text(out, at, b"what can't stand there, or the end"),
-        4 => put_text(out, at, b"the name of the 257th parameter"),
-        5 => put_text(out, at, b"the name, reference or tag"),
-        6 => put_text(out, at, b"the range"),
-        7 => put_text(out, at, b"the name of the field"),
-        8 => put_text(out, at, b"the later name or tag"),
-        9 => put_text(out, at, b"the root's name, or the reference"),
-        10 => put_text(out, at, b"the name of the struct or union"),
-        11 => put_text(out, at, b"the number of bytes needed"),
-        20 => put_text(out, at, b"the first byte of the table"),
-        21 => put_text(out, at, b"the first byte too many"),
-        22 => put_text(out, at, b"the character, the \" or the {"),
-        23 => put_text(out, at, b"what can't stand there, or the end"),
-        24 => put_text(out, at, b"the value"),
-        25 => put_text(out, at, b"what follows a short list, or the extra comma"),
-        26 => put_text(out, at, b"the later one"),
-        27 => put_text(out, at, b"the } of the struct, or the end of the message"),
-        28 => put_text(out, at, b"the word"),
-        29 => put_text(out, at, b"the number of rows needed"),
-        _ => at,
+    if number < 30 {
+        return put_line(out, at, &PLACE_MEANINGS, number);
     }
+    at
 }
 
 // A kind as definitions write it.
 pub fn put_kind(out: &mut [u8], at: usize, kind: u32) -> usize
     ensures { λ r. ⌜ Wrote (kindName kind) (now (out .entry)) at (now (out .exit)) r ⌝ }
 {
-    match kind {
-        1 => put_text(out, at, b"void"),
-        2 => put_text(out, at, b"bool"),
-        3 => put_text(out, at, b"int"),
-        4 => put_text(out, at, b"ascii"),
-        5 => put_text(out, at, b"unquoted-ascii"),
-        6 => put_text(out, at, b"date"),
-        7 => put_text(out, at, b"time"),
-        8 => put_text(out, at, b"struct"),
-        9 => put_text(out, at, b"union"),
-        10 => put_text(out, at, b"reference"),
-        _ => at,
+    if kind < 11 {
+        return put_line(out, at, &KINDS, kind);
     }
+    at
 }
 
 // "refused NUMBER: MEANING", and the line's end.

@@ -1,197 +1,35 @@
-use borrow.Author.Tests.{ne-eqb}
-use Rattle.text.proofs.Writing.{nothing}
+use mathlib.Core.Path.{refl}
+use Rattle.wording.specs.Lines.{linesOf}
 use Rattle.wording.specs.Sayings.{kindName, sayingOf, bytes}
+use Rattle.wording.proofs.Said.{said, clear-kind, no-kind}
 use borrow.Author.Needs.{needs}
 use Rattle.wording.proofs.put_kind.Statement.{statement}
 use Rattle.wording.proofs.put_kind.Tie as tie
+use Rattle.wording.proofs.put_kind.Reads as reads
+use Rattle.wording.proofs.put_kind.Lts as lts
+use Rattle.wording.proofs.put_line.Reads as put-line-reads
 
-slice-aggregate-put-text : tie.Need-slice-aggregate-put-text
-slice-aggregate-put-text c = search needs
+-- src/lib.rt:147:34
+slice-aggregate-put-line : tie.Need-slice-aggregate-put-line
+slice-aggregate-put-line c = search needs
 
-put-text-requires : tie.Need-put-text-requires
-put-text-requires c κs = search needs
+-- src/lib.rt:147:9
+put-line-requires : tie.Need-put-line-requires
+put-line-requires c κs = search needs
 
-slice-aggregate-put-text-2 : tie.Need-slice-aggregate-put-text-2
-slice-aggregate-put-text-2 c = search needs
-
-put-text-requires-2 : tie.Need-put-text-requires-2
-put-text-requires-2 c κs = search needs
-
-slice-aggregate-put-text-3 : tie.Need-slice-aggregate-put-text-3
-slice-aggregate-put-text-3 c = search needs
-
-put-text-requires-3 : tie.Need-put-text-requires-3
-put-text-requires-3 c κs = search needs
-
-slice-aggregate-put-text-4 : tie.Need-slice-aggregate-put-text-4
-slice-aggregate-put-text-4 c = search needs
-
-put-text-requires-4 : tie.Need-put-text-requires-4
-put-text-requires-4 c κs = search needs
-
-slice-aggregate-put-text-5 : tie.Need-slice-aggregate-put-text-5
-slice-aggregate-put-text-5 c = search needs
-
-put-text-requires-5 : tie.Need-put-text-requires-5
-put-text-requires-5 c κs = search needs
-
-slice-aggregate-put-text-6 : tie.Need-slice-aggregate-put-text-6
-slice-aggregate-put-text-6 c = search needs
-
-put-text-requires-6 : tie.Need-put-text-requires-6
-put-text-requires-6 c κs = search needs
-
-slice-aggregate-put-text-7 : tie.Need-slice-aggregate-put-text-7
-slice-aggregate-put-text-7 c = search needs
-
-put-text-requires-7 : tie.Need-put-text-requires-7
-put-text-requires-7 c κs = search needs
-
-slice-aggregate-put-text-8 : tie.Need-slice-aggregate-put-text-8
-slice-aggregate-put-text-8 c = search needs
-
-put-text-requires-8 : tie.Need-put-text-requires-8
-put-text-requires-8 c κs = search needs
-
-slice-aggregate-put-text-9 : tie.Need-slice-aggregate-put-text-9
-slice-aggregate-put-text-9 c = search needs
-
-put-text-requires-9 : tie.Need-put-text-requires-9
-put-text-requires-9 c κs = search needs
-
-slice-aggregate-put-text-10 : tie.Need-slice-aggregate-put-text-10
-slice-aggregate-put-text-10 c = search needs
-
-put-text-requires-10 : tie.Need-put-text-requires-10
-put-text-requires-10 c κs = search needs
-
+-- src/lib.rt:147:9
 same-length : tie.Need-same-length
 same-length c = search needs
 
+-- src/lib.rt:147:9
 returns : tie.Need-returns
-unfolding kindName sayingOf bytes
-returns c = rw (c .before .before .before .before .before .match .keys1) (c .before .before .put-text .ensures)
+unfolding linesOf kindName sayingOf bytes
+returns c = said kindName 11 (c .before .before .before .before .before .before .before .args .kind) clear-kind refl (c .before .before .before .before .before .if1 .taken) (c .before .before .put-line .ensures)
 
-same-length-2 : tie.Need-same-length-2
-same-length-2 c = search needs
-
+-- src/lib.rt:143:1
 returns-2 : tie.Need-returns-2
-unfolding kindName sayingOf bytes
-returns-2 c = rw (c .before .before .before .before .before .match .keys2) (c .before .before .put-text2 .ensures)
-
-same-length-3 : tie.Need-same-length-3
-same-length-3 c = search needs
-
-returns-3 : tie.Need-returns-3
-unfolding kindName sayingOf bytes
-returns-3 c = rw (c .before .before .before .before .before .match .keys3) (c .before .before .put-text3 .ensures)
-
-same-length-4 : tie.Need-same-length-4
-same-length-4 c = search needs
-
-returns-4 : tie.Need-returns-4
-unfolding kindName sayingOf bytes
-returns-4 c = rw (c .before .before .before .before .before .match .keys4) (c .before .before .put-text4 .ensures)
-
-same-length-5 : tie.Need-same-length-5
-same-length-5 c = search needs
-
-returns-5 : tie.Need-returns-5
-unfolding kindName sayingOf bytes
-returns-5 c = rw (c .before .before .before .before .before .match .keys5) (c .before .before .put-text5 .ensures)
-
-same-length-6 : tie.Need-same-length-6
-same-length-6 c = search needs
-
-returns-6 : tie.Need-returns-6
-unfolding kindName sayingOf bytes
-returns-6 c = rw (c .before .before .before .before .before .match .keys6) (c .before .before .put-text6 .ensures)
-
-same-length-7 : tie.Need-same-length-7
-same-length-7 c = search needs
-
-returns-7 : tie.Need-returns-7
-unfolding kindName sayingOf bytes
-returns-7 c = rw (c .before .before .before .before .before .match .keys7) (c .before .before .put-text7 .ensures)
-
-same-length-8 : tie.Need-same-length-8
-same-length-8 c = search needs
-
-returns-8 : tie.Need-returns-8
-unfolding kindName sayingOf bytes
-returns-8 c = rw (c .before .before .before .before .before .match .keys8) (c .before .before .put-text8 .ensures)
-
-same-length-9 : tie.Need-same-length-9
-same-length-9 c = search needs
-
-returns-9 : tie.Need-returns-9
-unfolding kindName sayingOf bytes
-returns-9 c = rw (c .before .before .before .before .before .match .keys9) (c .before .before .put-text9 .ensures)
-
-same-length-10 : tie.Need-same-length-10
-same-length-10 c = search needs
-
-returns-10 : tie.Need-returns-10
-unfolding kindName sayingOf bytes
-returns-10 c = rw (c .before .before .before .before .before .match .keys10) (c .before .before .put-text10 .ensures)
-
-returns-11 : tie.Need-returns-11
-unfolding kindName sayingOf
-returns-11 c = rw (
-  ne-eqb (c .before .before .args .kind) 1 (c .match .rest .0 .0 .0 .0 .0 .0 .0 .0 .0 .1),
-  ne-eqb (c .before .before .args .kind) 2 (c .match .rest .0 .0 .0 .0 .0 .0 .0 .0 .1),
-  ne-eqb (c .before .before .args .kind) 3 (c .match .rest .0 .0 .0 .0 .0 .0 .0 .1),
-  ne-eqb (c .before .before .args .kind) 4 (c .match .rest .0 .0 .0 .0 .0 .0 .1),
-  ne-eqb (c .before .before .args .kind) 5 (c .match .rest .0 .0 .0 .0 .0 .1),
-  ne-eqb (c .before .before .args .kind) 6 (c .match .rest .0 .0 .0 .0 .1),
-  ne-eqb (c .before .before .args .kind) 7 (c .match .rest .0 .0 .0 .1),
-  ne-eqb (c .before .before .args .kind) 8 (c .match .rest .0 .0 .1),
-  ne-eqb (c .before .before .args .kind) 9 (c .match .rest .0 .1),
-  ne-eqb (c .before .before .args .kind) 10 (c .match .rest .1),
-) (nothing _ _)
+returns-2 c = no-kind (c .before .before .args .kind) _ _ (c .if1 .left)
 
 pub put-kind-spec : {M : Type 1} → statement M
 put-kind-spec =
-    tie.close
-    (tie.spec
-    slice-aggregate-put-text
-    put-text-requires
-    slice-aggregate-put-text-2
-    put-text-requires-2
-    slice-aggregate-put-text-3
-    put-text-requires-3
-    slice-aggregate-put-text-4
-    put-text-requires-4
-    slice-aggregate-put-text-5
-    put-text-requires-5
-    slice-aggregate-put-text-6
-    put-text-requires-6
-    slice-aggregate-put-text-7
-    put-text-requires-7
-    slice-aggregate-put-text-8
-    put-text-requires-8
-    slice-aggregate-put-text-9
-    put-text-requires-9
-    slice-aggregate-put-text-10
-    put-text-requires-10
-    same-length
-    returns
-    same-length-2
-    returns-2
-    same-length-3
-    returns-3
-    same-length-4
-    returns-4
-    same-length-5
-    returns-5
-    same-length-6
-    returns-6
-    same-length-7
-    returns-7
-    same-length-8
-    returns-8
-    same-length-9
-    returns-9
-    same-length-10
-    returns-10
-    returns-11)
+    tie.close (tie.spec slice-aggregate-put-line put-line-requires same-length returns returns-2)
