@@ -3,6 +3,7 @@
 ghost use Prim.Native.Nat.{_<_};
 use crate::refusals::put_shown;
 use wording::put_kind;
+use wording::put_line;
 
 // What stands for "none" in a row and in a record.
 const NO_ROW: u32 = 4_294_967_295;
@@ -21,6 +22,17 @@ const GLANCE: usize = 40;
 
 // Ranges are counted from the least i32.
 const BIAS: u32 = 0x8000_0000;
+
+// ---- texts by number, a line each
+
+// A record's flags are 0 to 7.
+const FLAGS: [u8; 106] =
+    *b"-\nuntagged\nextension\nuntagged,extension\nplugin\nuntagged,plugin\nextension,plugin\nuntagged,extension,plugin\n";
+
+// The heads of the columns.
+const RECORD_HEADS: [u8; 56] = *b"record\nkind\nparent\nflags\ncount\nrange\ntarget\ntag or name\n";
+
+const ROW_HEADS: [u8; 36] = *b"row\nparameter\nparent\nstart\nend\ntext\n";
 
 // ---- cells
 
@@ -83,16 +95,7 @@ fn put_some(out: &mut [u8], at: usize, n: usize) -> usize {
 }
 
 fn put_flags(out: &mut [u8], at: usize, flags: u32) -> usize {
-    match flags {
-        0 => put_none(out, at),
-        1 => text::put_text(out, at, b"untagged"),
-        2 => text::put_text(out, at, b"extension"),
-        3 => text::put_text(out, at, b"untagged,extension"),
-        4 => text::put_text(out, at, b"plugin"),
-        5 => text::put_text(out, at, b"untagged,plugin"),
-        6 => text::put_text(out, at, b"extension,plugin"),
-        _ => text::put_text(out, at, b"untagged,extension,plugin"),
-    }
+    put_line(out, at, &FLAGS, flags as usize)
 }
 
 fn put_counts(out: &mut [u8], at: usize, lo: usize, hi: usize) -> usize {
@@ -126,16 +129,7 @@ fn put_range(out: &mut [u8], at: usize, kind: u32, least: u32, most: u32) -> usi
 }
 
 fn put_record_head(out: &mut [u8], at: usize, column: usize) -> usize {
-    match column {
-        0 => text::put_text(out, at, b"record"),
-        1 => text::put_text(out, at, b"kind"),
-        2 => text::put_text(out, at, b"parent"),
-        3 => text::put_text(out, at, b"flags"),
-        4 => text::put_text(out, at, b"count"),
-        5 => text::put_text(out, at, b"range"),
-        6 => text::put_text(out, at, b"target"),
-        _ => text::put_text(out, at, b"tag or name"),
-    }
+    put_line(out, at, &RECORD_HEADS, column)
 }
 
 fn put_record_cell(
@@ -255,14 +249,7 @@ fn row_number(rows: &[u32], row: usize, k: usize) -> u32
 }
 
 fn put_row_head(out: &mut [u8], at: usize, column: usize) -> usize {
-    match column {
-        0 => text::put_text(out, at, b"row"),
-        1 => text::put_text(out, at, b"parameter"),
-        2 => text::put_text(out, at, b"parent"),
-        3 => text::put_text(out, at, b"start"),
-        4 => text::put_text(out, at, b"end"),
-        _ => text::put_text(out, at, b"text"),
-    }
+    put_line(out, at, &ROW_HEADS, column)
 }
 
 fn put_parent(out: &mut [u8], at: usize, parent: u32) -> usize {

@@ -98,7 +98,7 @@ fn next_line(s: &[u8], from: usize) -> usize
 }
 
 // Where a line begins, counted from 0.
-fn line_from(s: &[u8], n: u32) -> usize
+fn line_from(s: &[u8], n: usize) -> usize
     ensures { λ r. ⌜ (lineAt n (now (s .entry)) ≡ firstLine (drop r (now (s .entry)))) × (r ≤ length (now (s .entry))) ⌝ }
 {
     let mut from = 0;
@@ -111,7 +111,7 @@ fn line_from(s: &[u8], n: u32) -> usize
 }
 
 // A line of a text, counted from 0.
-fn put_line(out: &mut [u8], at: usize, lines: &[u8], n: u32) -> usize
+pub fn put_line(out: &mut [u8], at: usize, lines: &[u8], n: usize) -> usize
     ensures { λ r. ⌜ Wrote (lineAt n (now (lines .entry))) (now (out .entry)) at (now (out .exit)) r ⌝ }
 {
     let from = line_from(lines, n);
@@ -124,7 +124,7 @@ pub fn put_meaning(out: &mut [u8], at: usize, number: u32) -> usize
     ensures { λ r. ⌜ Wrote (meaning number) (now (out .entry)) at (now (out .exit)) r ⌝ }
 {
     if number < 30 {
-        return put_line(out, at, &MEANINGS, number);
+        return put_line(out, at, &MEANINGS, number as usize);
     }
     at
 }
@@ -134,7 +134,7 @@ fn put_place_meaning(out: &mut [u8], at: usize, number: u32) -> usize
     ensures { λ r. ⌜ Wrote (placeMeaning number) (now (out .entry)) at (now (out .exit)) r ⌝ }
 {
     if number < 30 {
-        return put_line(out, at, &PLACE_MEANINGS, number);
+        return put_line(out, at, &PLACE_MEANINGS, number as usize);
     }
     at
 }
@@ -144,7 +144,7 @@ pub fn put_kind(out: &mut [u8], at: usize, kind: u32) -> usize
     ensures { λ r. ⌜ Wrote (kindName kind) (now (out .entry)) at (now (out .exit)) r ⌝ }
 {
     if kind < 11 {
-        return put_line(out, at, &KINDS, kind);
+        return put_line(out, at, &KINDS, kind as usize);
     }
     at
 }
