@@ -1,8 +1,28 @@
 // Runs of a definition: the kind that a type run names, keywords, the forms of names and tags.
 ghost use mathlib.Core.Path.{_≡_};
+ghost use mathlib.Core.List.{[], _∷_};
 ghost use Rattle.classes.specs.Bytes.{isNameByte, isTagByte};
 ghost use Rattle.classes.specs.Lists.{every, sameBytes};
-ghost use Rattle.definition_rules.specs.Words.{kwAs, kwPlugin, kindOfRun, isKeyword, startsWithLetter, nameForm, tagForm, hasDot};
+ghost use Rattle.definition_rules.specs.Words.{kwAs, kwPlugin, kwDate, kwTime, kwStruct, kwUnion, numberIn, kindOfRun, isKeyword, startsWithLetter, nameForm, tagForm, hasDot};
+
+// 6 to 9 for the last type keywords, 10 for any other run.
+fn later_kind(w: &[u8]) -> u32
+    ensures { λ r. ⌜ r ≡ numberIn (kwDate ∷ kwTime ∷ kwStruct ∷ kwUnion ∷ []) 6 (now (w .entry)) ⌝ }
+{
+    if classes::same_bytes(b"date", w) {
+        return 6;
+    }
+    if classes::same_bytes(b"time", w) {
+        return 7;
+    }
+    if classes::same_bytes(b"struct", w) {
+        return 8;
+    }
+    if classes::same_bytes(b"union", w) {
+        return 9;
+    }
+    10
+}
 
 // 1 to 9 for a type keyword, 10 for a reference.
 pub fn kind_of_run(w: &[u8]) -> u32
@@ -23,19 +43,7 @@ pub fn kind_of_run(w: &[u8]) -> u32
     if classes::same_bytes(b"unquoted-ascii", w) {
         return 5;
     }
-    if classes::same_bytes(b"date", w) {
-        return 6;
-    }
-    if classes::same_bytes(b"time", w) {
-        return 7;
-    }
-    if classes::same_bytes(b"struct", w) {
-        return 8;
-    }
-    if classes::same_bytes(b"union", w) {
-        return 9;
-    }
-    10
+    later_kind(w)
 }
 
 pub fn is_as(w: &[u8]) -> bool
