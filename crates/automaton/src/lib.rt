@@ -1,6 +1,7 @@
 // The automaton that reads a definition's forms: what each token does, the open bodies, the declaration at hand,
 // and its numbers in a lent row.
 ghost use mathlib.Core.Path.{_≡_};
+ghost use mathlib.Core.List.{[], _∷_};
 ghost use Prim.Native.Nat.{_+_, _-_, _*_, _<_};
 ghost use lib.ListN.{set};
 ghost use lib.Seq.{sets};
@@ -545,32 +546,45 @@ fn put(cells: &mut [u32], i: usize, x: u32)
     }
 }
 
+// Four numbers from a place on.
+fn put_four(cells: &mut [u32], j: usize, a: u32, b: u32, c: u32, d: u32)
+    requires { ⌜ j < 1048582 ⌝ }
+    ensures { λ _. ⌜ now (cells .exit) ≡ sets (now (cells .entry)) j (a ∷ b ∷ c ∷ d ∷ []) ⌝ }
+{
+    put(cells, j, a);
+    put(cells, j + 1, b);
+    put(cells, j + 2, c);
+    put(cells, j + 3, d);
+}
+
 fn put_runs(cells: &mut [u32], j: usize, p: Pending)
     requires { ⌜ j < 1048576 ⌝ }
     ensures { λ _. ⌜ now (cells .exit) ≡ sets (now (cells .entry)) j (runCells p) ⌝ }
 {
-    put(cells, j, p.typed.start);
-    put(cells, j + 1, p.typed.end);
-    put(cells, j + 2, p.range.start);
-    put(cells, j + 3, p.range.end);
-    put(cells, j + 4, p.name.start);
-    put(cells, j + 5, p.name.end);
-    put(cells, j + 6, p.card.start);
-    put(cells, j + 7, p.card.end);
+    put_four(
+        cells,
+        j,
+        p.typed.start,
+        p.typed.end,
+        p.range.start,
+        p.range.end,
+    );
+    put_four(
+        cells,
+        j + 4,
+        p.name.start,
+        p.name.end,
+        p.card.start,
+        p.card.end,
+    );
 }
 
 fn put_rest(cells: &mut [u32], j: usize, p: Pending, extension: u32, parent: u32)
     requires { ⌜ j < 1048577 ⌝ }
     ensures { λ _. ⌜ now (cells .exit) ≡ sets (now (cells .entry)) j (restCells p extension parent) ⌝ }
 {
-    put(cells, j, p.tag.start);
-    put(cells, j + 1, p.tag.end);
-    put(cells, j + 2, p.ranged);
-    put(cells, j + 3, p.carded);
-    put(cells, j + 4, p.tagged);
-    put(cells, j + 5, p.plugin);
-    put(cells, j + 6, extension);
-    put(cells, j + 7, parent);
+    put_four(cells, j, p.tag.start, p.tag.end, p.ranged, p.carded);
+    put_four(cells, j + 4, p.tagged, p.plugin, extension, parent);
 }
 
 // The numbers of declaration i.

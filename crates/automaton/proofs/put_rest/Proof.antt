@@ -1,77 +1,31 @@
-use Rattle.automaton.proofs.CellLaws.{eight-are}
+use Rattle.automaton.proofs.CellLaws.{two-fours}
 use borrow.Author.Needs.{needs}
 use Rattle.automaton.proofs.put_rest.Statement.{statement}
 use Rattle.automaton.proofs.put_rest.Tie as tie
+use Rattle.automaton.proofs.put_rest.Reads as reads
+use Rattle.automaton.proofs.put_rest.Lts as lts
+use Rattle.automaton.proofs.put_four.Reads as put-four-reads
 
-put-requires : tie.Need-put-requires
-put-requires c κs = search needs
+-- src/lib.rt:572:5
+put-four-requires : tie.Need-put-four-requires
+put-four-requires c κs = search needs
 
-add-put : tie.Need-add-put
-add-put c = search needs
+-- src/lib.rt:573:21
+add-put-four : tie.Need-add-put-four
+add-put-four c = search needs
 
-put-requires-2 : tie.Need-put-requires-2
-put-requires-2 c κs = search needs
+-- src/lib.rt:573:5
+put-four-requires-2 : tie.Need-put-four-requires-2
+put-four-requires-2 c κs = search needs
 
-add-put-2 : tie.Need-add-put-2
-add-put-2 c = search needs
-
-put-requires-3 : tie.Need-put-requires-3
-put-requires-3 c κs = search needs
-
-add-put-3 : tie.Need-add-put-3
-add-put-3 c = search needs
-
-put-requires-4 : tie.Need-put-requires-4
-put-requires-4 c κs = search needs
-
-add-put-4 : tie.Need-add-put-4
-add-put-4 c = search needs
-
-put-requires-5 : tie.Need-put-requires-5
-put-requires-5 c κs = search needs
-
-add-put-5 : tie.Need-add-put-5
-add-put-5 c = search needs
-
-put-requires-6 : tie.Need-put-requires-6
-put-requires-6 c κs = search needs
-
-add-put-6 : tie.Need-add-put-6
-add-put-6 c = search needs
-
-put-requires-7 : tie.Need-put-requires-7
-put-requires-7 c κs = search needs
-
-add-put-7 : tie.Need-add-put-7
-add-put-7 c = search needs
-
-put-requires-8 : tie.Need-put-requires-8
-put-requires-8 c κs = search needs
-
+-- src/lib.rt:568:1
 same-length : tie.Need-same-length
 same-length c = search needs
 
+-- src/lib.rt:568:1
 returns : tie.Need-returns
-returns c = eight-are (c .before .before .before .before .before .before .before .before .before .before .before .before .before .before .before .before .before .before .before .before .before .before .before .before .before .before .before .before .before .before .before .before .before .args .cells .now) _ _ _ _ _ _ _ _ (c .before .before .before .before .before .before .before .before .before .before .before .before .before .before .before .before .before .before .before .before .before .before .before .before .before .before .before .before .before .before .before .before .before .args .j) (c .before .before .before .before .before .before .before .before .before .before .before .before .before .before .before .before .before .before .before .before .before .before .before .before .before .before .before .before .before .before .before .before .before .args .p .tag .start) _ _ _ _ _ _ _ (c .before .before .before .before .before .before .before .before .before .before .before .before .before .before .before .before .before .before .before .before .before .before .before .before .before .before .before .before .before .before .put .ensures) (c .before .before .before .before .before .before .before .before .before .before .before .before .before .before .before .before .before .before .before .before .before .before .before .before .before .before .put2 .ensures) (c .before .before .before .before .before .before .before .before .before .before .before .before .before .before .before .before .before .before .before .before .before .before .put3 .ensures) (c .before .before .before .before .before .before .before .before .before .before .before .before .before .before .before .before .before .before .put4 .ensures) (c .before .before .before .before .before .before .before .before .before .before .before .before .before .before .put5 .ensures) (c .before .before .before .before .before .before .before .before .before .before .put6 .ensures) (c .before .before .before .before .before .before .put7 .ensures) (c .before .before .put8 .ensures)
+returns c = two-fours (c .before .before .before .before .before .before .before .before .before .args .cells .now) _ _ (c .before .before .before .before .before .before .before .before .before .args .j) (c .before .before .before .before .before .before .before .before .before .args .p .tag .start) (c .before .before .before .before .before .before .before .before .before .args .p .tag .end) (c .before .before .before .before .before .before .before .before .before .args .p .ranged) (c .before .before .before .before .before .before .before .before .before .args .p .carded) (c .before .before .before .before .before .before .before .before .before .args .p .tagged) (c .before .before .before .before .before .before .before .before .before .args .p .plugin) (c .before .before .before .before .before .before .before .before .before .args .extension) (c .before .before .before .before .before .before .before .before .before .args .parent) (c .before .before .before .before .before .before .put-four .ensures) (c .before .before .put-four2 .ensures)
 
 pub put-rest-spec : {M : Type 1} → statement M
 put-rest-spec =
-    tie.close
-    (tie.spec
-    put-requires
-    add-put
-    put-requires-2
-    add-put-2
-    put-requires-3
-    add-put-3
-    put-requires-4
-    add-put-4
-    put-requires-5
-    add-put-5
-    put-requires-6
-    add-put-6
-    put-requires-7
-    add-put-7
-    put-requires-8
-    same-length
-    returns)
+    tie.close (tie.spec put-four-requires add-put-four put-four-requires-2 same-length returns)

@@ -1,4 +1,7 @@
-use mathlib.Core.Path.{sym}
+use mathlib.Core.Path.{sym, ap, _∙_}
+use mathlib.Core.List.{List}
+use Prim.Native.Nat.{ℕ, _+_, _/_}
+use lib.ListN.{set}
 use Rattle.numbers.proofs.Bytes.{set16-past}
 use borrow.Author.Needs.{needs}
 use Rattle.numbers.proofs.put_u16.Statement.{statement}
@@ -15,4 +18,4 @@ put-u16-spec =
     (λ c. search needs)
     (λ c κs. search needs)
     (λ c. search needs)
-    (λ c. cc))
+    (λ c. c .before .before .set-byte2 .ensures ∙ ap (λ (l : List ℕ). set l (c .before .before .before .before .before .before .before .before .before .before .args .at + 1) (c .before .before .before .before .before .before .before .before .before .before .args .v / 256)) (c .before .before .before .before .before .before .set-byte .ensures)))
