@@ -42,3 +42,7 @@ pub record HeadAt (base : ℕ) (s : List ℕ) (lo : ℕ) (h : Head) : Type 0 whe
   pub some : (h .kind ≡ 0 → ⊥) → Step (cutAt base s lo) base s lo (tokenOf (h .kind) s (h .start) (h .past .at)) (h .start) (h .past .at)
   pub within : h .start ≤ length s
   pub place : base + h .start ≡ startOr (base + length s) (lexemesAt base s lo)
+
+-- the head of a mark, a token of one byte
+abbrev pub markHead : ℕ → ℕ → Head
+markHead k a = record { kind = k; start = a; past = record { at = a + 1 } }

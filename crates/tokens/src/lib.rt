@@ -7,7 +7,7 @@ ghost use Rattle.numbers.specs.Limits.{openLimit};
 ghost use Rattle.classes.specs.Bytes.{isBlank, isWordByte, isPlain, isStringByte};
 ghost use Rattle.message_rules.specs.Scan.{cut, scanFault};
 ghost use Rattle.tokens.specs.Cursor.{rowEnd, cutAt, restAt, Reads};
-ghost use Rattle.tokens.specs.Head.{HeadAt};
+ghost use Rattle.tokens.specs.Head.{HeadAt, markHead};
 ghost use Rattle.tokens.specs.Scanned.{foundOf};
 ghost use Rattle.tokens.specs.Digits.{DigitsEnd, DigitsAt};
 ghost use Rattle.tokens.specs.Turn.{ScanTurn, Plains, PlainEnd};
@@ -147,8 +147,20 @@ pub struct Head {
     pub past: Cursor,
 }
 
+// The head of one byte.
+fn mark(kind: u8, at: usize) -> Head
+    requires { ⌜ at < 18446744073709551615 ⌝ }
+    ensures { λ r. ⌜ r ≡ markHead kind at ⌝ }
+{
+    Head {
+        kind: kind,
+        start: at,
+        past: Cursor { at: at + 1 },
+    }
+}
+
 impl Cursor {
-    pub fn head(self, s: &[u8]) -> Head
+    fn head_of_next(self, s: &[u8]) -> Head
         ensures { λ r. ⌜ ((base : ℕ) → HeadAt base (now (s .entry)) (self .at) r) ⌝ }
     {
         match self.next(s) {
@@ -193,6 +205,29 @@ impl Cursor {
                 past: self,
             },
         }
+    }
+
+    // A mark that stands here is read at once.
+    pub fn head(self, s: &[u8]) -> Head
+        ensures { λ r. ⌜ ((base : ℕ) → HeadAt base (now (s .entry)) (self .at) r) ⌝ }
+    {
+        let at = self.at;
+        if at < s.len() {
+            let b = s[at];
+            if b == b'=' {
+                return mark(EQUALS, at);
+            }
+            if b == b',' {
+                return mark(COMMA, at);
+            }
+            if b == b'{' {
+                return mark(OPENING, at);
+            }
+            if b == b'}' {
+                return mark(CLOSING, at);
+            }
+        }
+        self.head_of_next(s)
     }
 }
 
