@@ -44,7 +44,7 @@ use Rattle.turns.specs.declared.Got.the-variants.{Done, Refused}
 use Rattle.turns.specs.Ends.{Room, Read, Moved, Ended, Ends, EndedValue, EndsValue}
 use Rattle.lookup.specs.IntList.{IntsOf}
 use Rattle.lookup.specs.declared.Ints.{Ints}
-use Rattle.turns.specs.Quickly.{QuickOn}
+use Rattle.turns.specs.Quickly.{QuickValue, QuickOn}
 use Rattle.turns.specs.Going.{Going, Chain}
 use Rattle.turns.specs.Turns.{Values, endOf, Shut, ShutAt, Deeper, Whole, Grows, VoidItem, ListItem, Passes}
 use Rattle.turns.proofs.GoingLaws.{stopped-before, stopped-then, stopped-same, then-refused, then-got, read-same, going-same, going-start, going-stopped, going-on, going-read, going-step, chain-start, chain-stopped, chain-on, chain-read}
@@ -451,13 +451,13 @@ module _ (S : Schema) (s : List ℕ) (f : Frame) (before after : List ℕ) (g : 
   unfolding byKind
   plain-struct u c e h fuel n = value-same s f before after g (value-is S (bodyAt S (f .depth) true) fuel (f .parameter) (here s f) schema.struct (rw c at e)) (rw c at h)
 
--- a value of a list of ints that is plain digits with a comma behind
-pub quick-element : (S : Schema) (s : List ℕ) (f : Frame) (c : ℕ) (before after : List ℕ) (u : Cursor) (m : ℕ) → QuickOn S s f c before after (u .at) m → ElementAt S s f c before after (On u m)
+-- a value of a list of ints that is plain digits, and with a comma behind
+pub quick-ended : (S : Schema) (s : List ℕ) (f : Frame) (before after : List ℕ) (u : Cursor) (m : ℕ) → QuickValue S s f before after (u .at) m → EndsValue (valuesOf S (f .depth) (f .parameter) (here s f)) s f before after (Done u m)
 unfolding byKind
-quick-element S s f c before after u m q =
-    element-more S s f c before after (record { at = q .end }) m
-    (value-same s f before after (Done (record { at = q .end }) m) (value-is S (bodyAt S (f .depth) true) (length (here s f)) (f .parameter) (here s f) schema.simple (q .simple)) (q .value))
-    (u .at) (q .more)
+quick-ended S s f before after u m q = value-same s f before after (Done u m) (value-is S (bodyAt S (f .depth) true) (length (here s f)) (f .parameter) (here s f) schema.simple (q .simple)) (q .value)
+
+pub quick-element : (S : Schema) (s : List ℕ) (f : Frame) (c : ℕ) (before after : List ℕ) (u : Cursor) (m : ℕ) → QuickOn S s f c before after (u .at) m → ElementAt S s f c before after (On u m)
+quick-element S s f c before after u m q = element-more S s f c before after (record { at = q .end }) m (quick-ended S s f before after (record { at = q .end }) m (q .value)) (u .at) (q .more)
 
 -- ---- choices
 pub is-union : (k : schema.Kind) → isUnion k ≡ true → k ≡ schema.union

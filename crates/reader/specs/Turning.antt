@@ -21,6 +21,8 @@ use Rattle.turns.specs.declared.Got.{Got}
 use Rattle.turns.specs.declared.Got.the-variants.{Done, Refused}
 use Rattle.turns.specs.Ends.{Moved, Ends, EndsValue}
 use Rattle.turns.specs.Going.{Going}
+use Rattle.reader.specs.declared.Taken.{Taken}
+use Rattle.reader.specs.declared.Taken.the-variants as taken
 use Rattle.reader.specs.declared.Turn.{Turn}
 use Rattle.reader.specs.declared.Turn.the-variants.{On, Out}
 
@@ -45,6 +47,12 @@ pub record Turned {k : Sort} (o o′ : Result (Tree k)) (s : List ℕ) (f : Fram
 abbrev pub ElementAt : Schema → List ℕ → Frame → ℕ → List ℕ → List ℕ → Turn → Type 0
 ElementAt S s f c before after (On u next) = (fuel : ℕ) → Fewer s f (u .at) × Turned (listAt S (valuesOf S (f .depth)) (suc fuel) (f .parameter) c (here s f)) (listAt S (valuesOf S (f .depth)) fuel (f .parameter) (suc c) (tokensAt (f .base) s (u .at))) s f (f .parameter) before after (u .at) next
 ElementAt S s f c before after (Out g) = (fuel : ℕ) → Ends (listAt S (valuesOf S (f .depth)) (suc fuel) (f .parameter) c (here s f)) s f before after 1 g
+
+-- the same before what follows is read
+abbrev pub TakenAt : Schema → List ℕ → Frame → ℕ → List ℕ → List ℕ → Taken → Type 0
+TakenAt S s f c before after (taken.On u next) = ElementAt S s f c before after (On u next)
+TakenAt S s f c before after (taken.Done u next) = EndsValue (valuesOf S (f .depth) (f .parameter) (here s f)) s f before after (Done u next)
+TakenAt S s f c before after (taken.Refused n q) = EndsValue (valuesOf S (f .depth) (f .parameter) (here s f)) s f before after (Refused n q)
 
 -- the list of the untagged field f .parameter in the body of p
 abbrev pub FieldAt : Schema → List ℕ → Frame → Bool → List ℕ → List ℕ → Turn → Type 0

@@ -12,7 +12,7 @@ ghost use Rattle.lookup.specs.Questions.{schemaAt};
 ghost use Rattle.lookup.specs.IntList.{IntsOf};
 ghost use Rattle.lookup.specs.Seen.{Marks};
 ghost use Rattle.turns.specs.Ends.{Room, Ends, EndsValue};
-ghost use Rattle.reader.specs.Turning.{valuesOf, here, ElementAt, FieldAt, ItemTurn, Marked, PlainAt, closedRows, endPlace, WholeAt, isUnion, movedOf, nextOf, fieldOf, underOf, innerOf, deeperOf, openRow};
+ghost use Rattle.reader.specs.Turning.{valuesOf, here, TakenAt, ElementAt, FieldAt, ItemTurn, Marked, PlainAt, closedRows, endPlace, WholeAt, isUnion, movedOf, nextOf, fieldOf, underOf, innerOf, deeperOf, openRow};
 use lookup::Found;
 use lookup::Ints;
 use lookup::Shape;
@@ -275,8 +275,15 @@ fn value(table: &[u8], offs: &[u32], n: usize, s: &[u8], rows: &mut [u32], f: Fr
 
 // ---- lists
 
-// The value of a list after c others, and what follows it.
-fn element(
+// A value of a list: On, with the comma behind it and another to come; Done, up to the cursor, and the next row; or refused.
+enum Taken {
+    On(Cursor, usize),
+    Done(Cursor, usize),
+    Refused(u32, usize),
+}
+
+// The value of a list after c others, quickly where it is plain digits of a list of ints.
+fn list_value(
     table: &[u8],
     offs: &[u32],
     n: usize,
@@ -284,32 +291,25 @@ fn element(
     rows: &mut [u32],
     f: Frame,
     c: usize,
-) -> Turn
+    e: Ints,
+) -> Taken
     requires { ⌜ Room f (length (now s)) n ⌝ }
     requires { ⌜ (f .parameter < n) × (c < 4294967296) ⌝ }
-    ensures { λ r. ⌜ ElementAt (schemaAt (now (table .entry)) (now (offs .entry)) n) (now (s .entry)) f c (now (rows .entry)) (now (rows .exit)) r ⌝ }
+    requires { ⌜ IntsOf (schemaAt (now table) (now offs) n) (f .parameter) e ⌝ }
+    ensures { λ r. ⌜ TakenAt (schemaAt (now (table .entry)) (now (offs .entry)) n) (now (s .entry)) f c (now (rows .entry)) (now (rows .exit)) r ⌝ }
 {
-    match choice(table, offs, n, s, rows, f) {
-        Got::Done(v, m) => match turns::after_value(
-            table,
-            offs,
-            n,
-            s,
-            f.base,
-            f.parameter,
-            v,
-            c + 1,
-        ) {
-            After::More(w) => Turn::On(w, m),
-            After::Last => Turn::Out(Got::Done(v, m)),
-            After::Refused(k, p) => Turn::Out(Got::Refused(k, p)),
+    match turns::quick_int(table, offs, n, s, rows, f, c, e) {
+        Quick::On(v, m) => Taken::On(v, m),
+        Quick::Value(v, m) => Taken::Done(v, m),
+        Quick::Slow => match choice(table, offs, n, s, rows, f) {
+            Got::Done(v, m) => Taken::Done(v, m),
+            Got::Refused(k, p) => Taken::Refused(k, p),
         },
-        Got::Refused(k, p) => Turn::Out(Got::Refused(k, p)),
     }
 }
 
-// The same, quickly where the value is plain digits of a list of ints.
-fn next_element(
+// The value of a list after c others, and what follows it.
+fn element(
     table: &[u8],
     offs: &[u32],
     n: usize,
@@ -324,9 +324,23 @@ fn next_element(
     requires { ⌜ IntsOf (schemaAt (now table) (now offs) n) (f .parameter) e ⌝ }
     ensures { λ r. ⌜ ElementAt (schemaAt (now (table .entry)) (now (offs .entry)) n) (now (s .entry)) f c (now (rows .entry)) (now (rows .exit)) r ⌝ }
 {
-    match turns::quick_int(table, offs, n, s, rows, f, c, e) {
-        Quick::On(v, m) => Turn::On(v, m),
-        Quick::Slow => element(table, offs, n, s, rows, f, c),
+    match list_value(table, offs, n, s, rows, f, c, e) {
+        Taken::On(v, m) => Turn::On(v, m),
+        Taken::Done(v, m) => match turns::after_value(
+            table,
+            offs,
+            n,
+            s,
+            f.base,
+            f.parameter,
+            v,
+            c + 1,
+        ) {
+            After::More(w) => Turn::On(w, m),
+            After::Last => Turn::Out(Got::Done(v, m)),
+            After::Refused(k, p) => Turn::Out(Got::Refused(k, p)),
+        },
+        Taken::Refused(k, p) => Turn::Out(Got::Refused(k, p)),
     }
 }
 
@@ -339,7 +353,7 @@ fn list(table: &[u8], offs: &[u32], n: usize, s: &[u8], rows: &mut [u32], f: Fra
     let mut g = f;
     let mut c: usize = 0;
     loop {
-        match next_element(table, offs, n, s, rows, g, c, e) {
+        match element(table, offs, n, s, rows, g, c, e) {
             Turn::On(v, next) => {
                 g = next_value(g, v.at, next, g.parent);
                 c += 1;

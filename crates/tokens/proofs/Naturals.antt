@@ -1,4 +1,4 @@
--- A word of digits without leading zero that a comma follows at once.
+-- A word of digits without leading zero.
 use mathlib.Core.Path.{_≡_, refl, ap, sym, subst, _∙_}
 use mathlib.Core.Bool.{Bool, true, false, _&&_}
 use mathlib.Core.List.{List, [], _∷_}
@@ -7,7 +7,7 @@ use native.Mathlib.Omega.{arith}
 use native.Mathlib.Numerals.{add-one}
 use native.Mathlib.Nat.{add-zero}
 use lib.Dec.{eqb, leb, ltb}
-use lib.ListN.{length, getD, take, drop, length-drop}
+use lib.ListN.{length, getD, take, drop, length-drop, List·getD-eq-default}
 use lib.Seq.{drop-cons, getD-drop, getD-take, length-take-le}
 use borrow.Author.Tests.{lt-ltb, leb-true, ne-eqb}
 use Rattle.classes.specs.Bytes.{between, isDigit, isBlank, isWordByte}
@@ -19,9 +19,10 @@ use Rattle.schema.proofs.CountLaws.{clash-bool}
 use Rattle.table_rules.proofs.Words.{digit-word}
 use Rattle.message_rules.proofs.Spelling.{word-not-blank}
 use Rattle.tokens.specs.Cursor.{part, rowEnd, cutAt, restAt, Step}
-use Rattle.tokens.specs.Digits.{Natural, Counted, DigitsEnd, DigitsAt}
+use Rattle.tokens.specs.Digits.{Led, Counted, CountedBefore, DigitsEnd, DigitsAt}
 use Rattle.tokens.specs.declared.Digits.{Digits}
-use Rattle.tokens.specs.declared.Digits.the-variants.{Other, Number}
+use Rattle.tokens.specs.declared.Digits.the-variants.{Other, Before, Number}
+use Rattle.tokens.proofs.CutAt.{byte-in}
 use Rattle.tokens.proofs.Steps.{step-comma, step-word}
 use Rattle.tokens.proofs.Plain.{solid}
 
@@ -77,9 +78,10 @@ pub record Summed (s : List ℕ) (at i sum : ℕ) : Type 0 where
   pub ends : rowEnd isDigit s i ≡ rowEnd isDigit s at
   pub sums : readDigits sum (part s i (rowEnd isDigit s at)) ≡ numberOf (part s at (rowEnd isDigit s at))
   pub least : at ≤ i
+  pub within : at < i → i ≤ length s
 
 pub summed-start : (s : List ℕ) (at : ℕ) → Summed s at at 0
-summed-start s at = record { ends = refl; sums = refl; least = omega arith }
+summed-start s at = record { ends = refl; sums = refl; least = omega arith; within = λ l. absurd (omega arith) }
 
 pub digit-floor : (b : ℕ) (t : Bool) → t ≡ isDigit b → t ≡ true → 48 ≤ b
 digit-floor b t e f = digit-least b (sym e ∙ f)
@@ -91,6 +93,7 @@ summed-more s at i sum next m h t q =
       ends = sym r ∙ m .ends;
       sums = rw q (sym (ap (readDigits sum) (part-cons s i (rowEnd isDigit s at) h (omega (arith, m .ends, r))) ∙ unfold readDigits in refl) ∙ m .sums);
       least = omega (arith, m .least);
+      within = λ l. omega (arith, h);
     }
 
 -- ---- the word
@@ -105,9 +108,9 @@ natural-is (b ∷ []) e h k = first (isDigit b) e
     first false z = clash-bool z
 natural-is (b ∷ c ∷ l) e h k = rw (lt-ltb 48 b (k (omega arith)), e)
 
-module _ (s : List ℕ) (at i sum : ℕ) (m : Summed s at i sum) (h : i < length s) (t : isDigit (getD s i 0) ≡ false) where
+module _ (s : List ℕ) (at i sum : ℕ) (m : Summed s at i sum) (stop : rowEnd isDigit s i ≡ i) where
   end-is : rowEnd isDigit s at ≡ i
-  end-is = sym (m .ends) ∙ run-stop isDigit s i h t
+  end-is = sym (m .ends) ∙ stop
 
   digits-all : every isDigit (part s at i) ≡ true
   digits-all = let q : runOf isDigit (drop at s) ≡ i - at = omega (arith, end-is) in rw q at (every-run isDigit (drop at s))
@@ -117,39 +120,51 @@ module _ (s : List ℕ) (at i sum : ℕ) (m : Summed s at i sum) (h : i < length
     where
       go : (b : Bool) → isDigit (getD s at 0) ≡ b → isDigit (getD s at 0) ≡ true
       go true z = z
-      go false z = absurd (omega (arith, run-stop isDigit s at (omega (arith, h, l)) z, end-is, l))
+      go false z = absurd (omega (arith, run-stop isDigit s at (omega (arith, m .within l, l)) z, end-is, l))
 
-  word-end : getD s i 0 ≡ 44 → i ≡ rowEnd isWordByte s at
-  unfolding isWordByte
+  word-end : isWordByte (getD s i 0) ≡ false → i ≡ rowEnd isWordByte s at
   word-end c =
       let q : runOf isDigit (drop at s) ≡ i - at = omega (arith, end-is) in
       let p : at + (i - at) ≡ i = omega (arith, m .least) in
-      let z : isWordByte (getD (drop at s) (runOf isDigit (drop at s)) 0) ≡ false = rw (q, getD-drop at s (i - at) 0, p, c) in
+      let z : isWordByte (getD (drop at s) (runOf isDigit (drop at s)) 0) ≡ false = rw (q, getD-drop at s (i - at) 0, p) c in
       omega (arith, run-same isDigit isWordByte (drop at s) digit-word z, q, m .least)
 
-  counted : (e n : ℕ) → e ≡ i → n ≡ sum → Natural s at e n → Counted s at e n
-  counted e n x y w = rw (x, y) (let v : Natural s at i sum = rw (x, y) at w in record {
-    within = h;
-    natural = natural-is (part s at i) digits-all (omega (arith, length-part, v .less)) (λ l. above v l);
-    number = sym (ap (readDigits sum) (part-none s i) ∙ unfold readDigits in refl) ∙ (rw end-is at (m .sums));
-    first = λ base. subst (λ c. Step c base s at (word (part s at i)) at i) (sym (solid base s at (omega (arith, h, v .less)) (word-not-blank (getD s at 0) (digit-word (getD s at 0) (first-digit (v .less)))))) (step-word base s at (omega (arith, h, v .less)) i (digit-word (getD s at 0) (first-digit (v .less))) (word-end (v .comma-at)));
-    second = λ base. subst (λ c. Step c base s i comma i (i + 1)) (sym (solid base s i h (comma-solid (getD s i 0) (v .comma-at)))) (step-comma base s i h (v .comma-at));
-  })
+  counted : isWordByte (getD s i 0) ≡ false → Led s at i → Counted s at i sum
+  counted c v =
+      let h : at < length s = omega (arith, m .within (v .less), v .less) in
+      let d : isWordByte (getD s at 0) ≡ true = digit-word (getD s at 0) (first-digit (v .less)) in
+      record {
+        within = m .within (v .less);
+        natural = natural-is (part s at i) digits-all (omega (arith, length-part, v .less)) (λ l. above l);
+        number = sym (ap (readDigits sum) (part-none s i) ∙ unfold readDigits in refl) ∙ (rw end-is at (m .sums));
+        first = λ base. subst (λ c. Step c base s at (word (part s at i)) at i) (sym (solid base s at h (word-not-blank (getD s at 0) d))) (step-word base s at h i d (word-end c));
+      }
     where
       length-part : length (part s at i) ≡ i - at
-      length-part = length-take-le (i - at) (drop at s) (omega (arith, length-drop at s, h))
+      length-part = length-take-le (i - at) (drop at s) (omega (arith, length-drop at s, m .within (v .less)))
 
-      above : Natural s at i sum → 1 < length (part s at i) → 48 < getD (part s at i) 0 0
-      above v l =
+      above : 1 < length (part s at i) → 48 < getD (part s at i) 0 0
+      above l =
           let q : 0 < i - at = omega (arith, length-part, l) in
           let p : at + 0 ≡ at = omega arith in
           let z : getD (part s at i) 0 0 ≡ getD s at 0 = getD-take (i - at) (drop at s) 0 0 q ∙ (getD-drop at s 0 0 ∙ ap (λ j. getD s j 0) p) in
           let k : getD s at 0 ≡ 48 → ⊥ = v .single (omega (arith, length-part, l)) in
           rw z (omega (arith, k, digit-least (getD s at 0) (first-digit (v .less))))
 
-      comma-solid : (b : ℕ) → b ≡ 44 → isBlank b ≡ false
-      comma-solid b e = unfold isBlank in (rw e)
+  counted-before : getD s i 0 ≡ 44 → Led s at i → CountedBefore s at i sum
+  unfolding isBlank isWordByte
+  counted-before c v =
+      let h : i < length s = byte-in s i 44 (omega arith) c in
+      record {
+        counted = counted (rw c) v;
+        second = λ base. subst (λ c. Step c base s i comma i (i + 1)) (sym (solid base s i h (rw c))) (step-comma base s i h c);
+      }
 
-  pub digits-counted : (r : Digits) → DigitsEnd s at i sum r → DigitsAt s at r
-  digits-counted Other d = tt
-  digits-counted (Number e n) d = counted e n (d .0) (d .1) (d .2)
+  pub digits-counted : (b : ℕ) → b ≡ getD s i 0 → (r : Digits) → DigitsEnd s at i sum b r → DigitsAt s at r
+  digits-counted b g Other d = tt
+  digits-counted b g (Before e n) d = rw (d .0, d .1) (counted-before (sym g ∙ d .2) (rw (d .0) at (d .3)))
+  digits-counted b g (Number e n) d = rw (d .0, d .1) (counted (ap isWordByte (sym g) ∙ d .2) (rw (d .0) at (d .3)))
+
+-- past the end
+pub none-there : (s : List ℕ) (i : ℕ) → length s ≤ i → 0 ≡ getD s i 0
+none-there s i h = sym (List·getD-eq-default s 0 h)

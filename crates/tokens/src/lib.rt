@@ -9,7 +9,7 @@ ghost use Rattle.message_rules.specs.Scan.{cut, scanFault};
 ghost use Rattle.tokens.specs.Cursor.{rowEnd, cutAt, restAt, Reads};
 ghost use Rattle.tokens.specs.Head.{HeadAt, markHead};
 ghost use Rattle.tokens.specs.Scanned.{foundOf};
-ghost use Rattle.tokens.specs.Digits.{DigitsEnd, DigitsAt};
+ghost use Rattle.tokens.specs.Digits.{Led, DigitsEnd, DigitsAt};
 ghost use Rattle.tokens.specs.Turn.{ScanTurn, Plains, PlainEnd};
 
 // How many braces may be open.
@@ -231,33 +231,48 @@ impl Cursor {
     }
 }
 
-// A word of digits without leading zero that a comma follows at once: its end, and its number.
+// A word of digits without leading zero, its end and its number: Before where a comma stands at the end.
 pub enum Digits {
     Other,
+    Before(usize, u64),
     Number(usize, u64),
 }
 
-// The word of digits from at to i, whose number is sum.
-fn digits_end(s: &[u8], at: usize, i: usize, sum: u64) -> Digits
-    requires { ⌜ i < length (now s) ⌝ }
-    ensures { λ r. ⌜ DigitsEnd (now (s .entry)) at i sum r ⌝ }
+// The digits from at to i are some, without leading zero.
+fn is_led(s: &[u8], at: usize, i: usize) -> bool
+    requires { ⌜ (at < i → i ≤ length (now s)) ⌝ }
+    ensures { λ r. ⌜ (r ≡ true → Led (now (s .entry)) at i) ⌝ }
 {
-    if s[i] != b',' {
-        return Digits::Other;
-    }
     if i <= at {
-        return Digits::Other;
+        return false;
     }
     if i - at == 1 {
-        return Digits::Number(i, sum);
+        return true;
     }
     if s[at] == b'0' {
+        return false;
+    }
+    true
+}
+
+// The word of digits from at to i, whose number is sum, before the byte b.
+fn digits_before(s: &[u8], at: usize, i: usize, sum: u64, b: u8) -> Digits
+    requires { ⌜ (at < i → i ≤ length (now s)) ⌝ }
+    ensures { λ r. ⌜ DigitsEnd (now (s .entry)) at i sum b r ⌝ }
+{
+    if !is_led(s, at, i) {
+        return Digits::Other;
+    }
+    if b == b',' {
+        return Digits::Before(i, sum);
+    }
+    if classes::is_word_byte(b) {
         return Digits::Other;
     }
     Digits::Number(i, sum)
 }
 
-// The digits that stand at a place. Other where the word is too long for an int, too.
+// The digits that stand at a place. Other where the word has other bytes, or is too long for an int.
 pub fn digits_at(s: &[u8], at: usize) -> Digits
     ensures { λ r. ⌜ DigitsAt (now (s .entry)) at r ⌝ }
 {
@@ -272,10 +287,10 @@ pub fn digits_at(s: &[u8], at: usize) -> Digits
             sum = sum * 10 + wide(b - 48);
             i += 1;
         } else {
-            return digits_end(s, at, i, sum);
+            return digits_before(s, at, i, sum, b);
         }
     }
-    Digits::Other
+    digits_before(s, at, i, sum, 0)
 }
 
 fn wide(b: u8) -> u64

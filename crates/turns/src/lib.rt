@@ -12,7 +12,7 @@ ghost use Rattle.lookup.specs.Questions.{schemaAt};
 ghost use mathlib.Core.Bool.{true};
 ghost use Rattle.lookup.specs.IntList.{IntsOf};
 ghost use Rattle.turns.specs.Ends.{Room, EndsValue};
-ghost use Rattle.turns.specs.Quickly.{Takes, QuickAt};
+ghost use Rattle.turns.specs.Quickly.{Takes, intRow, QuickAt};
 ghost use Rattle.turns.specs.Turns.{unfitOf, LeafAt, NoValue, OpenedAt, ShutAt, ChoiceAt, ChosenAt, AfterAt, endNumberAt, endAt, StartAt, ItemAt, KnownAt, UnknownAt, bareAt};
 use lookup::Found;
 use lookup::Ints;
@@ -289,21 +289,40 @@ pub fn after_value(
     After::Refused(25, base + h.start)
 }
 
-// The value of a list of ints after c others, where it is plain digits and a comma follows at once: the cursor past
-// the comma, and the next row. Slow where it is not, or the list takes another value: nothing is written then.
+// The value of a list of ints after c others, where it is plain digits. On: a comma follows at once, and another value may;
+// the cursor past the comma, and the next row. Value: the cursor past the digits, and the next row. Slow: nothing is written.
 pub enum Quick {
     On(Cursor, usize),
+    Value(Cursor, usize),
     Slow,
 }
 
-// The number v is a value of the list, and c values may be followed by another.
-fn takes(e: Ints, v: u64, c: usize) -> bool
-    ensures { λ r. ⌜ (r ≡ true → Takes e v c) ⌝ }
+// The number v is a value of the list.
+fn takes(e: Ints, v: u64) -> bool
+    ensures { λ r. ⌜ (r ≡ true → Takes e v) ⌝ }
 {
     if 0xFFFF_FFFF < v {
         return false;
     }
-    numbers::lies_within(0x8000_0000 + v, e.least, e.most) & lookup::may_grow(e.hi, c)
+    numbers::lies_within(0x8000_0000 + v, e.least, e.most)
+}
+
+// The row of an int that ends at end.
+fn int_row(rows: &mut [u32], f: Frame, end: usize)
+    requires { ⌜ (f .base + end ≤ messageLimit) × (f .at ≤ end) ⌝ }
+    requires { ⌜ (f .row < 4294967296) × (f .parent < 4294967296) × (f .parameter < 4294967296) ⌝ }
+    ensures { λ _. ⌜ now (rows .exit) ≡ intRow f end (now (rows .entry)) ⌝ }
+{
+    rows::put_row(
+        rows,
+        f.row,
+        Row {
+            parameter: f.parameter,
+            parent: f.parent,
+            start: f.base + f.at,
+            end: f.base + end,
+        },
+    );
 }
 
 pub fn quick_int(
@@ -326,21 +345,19 @@ pub fn quick_int(
     }
     match tokens::digits_at(s, f.at) {
         Digits::Other => Quick::Slow,
-        Digits::Number(end, v) => {
-            if !takes(e, v, c + 1) {
-                return Quick::Slow;
+        Digits::Before(end, v) => {
+            if takes(e, v) & lookup::may_grow(e.hi, c + 1) {
+                int_row(rows, f, end);
+                return Quick::On(Cursor { at: end + 1 }, f.row + 1);
             }
-            rows::put_row(
-                rows,
-                f.row,
-                Row {
-                    parameter: f.parameter,
-                    parent: f.parent,
-                    start: f.base + f.at,
-                    end: f.base + end,
-                },
-            );
-            Quick::On(Cursor { at: end + 1 }, f.row + 1)
+            Quick::Slow
+        }
+        Digits::Number(end, v) => {
+            if takes(e, v) {
+                int_row(rows, f, end);
+                return Quick::Value(Cursor { at: end }, f.row + 1);
+            }
+            Quick::Slow
         }
     }
 }

@@ -1,8 +1,11 @@
-use mathlib.Core.Path.{sym, _∙_}
+use mathlib.Core.Path.{refl, sym, _∙_}
 use Prim.Native.Nat.{_-_}
 use lib.ListN.{length}
 use borrow.Author.Needs.{needs}
-use Rattle.tokens.proofs.Naturals.{Summed, summed-start, summed-more, digit-floor, digits-counted}
+use denote.Ref.{now}
+use Rattle.classes.specs.Bytes.{isDigit}
+use Rattle.classes.proofs.Rows.{run-stop, run-end}
+use Rattle.tokens.proofs.Naturals.{Summed, summed-start, summed-more, digit-floor, digits-counted, none-there}
 use Rattle.tokens.proofs.digits_at.Statement.{statement}
 use Rattle.tokens.proofs.digits_at.Tie as tie
 
@@ -45,14 +48,17 @@ loop-less c = search needs
 loop-again : tie.Need-loop-again Inv-loop μ-loop
 loop-again c = summed-more _ _ _ _ _ (c .before .before .before .before .before .before .loop .inv) (c .before .before .before .before .before .loop-test .taken) (sym (c .before .before .before .is-digit .ensures) ∙ c .before .before .if1 .taken) (rw (c .wide .ensures .0))
 
-digits-end-requires : tie.Need-digits-end-requires Inv-loop μ-loop
-digits-end-requires c κs = c .before .before .before .loop-test .taken
+digits-before-requires : tie.Need-digits-before-requires Inv-loop μ-loop
+digits-before-requires c κs = c .before .before .before .before .loop .inv .within
 
 returns-2 : tie.Need-returns-2 Inv-loop μ-loop
-returns-2 c = digits-counted _ _ _ _ (c .before .before .before .before .before .loop .inv) (c .before .before .before .before .loop-test .taken) (sym (c .before .before .is-digit .ensures) ∙ c .before .if1 .left) (c .digits-end .result) (c .digits-end .ensures)
+returns-2 c = digits-counted _ _ _ _ (c .before .before .before .before .before .loop .inv) (run-stop isDigit _ _ (c .before .before .before .before .loop-test .taken) (sym (c .before .before .is-digit .ensures) ∙ c .before .if1 .left)) _ refl (c .digits-before .result) (c .digits-before .ensures)
+
+digits-before-requires-2 : tie.Need-digits-before-requires-2 Inv-loop μ-loop
+digits-before-requires-2 c κs = c .before .loop .inv .within
 
 returns-3 : tie.Need-returns-3 Inv-loop μ-loop
-returns-3 c = tt
+returns-3 c = digits-counted _ _ _ _ (c .before .before .loop .inv) (run-end isDigit _ _ (c .before .loop-test .left)) _ (none-there (now (c .before .before .before .before .args .s)) _ (c .before .loop-test .left)) (c .digits-before2 .result) (c .digits-before2 .ensures)
 
 pub digits-at-spec : {M : Type 1} → statement M
 digits-at-spec =
@@ -71,6 +77,7 @@ digits-at-spec =
     add-i
     loop-less
     loop-again
-    digits-end-requires
+    digits-before-requires
     returns-2
+    digits-before-requires-2
     returns-3)

@@ -13,12 +13,8 @@ add-lies-within c = search needs
 lies-within-requires : tie.Need-lies-within-requires
 lies-within-requires c κs = search needs
 
-may-grow-requires : tie.Need-may-grow-requires
-may-grow-requires c κs = search needs
-
 returns-2 : tie.Need-returns-2
-returns-2 c = takes-all _ _ _ _ _ (c .before .lies-within .ensures) (c .may-grow .ensures)
+returns-2 c = takes-all _ _ _ (c .lies-within .ensures)
 
 pub takes-spec : {M : Type 1} → statement M
-takes-spec =
-    tie.close (tie.spec returns add-lies-within lies-within-requires may-grow-requires returns-2)
+takes-spec = tie.close (tie.spec returns add-lies-within lies-within-requires returns-2)

@@ -15,43 +15,43 @@ use Rattle.lookup.specs.IntList.{IntsOf}
 use Rattle.unknown.proofs.AlongLaws.{part-end}
 use Rattle.turns.proofs.Parts.{found-at, found-none}
 use Rattle.reader.specs.Turning.{Marked, endPlace}
-use Rattle.reader.proofs.Steps.{Listing, listing-start, listing-room, listing-named, listing-ints, listing-depth, listing-turn, listing-on, listing-out, Iteming, iteming-start, iteming-room, iteming-depth, iteming-turn, iteming-on, iteming-out, Fielding, fielding-start, fielding-room, fielding-depth, fielding-items, fielding-on, fielding-out, Choosing, choosing-start, choosing-room, choosing-base, choosing-depth, choosing-value, choosing-whole, choosing-stopped, choosing-on, deeper-less, plain-fits, whole-fits, next-between, body-none, body-ends, room-deeper, room-inner, braced-within, braced-ends, braced-refused, quick-element, element-more, element-last, element-after, element-refused, field-on, field-refused, field-none, items-none, item-void, item-list, item-refused, item-passed, plain-none, plain-simple, plain-struct, isPlace}
+use Rattle.reader.proofs.Steps.{Listing, listing-start, listing-room, listing-named, listing-ints, listing-depth, listing-turn, listing-on, listing-out, Iteming, iteming-start, iteming-room, iteming-depth, iteming-turn, iteming-on, iteming-out, Fielding, fielding-start, fielding-room, fielding-depth, fielding-items, fielding-on, fielding-out, Choosing, choosing-start, choosing-room, choosing-base, choosing-depth, choosing-value, choosing-whole, choosing-stopped, choosing-on, deeper-less, plain-fits, whole-fits, next-between, body-none, body-ends, room-deeper, room-inner, braced-within, braced-ends, braced-refused, quick-ended, quick-element, element-more, element-last, element-after, element-refused, field-on, field-refused, field-none, items-none, item-void, item-list, item-refused, item-passed, plain-none, plain-simple, plain-struct, isPlace}
 use Prim.Native.Nat.{ℕ, _<_}
 use borrow.Fn.Kinds.{In}
 use borrow.Fn.PlainCycle.{Measures, is, falls, and}
 use Rattle.reader.proofs.body.Reads as body
 use Rattle.reader.proofs.body.Kinds as body-kinds
-use Rattle.reader.proofs.+body+braced+choice+element+field+fields+item+items+list+next_element+value.Lts-body as body-lts
+use Rattle.reader.proofs.+body+braced+choice+element+field+fields+item+items+list+list_value+value.Lts-body as body-lts
 use Rattle.reader.proofs.braced.Reads as braced
 use Rattle.reader.proofs.braced.Kinds as braced-kinds
-use Rattle.reader.proofs.+body+braced+choice+element+field+fields+item+items+list+next_element+value.Lts-braced as braced-lts
+use Rattle.reader.proofs.+body+braced+choice+element+field+fields+item+items+list+list_value+value.Lts-braced as braced-lts
 use Rattle.reader.proofs.choice.Reads as choice
 use Rattle.reader.proofs.choice.Kinds as choice-kinds
-use Rattle.reader.proofs.+body+braced+choice+element+field+fields+item+items+list+next_element+value.Lts-choice as choice-lts
+use Rattle.reader.proofs.+body+braced+choice+element+field+fields+item+items+list+list_value+value.Lts-choice as choice-lts
 use Rattle.reader.proofs.element.Reads as element
 use Rattle.reader.proofs.element.Kinds as element-kinds
-use Rattle.reader.proofs.+body+braced+choice+element+field+fields+item+items+list+next_element+value.Lts-element as element-lts
+use Rattle.reader.proofs.+body+braced+choice+element+field+fields+item+items+list+list_value+value.Lts-element as element-lts
 use Rattle.reader.proofs.field.Reads as field
 use Rattle.reader.proofs.field.Kinds as field-kinds
-use Rattle.reader.proofs.+body+braced+choice+element+field+fields+item+items+list+next_element+value.Lts-field as field-lts
+use Rattle.reader.proofs.+body+braced+choice+element+field+fields+item+items+list+list_value+value.Lts-field as field-lts
 use Rattle.reader.proofs.fields.Reads as fields
 use Rattle.reader.proofs.fields.Kinds as fields-kinds
-use Rattle.reader.proofs.+body+braced+choice+element+field+fields+item+items+list+next_element+value.Lts-fields as fields-lts
+use Rattle.reader.proofs.+body+braced+choice+element+field+fields+item+items+list+list_value+value.Lts-fields as fields-lts
 use Rattle.reader.proofs.item.Reads as item
 use Rattle.reader.proofs.item.Kinds as item-kinds
-use Rattle.reader.proofs.+body+braced+choice+element+field+fields+item+items+list+next_element+value.Lts-item as item-lts
+use Rattle.reader.proofs.+body+braced+choice+element+field+fields+item+items+list+list_value+value.Lts-item as item-lts
 use Rattle.reader.proofs.items.Reads as items
 use Rattle.reader.proofs.items.Kinds as items-kinds
-use Rattle.reader.proofs.+body+braced+choice+element+field+fields+item+items+list+next_element+value.Lts-items as items-lts
+use Rattle.reader.proofs.+body+braced+choice+element+field+fields+item+items+list+list_value+value.Lts-items as items-lts
 use Rattle.reader.proofs.list.Reads as list
 use Rattle.reader.proofs.list.Kinds as list-kinds
-use Rattle.reader.proofs.+body+braced+choice+element+field+fields+item+items+list+next_element+value.Lts-list as list-lts
-use Rattle.reader.proofs.next_element.Reads as next-element
-use Rattle.reader.proofs.next_element.Kinds as next-element-kinds
-use Rattle.reader.proofs.+body+braced+choice+element+field+fields+item+items+list+next_element+value.Lts-next_element as next-element-lts
+use Rattle.reader.proofs.+body+braced+choice+element+field+fields+item+items+list+list_value+value.Lts-list as list-lts
+use Rattle.reader.proofs.list_value.Reads as list-value
+use Rattle.reader.proofs.list_value.Kinds as list-value-kinds
+use Rattle.reader.proofs.+body+braced+choice+element+field+fields+item+items+list+list_value+value.Lts-list_value as list-value-lts
 use Rattle.reader.proofs.value.Reads as value
 use Rattle.reader.proofs.value.Kinds as value-kinds
-use Rattle.reader.proofs.+body+braced+choice+element+field+fields+item+items+list+next_element+value.Lts-value as value-lts
+use Rattle.reader.proofs.+body+braced+choice+element+field+fields+item+items+list+list_value+value.Lts-value as value-lts
 use Rattle.lookup.proofs.core.Reads as core-reads
 use Rattle.lookup.proofs.ints_of.Reads as ints-of-reads
 use Rattle.lookup.proofs.kind.Reads as kind-reads
@@ -79,10 +79,10 @@ use Rattle.turns.proofs.open_brace.Reads as open-brace-reads
 use Rattle.turns.proofs.quick_int.Reads as quick-int-reads
 use Rattle.turns.proofs.shut.Reads as shut-reads
 use Rattle.turns.proofs.simple.Reads as simple-reads
-use Rattle.reader.proofs.+body+braced+choice+element+field+fields+item+items+list+next_element+value.{
+use Rattle.reader.proofs.+body+braced+choice+element+field+fields+item+items+list+list_value+value.{
   statement,
 }
-use Rattle.reader.proofs.+body+braced+choice+element+field+fields+item+items+list+next_element+value.Tie.{
+use Rattle.reader.proofs.+body+braced+choice+element+field+fields+item+items+list+list_value+value.Tie.{
   close,
 }
 
@@ -96,7 +96,7 @@ abbrev μ-choice : Measures 4 choice-kinds.ps ℕ
 μ-choice κs a = 11 * a .1 .1 .1 .1 .1 .0 .depth + 4
 
 abbrev μ-element : Measures 4 element-kinds.ps ℕ
-μ-element κs a = 11 * a .1 .1 .1 .1 .1 .0 .depth + 5
+μ-element κs a = 11 * a .1 .1 .1 .1 .1 .0 .depth + 6
 
 abbrev μ-field : Measures 4 field-kinds.ps ℕ
 μ-field κs a = 11 * a .1 .1 .1 .1 .1 .0 .depth + 9
@@ -113,8 +113,8 @@ abbrev μ-items : Measures 4 items-kinds.ps ℕ
 abbrev μ-list : Measures 4 list-kinds.ps ℕ
 μ-list κs a = 11 * a .1 .1 .1 .1 .1 .0 .depth + 7
 
-abbrev μ-next-element : Measures 4 next-element-kinds.ps ℕ
-μ-next-element κs a = 11 * a .1 .1 .1 .1 .1 .0 .depth + 6
+abbrev μ-list-value : Measures 4 list-value-kinds.ps ℕ
+μ-list-value κs a = 11 * a .1 .1 .1 .1 .1 .0 .depth + 5
 
 abbrev μ-value : Measures 4 value-kinds.ps ℕ
 μ-value κs a = 11 * a .1 .1 .1 .1 .1 .0 .depth + 3
@@ -173,17 +173,13 @@ list-at t = and 4 list-kinds.ps (is 4 list-kinds.ps μ-list t) list.Pre
 abbrev list-below : ℕ → In 4 list-kinds.ps
 list-below t = and 4 list-kinds.ps (falls 4 list-kinds.ps _<_ μ-list t) list.Pre
 
-abbrev next-element-at : ℕ → In 4 next-element-kinds.ps
-next-element-at t =
-    and 4 next-element-kinds.ps (is 4 next-element-kinds.ps μ-next-element t) next-element.Pre
+abbrev list-value-at : ℕ → In 4 list-value-kinds.ps
+list-value-at t =
+    and 4 list-value-kinds.ps (is 4 list-value-kinds.ps μ-list-value t) list-value.Pre
 
-abbrev next-element-below : ℕ → In 4 next-element-kinds.ps
-next-element-below t =
-    and
-    4
-    next-element-kinds.ps
-    (falls 4 next-element-kinds.ps _<_ μ-next-element t)
-    next-element.Pre
+abbrev list-value-below : ℕ → In 4 list-value-kinds.ps
+list-value-below t =
+    and 4 list-value-kinds.ps (falls 4 list-value-kinds.ps _<_ μ-list-value t) list-value.Pre
 
 abbrev value-at : ℕ → In 4 value-kinds.ps
 value-at t = and 4 value-kinds.ps (is 4 value-kinds.ps μ-value t) value.Pre
@@ -191,7 +187,7 @@ value-at t = and 4 value-kinds.ps (is 4 value-kinds.ps μ-value t) value.Pre
 abbrev value-below : ℕ → In 4 value-kinds.ps
 value-below t = and 4 value-kinds.ps (falls 4 value-kinds.ps _<_ μ-value t) value.Pre
 
--- src/lib.rt:496:13
+-- src/lib.rt:511:13
 body-head-requires : (t : ℕ) → body-lts.Need-head-requires (
   head-reads.Asked,
   head-reads.Learnt,
@@ -202,7 +198,7 @@ body-head-requires : (t : ℕ) → body-lts.Need-head-requires (
 ) (body-at t) body.Post
 body-head-requires t c κs = search needs
 
--- src/lib.rt:497:32
+-- src/lib.rt:512:32
 body-add-t11 : (t : ℕ) → body-lts.Need-add-t11 (
   head-reads.Asked,
   head-reads.Learnt,
@@ -213,7 +209,7 @@ body-add-t11 : (t : ℕ) → body-lts.Need-add-t11 (
 ) (body-at t) body.Post
 body-add-t11 t c = omega (arith, c .before .before .head .ensures 0 .within, c .before .before .before .before .before .before .before .before .before .pre .1 .short)
 
--- src/lib.rt:497:9
+-- src/lib.rt:512:9
 body-returns : (t : ℕ) → body-lts.Need-returns (
   head-reads.Asked,
   head-reads.Learnt,
@@ -224,7 +220,7 @@ body-returns : (t : ℕ) → body-lts.Need-returns (
 ) (body-at t) body.Post
 body-returns t c = body-none _ _ (c .before .before .before .before .before .before .before .before .before .args .f) _ (c .before .before .head .result) (c .before .before .head .ensures _) (c .before .before .before .if1 .taken)
 
--- src/lib.rt:499:37
+-- src/lib.rt:514:37
 body-deeper-requires : (t : ℕ) → body-lts.Need-deeper-requires (
   head-reads.Asked,
   head-reads.Learnt,
@@ -235,7 +231,7 @@ body-deeper-requires : (t : ℕ) → body-lts.Need-deeper-requires (
 ) (body-at t) body.Post
 body-deeper-requires t c κs = pos-of-ne-zero (c .before .if1 .left)
 
--- src/lib.rt:499:5
+-- src/lib.rt:514:5
 body-fields-requires : (t : ℕ) → body-lts.Need-fields-requires (
   head-reads.Asked,
   head-reads.Learnt,
@@ -246,7 +242,7 @@ body-fields-requires : (t : ℕ) → body-lts.Need-fields-requires (
 ) (body-at t) body.Post
 body-fields-requires t c κs = rw (c .deeper .ensures) (omega (arith, c .before .before .before .before .before .before .before .before .pre .1, pos-of-ne-zero (c .before .before .if1 .left)))
 
--- src/lib.rt:482:1
+-- src/lib.rt:497:1
 body-same-length : (t : ℕ) → body-lts.Need-same-length (
   head-reads.Asked,
   head-reads.Learnt,
@@ -257,7 +253,7 @@ body-same-length : (t : ℕ) → body-lts.Need-same-length (
 ) (body-at t) body.Post
 body-same-length t c = search needs
 
--- src/lib.rt:482:1
+-- src/lib.rt:497:1
 body-returns-2 : (t : ℕ) → body-lts.Need-returns-2 (
   head-reads.Asked,
   head-reads.Learnt,
@@ -268,7 +264,7 @@ body-returns-2 : (t : ℕ) → body-lts.Need-returns-2 (
 ) (body-at t) body.Post
 body-returns-2 t c = body-ends _ _ (c .before .before .before .before .before .before .before .before .before .before .before .args .f) _ _ _ (c .before .before .fields .result) (c .before .before .before .before .before .if1 .left) (rw (c .before .before .before .deeper .ensures) at (c .before .before .fields .ensures))
 
--- src/lib.rt:247:11
+-- src/lib.rt:248:11
 braced-open-brace-requires : (t : ℕ) → braced-lts.Need-open-brace-requires (
   open-brace-reads.Asked,
   open-brace-reads.Learnt,
@@ -281,7 +277,7 @@ braced-open-brace-requires : (t : ℕ) → braced-lts.Need-open-brace-requires (
 ) (braced-at t) braced.Post
 braced-open-brace-requires t c κs = omega (arith, c .before .before .before .before .pre .1 .0 .short)
 
--- src/lib.rt:248:20
+-- src/lib.rt:249:20
 braced-enum-known-a : (t : ℕ) → braced-lts.Need-enum-known-a (
   open-brace-reads.Asked,
   open-brace-reads.Learnt,
@@ -294,7 +290,7 @@ braced-enum-known-a : (t : ℕ) → braced-lts.Need-enum-known-a (
 ) (braced-at t) braced.Post
 braced-enum-known-a t c = search needs
 
--- src/lib.rt:250:40
+-- src/lib.rt:251:40
 braced-sub-body : (t : ℕ) → braced-lts.Need-sub-body (
   open-brace-reads.Asked,
   open-brace-reads.Learnt,
@@ -307,7 +303,7 @@ braced-sub-body : (t : ℕ) → braced-lts.Need-sub-body (
 ) (braced-at t) braced.Post
 braced-sub-body t c = let o = (rw (c .before .a .given .1) at (c .before .before .before .open-brace .ensures)) in omega (arith, o .within)
 
--- src/lib.rt:250:40
+-- src/lib.rt:251:40
 braced-part-body-start : (t : ℕ) → braced-lts.Need-part-body-start (
   open-brace-reads.Asked,
   open-brace-reads.Learnt,
@@ -320,7 +316,7 @@ braced-part-body-start : (t : ℕ) → braced-lts.Need-part-body-start (
 ) (braced-at t) braced.Post
 braced-part-body-start t c = let o = (rw (c .before .a .given .1) at (c .before .before .before .open-brace .ensures)) in omega (arith, o .within)
 
--- src/lib.rt:250:40
+-- src/lib.rt:251:40
 braced-part-body-end : (t : ℕ) → braced-lts.Need-part-body-end (
   open-brace-reads.Asked,
   open-brace-reads.Learnt,
@@ -333,7 +329,7 @@ braced-part-body-end : (t : ℕ) → braced-lts.Need-part-body-end (
 ) (braced-at t) braced.Post
 braced-part-body-end t c = let o = (rw (c .before .a .given .1) at (c .before .before .before .open-brace .ensures)) in omega (arith, o .within)
 
--- src/lib.rt:250:55
+-- src/lib.rt:251:55
 braced-inner-requires : (t : ℕ) → braced-lts.Need-inner-requires (
   open-brace-reads.Asked,
   open-brace-reads.Learnt,
@@ -346,7 +342,7 @@ braced-inner-requires : (t : ℕ) → braced-lts.Need-inner-requires (
 ) (braced-at t) braced.Post
 braced-inner-requires t c κs = let o = (rw (c .before .before .before .a .given .1) at (c .before .before .before .before .before .open-brace .ensures)) in omega (arith, o .within, c .before .before .before .before .before .before .before .before .before .before .pre .1 .0)
 
--- src/lib.rt:250:19
+-- src/lib.rt:251:19
 braced-body-requires : (t : ℕ) → braced-lts.Need-body-requires (
   open-brace-reads.Asked,
   open-brace-reads.Learnt,
@@ -359,7 +355,7 @@ braced-body-requires : (t : ℕ) → braced-lts.Need-body-requires (
 ) (braced-at t) braced.Post
 braced-body-requires t c κs = let o = (rw (c .before .before .before .before .a .given .1) at (c .before .before .before .before .before .before .open-brace .ensures)) in let q = room-inner (c .before .before .before .before .before .before .before .before .before .before .before .args .f) (now (c .before .before .before .before .before .before .before .before .before .before .before .args .s)) _ _ 0 (c .before .before .before .before .before .before .before .before .before .before .before .pre .1 .0) (step-within _ _ _ _ _ _ o .0) (o .within) in rw (c .inner .ensures) (omega (arith, q))
 
--- src/lib.rt:251:27
+-- src/lib.rt:252:27
 braced-enum-known-w : (t : ℕ) → braced-lts.Need-enum-known-w (
   open-brace-reads.Asked,
   open-brace-reads.Learnt,
@@ -372,7 +368,7 @@ braced-enum-known-w : (t : ℕ) → braced-lts.Need-enum-known-w (
 ) (braced-at t) braced.Post
 braced-enum-known-w t c = search needs
 
--- src/lib.rt:251:63
+-- src/lib.rt:252:63
 braced-add-shut : (t : ℕ) → braced-lts.Need-add-shut (
   open-brace-reads.Asked,
   open-brace-reads.Learnt,
@@ -385,7 +381,7 @@ braced-add-shut : (t : ℕ) → braced-lts.Need-add-shut (
 ) (braced-at t) braced.Post
 braced-add-shut t c = let b = (rw (c .before .before .before .before .before .before .before .before .inner .ensures, c .before .before .before .w .given .1) at (c .before .before .before .before .before .before .before .body .ensures)) in omega (arith, braced-within _ _ (c .before .before .before .before .before .before .before .before .before .before .before .before .before .before .before .before .before .before .before .args .f) _ _ _ _ _ [] (rw (c .before .before .before .before .before .before .before .before .before .before .before .before .a .given .1) at (c .before .before .before .before .before .before .before .before .before .before .before .before .before .before .open-brace .ensures)) _ _ b, c .before .before .before .before .before .before .before .before .before .before .before .before .before .before .before .before .before .before .before .pre .1 .0)
 
--- src/lib.rt:251:36
+-- src/lib.rt:252:36
 braced-shut-requires : (t : ℕ) → braced-lts.Need-shut-requires (
   open-brace-reads.Asked,
   open-brace-reads.Learnt,
@@ -398,7 +394,7 @@ braced-shut-requires : (t : ℕ) → braced-lts.Need-shut-requires (
 ) (braced-at t) braced.Post
 braced-shut-requires t c κs = let o = (rw (c .before .before .before .before .before .before .before .before .before .before .before .before .a .given .1) at (c .before .before .before .before .before .before .before .before .before .before .before .before .before .before .open-brace .ensures)) in omega (arith, o .less, o .within, c .before .before .before .before .before .before .before .before .before .before .before .before .before .before .before .before .before .before .before .pre .1 .0, c .before .before .before .before .before .before .before .before .before .before .before .before .before .before .before .before .before .before .before .pre .1 .1)
 
--- src/lib.rt:252:30
+-- src/lib.rt:253:30
 braced-enum-known-k : (t : ℕ) → braced-lts.Need-enum-known-k (
   open-brace-reads.Asked,
   open-brace-reads.Learnt,
@@ -411,7 +407,7 @@ braced-enum-known-k : (t : ℕ) → braced-lts.Need-enum-known-k (
 ) (braced-at t) braced.Post
 braced-enum-known-k t c = search needs
 
--- src/lib.rt:255:25
+-- src/lib.rt:256:25
 braced-enum-known-k-2 : (t : ℕ) → braced-lts.Need-enum-known-k-2 (
   open-brace-reads.Asked,
   open-brace-reads.Learnt,
@@ -424,7 +420,7 @@ braced-enum-known-k-2 : (t : ℕ) → braced-lts.Need-enum-known-k-2 (
 ) (braced-at t) braced.Post
 braced-enum-known-k-2 t c = search needs
 
--- src/lib.rt:234:1
+-- src/lib.rt:235:1
 braced-same-length : (t : ℕ) → braced-lts.Need-same-length (
   open-brace-reads.Asked,
   open-brace-reads.Learnt,
@@ -437,7 +433,7 @@ braced-same-length : (t : ℕ) → braced-lts.Need-same-length (
 ) (braced-at t) braced.Post
 braced-same-length t c = search needs
 
--- src/lib.rt:234:1
+-- src/lib.rt:235:1
 braced-returns : (t : ℕ) → braced-lts.Need-returns (
   open-brace-reads.Asked,
   open-brace-reads.Learnt,
@@ -450,7 +446,7 @@ braced-returns : (t : ℕ) → braced-lts.Need-returns (
 ) (braced-at t) braced.Post
 braced-returns t c = braced-ends _ _ (c .before .before .before .before .before .before .before .before .before .before .before .before .before .before .before .before .before .before .before .before .before .before .args .f) _ _ _ _ _ _ (rw (c .before .before .before .before .before .before .before .before .before .before .before .before .before .before .before .a .given .1) at (c .before .before .before .before .before .before .before .before .before .before .before .before .before .before .before .before .before .open-brace .ensures)) _ _ (rw (c .before .before .before .before .before .before .before .before .before .before .before .inner .ensures, c .before .before .before .before .before .before .w .given .1) at (c .before .before .before .before .before .before .before .before .before .before .body .ensures)) (c .before .before .shut .result) (c .before .before .shut .ensures)
 
--- src/lib.rt:234:1
+-- src/lib.rt:235:1
 braced-same-length-2 : (t : ℕ) → braced-lts.Need-same-length-2 (
   open-brace-reads.Asked,
   open-brace-reads.Learnt,
@@ -463,7 +459,7 @@ braced-same-length-2 : (t : ℕ) → braced-lts.Need-same-length-2 (
 ) (braced-at t) braced.Post
 braced-same-length-2 t c = search needs
 
--- src/lib.rt:234:1
+-- src/lib.rt:235:1
 braced-returns-2 : (t : ℕ) → braced-lts.Need-returns-2 (
   open-brace-reads.Asked,
   open-brace-reads.Learnt,
@@ -476,7 +472,7 @@ braced-returns-2 : (t : ℕ) → braced-lts.Need-returns-2 (
 ) (braced-at t) braced.Post
 braced-returns-2 t c = braced-refused _ _ (c .before .before .before .before .before .before .before .before .before .before .before .before .before .before .before .before .before .args .f) _ _ _ [] [] [] (rw (c .before .before .before .before .before .before .before .before .before .before .a .given .1) at (c .before .before .before .before .before .before .before .before .before .before .before .before .open-brace .ensures)) _ _ (rw (c .before .before .before .before .before .before .inner .ensures, c .before .k .given .1) at (c .before .before .before .before .before .body .ensures))
 
--- src/lib.rt:234:1
+-- src/lib.rt:235:1
 braced-returns-3 : (t : ℕ) → braced-lts.Need-returns-3 (
   open-brace-reads.Asked,
   open-brace-reads.Learnt,
@@ -495,7 +491,7 @@ choice-Inv-loop table offs n s rows₀ f g₀ rows g = Choosing (schemaAt table 
 abbrev choice-μ-loop : choice-lts.MeasureT-loop
 choice-μ-loop table offs n s rows₀ f g₀ rows g = length s - g .at
 
--- src/lib.rt:209:5
+-- src/lib.rt:210:5
 choice-loop-holds : (t : ℕ) → choice-lts.Need-loop-holds (
   core-reads.Asked,
   core-reads.Learnt,
@@ -516,7 +512,7 @@ choice-loop-holds : (t : ℕ) → choice-lts.Need-loop-holds (
 ) (choice-at t) choice.Post choice-Inv-loop choice-μ-loop
 choice-loop-holds t c = choosing-start _ _ _ _ _ (c .before .before .before .before .pre .1 .0) (c .before .before .before .before .pre .1 .1)
 
--- src/lib.rt:210:13
+-- src/lib.rt:211:13
 choice-core-requires : (t : ℕ) → choice-lts.Need-core-requires (
   core-reads.Asked,
   core-reads.Learnt,
@@ -537,7 +533,7 @@ choice-core-requires : (t : ℕ) → choice-lts.Need-core-requires (
 ) (choice-at t) choice.Post choice-Inv-loop choice-μ-loop
 choice-core-requires t c κs = search needs
 
--- src/lib.rt:211:13
+-- src/lib.rt:212:13
 choice-is-union-requires : (t : ℕ) → choice-lts.Need-is-union-requires (
   core-reads.Asked,
   core-reads.Learnt,
@@ -558,7 +554,7 @@ choice-is-union-requires : (t : ℕ) → choice-lts.Need-is-union-requires (
 ) (choice-at t) choice.Post choice-Inv-loop choice-μ-loop
 choice-is-union-requires t c κs = search needs
 
--- src/lib.rt:212:17
+-- src/lib.rt:213:17
 choice-value-requires : (t : ℕ) → choice-lts.Need-value-requires (
   core-reads.Asked,
   core-reads.Learnt,
@@ -579,7 +575,7 @@ choice-value-requires : (t : ℕ) → choice-lts.Need-value-requires (
 ) (choice-at t) choice.Post choice-Inv-loop choice-μ-loop
 choice-value-requires t c κs = let r = (choosing-room (c .before .before .before .before .loop .inv)) in omega (arith, r, c .before .before .before .before .loop .inv .down .named, choosing-depth (c .before .before .before .before .loop .inv))
 
--- src/lib.rt:213:13
+-- src/lib.rt:214:13
 choice-close-chain-requires : (t : ℕ) → choice-lts.Need-close-chain-requires (
   core-reads.Asked,
   core-reads.Learnt,
@@ -600,7 +596,7 @@ choice-close-chain-requires : (t : ℕ) → choice-lts.Need-close-chain-requires
 ) (choice-at t) choice.Post choice-Inv-loop choice-μ-loop
 choice-close-chain-requires t c κs = let r = (choosing-room (c .before .before .before .before .before .before .before .before .loop .inv)) in omega (arith, r, plain-fits _ _ _ _ _ _ (c .before .before .before .value .result) (c .before .before .before .before .before .before .before .core .ensures) (sym (c .before .before .before .before .before .before .is-union .ensures) ∙ not-true _ (c .before .before .before .before .before .if1 .taken)) (c .before .before .before .value .ensures), c .before .before .before .before .before .before .before .before .before .before .before .before .before .pre .1 .0)
 
--- src/lib.rt:213:13
+-- src/lib.rt:214:13
 choice-same-length : (t : ℕ) → choice-lts.Need-same-length (
   core-reads.Asked,
   core-reads.Learnt,
@@ -621,7 +617,7 @@ choice-same-length : (t : ℕ) → choice-lts.Need-same-length (
 ) (choice-at t) choice.Post choice-Inv-loop choice-μ-loop
 choice-same-length t c = search needs
 
--- src/lib.rt:213:13
+-- src/lib.rt:214:13
 choice-returns : (t : ℕ) → choice-lts.Need-returns (
   core-reads.Asked,
   core-reads.Learnt,
@@ -642,7 +638,7 @@ choice-returns : (t : ℕ) → choice-lts.Need-returns (
 ) (choice-at t) choice.Post choice-Inv-loop choice-μ-loop
 choice-returns t c = choosing-value (c .before .before .before .before .before .before .before .before .before .before .before .loop .inv) _ _ _ _ (c .before .before .before .before .before .before .value .result) (c .before .before .before .before .before .before .before .before .before .before .core .ensures) (sym (c .before .before .before .before .before .before .before .before .before .is-union .ensures) ∙ not-true _ (c .before .before .before .before .before .before .before .before .if1 .taken)) (c .before .before .before .before .before .before .value .ensures) (c .before .before .close-chain .ensures .0) (c .before .before .close-chain .ensures .1)
 
--- src/lib.rt:215:15
+-- src/lib.rt:216:15
 choice-choose-requires : (t : ℕ) → choice-lts.Need-choose-requires (
   core-reads.Asked,
   core-reads.Learnt,
@@ -663,7 +659,7 @@ choice-choose-requires : (t : ℕ) → choice-lts.Need-choose-requires (
 ) (choice-at t) choice.Post choice-Inv-loop choice-μ-loop
 choice-choose-requires t c κs = let r = (choosing-room (c .before .before .before .loop .inv)) in omega (arith, r)
 
--- src/lib.rt:216:28
+-- src/lib.rt:217:28
 choice-enum-known-q : (t : ℕ) → choice-lts.Need-enum-known-q (
   core-reads.Asked,
   core-reads.Learnt,
@@ -684,7 +680,7 @@ choice-enum-known-q : (t : ℕ) → choice-lts.Need-enum-known-q (
 ) (choice-at t) choice.Post choice-Inv-loop choice-μ-loop
 choice-enum-known-q t c = search needs
 
--- src/lib.rt:217:17
+-- src/lib.rt:218:17
 choice-open-row-requires : (t : ℕ) → choice-lts.Need-open-row-requires (
   core-reads.Asked,
   core-reads.Learnt,
@@ -705,7 +701,7 @@ choice-open-row-requires : (t : ℕ) → choice-lts.Need-open-row-requires (
 ) (choice-at t) choice.Post choice-Inv-loop choice-μ-loop
 choice-open-row-requires t c κs = let r = (choosing-room (c .before .before .before .before .before .before .before .before .loop .inv)) in let d = deeper-less (c .before .before .before .before .before .before .before .before .loop .inv) _ _ _ _ (rw (c .before .before .q .given .1) at (c .before .before .before .before .choose .ensures)) in omega (arith, r, d, c .before .before .before .before .before .before .before .before .loop .inv .down .named)
 
--- src/lib.rt:218:17
+-- src/lib.rt:219:17
 choice-under-requires : (t : ℕ) → choice-lts.Need-under-requires (
   core-reads.Asked,
   core-reads.Learnt,
@@ -726,7 +722,7 @@ choice-under-requires : (t : ℕ) → choice-lts.Need-under-requires (
 ) (choice-at t) choice.Post choice-Inv-loop choice-μ-loop
 choice-under-requires t c κs = let r = (choosing-room (c .before .before .before .before .before .before .before .before .before .before .before .loop .inv)) in omega (arith, r)
 
--- src/lib.rt:209:5
+-- src/lib.rt:210:5
 choice-loop-less : (t : ℕ) → choice-lts.Need-loop-less (
   core-reads.Asked,
   core-reads.Learnt,
@@ -747,7 +743,7 @@ choice-loop-less : (t : ℕ) → choice-lts.Need-loop-less (
 ) (choice-at t) choice.Post choice-Inv-loop choice-μ-loop
 choice-loop-less t c = let d = deeper-less (c .before .before .before .before .before .before .before .before .before .before .before .before .loop .inv) _ _ _ _ (rw (c .before .before .before .before .before .before .q .given .1) at (c .before .before .before .before .before .before .before .before .choose .ensures)) in rw (c .under .ensures) (omega (arith, d))
 
--- src/lib.rt:209:5
+-- src/lib.rt:210:5
 choice-loop-again : (t : ℕ) → choice-lts.Need-loop-again (
   core-reads.Asked,
   core-reads.Learnt,
@@ -768,7 +764,7 @@ choice-loop-again : (t : ℕ) → choice-lts.Need-loop-again (
 ) (choice-at t) choice.Post choice-Inv-loop choice-μ-loop
 choice-loop-again t c = choosing-on (c .before .before .before .before .before .before .before .before .before .before .before .before .loop .inv) _ _ _ _ _ _ (c .before .before .before .before .before .before .before .before .before .before .before .core .ensures) (sym (c .before .before .before .before .before .before .before .before .before .before .is-union .ensures) ∙ not-false _ (c .before .before .before .before .before .before .before .before .before .if1 .left)) (rw (c .before .before .before .before .before .before .q .given .1) at (c .before .before .before .before .before .before .before .before .choose .ensures)) (c .before .before .before .open-row .ensures) (c .under .ensures)
 
--- src/lib.rt:220:26
+-- src/lib.rt:221:26
 choice-enum-known-q-2 : (t : ℕ) → choice-lts.Need-enum-known-q-2 (
   core-reads.Asked,
   core-reads.Learnt,
@@ -789,7 +785,7 @@ choice-enum-known-q-2 : (t : ℕ) → choice-lts.Need-enum-known-q-2 (
 ) (choice-at t) choice.Post choice-Inv-loop choice-μ-loop
 choice-enum-known-q-2 t c = search needs
 
--- src/lib.rt:221:21
+-- src/lib.rt:222:21
 choice-whole-requires : (t : ℕ) → choice-lts.Need-whole-requires (
   core-reads.Asked,
   core-reads.Learnt,
@@ -810,7 +806,7 @@ choice-whole-requires : (t : ℕ) → choice-lts.Need-whole-requires (
 ) (choice-at t) choice.Post choice-Inv-loop choice-μ-loop
 choice-whole-requires t c κs = let r = (choosing-room (c .before .before .before .before .before .before .before .before .loop .inv)) in let w = (rw (c .before .before .q2 .given .1) at (c .before .before .before .before .choose .ensures)) in omega (arith, r, w .step .less, w .step .within, w .below, c .before .before .before .before .before .before .before .before .loop .inv .down .named)
 
--- src/lib.rt:222:17
+-- src/lib.rt:223:17
 choice-close-chain-requires-2 : (t : ℕ) → choice-lts.Need-close-chain-requires-2 (
   core-reads.Asked,
   core-reads.Learnt,
@@ -831,7 +827,7 @@ choice-close-chain-requires-2 : (t : ℕ) → choice-lts.Need-close-chain-requir
 ) (choice-at t) choice.Post choice-Inv-loop choice-μ-loop
 choice-close-chain-requires-2 t c κs = let r = (choosing-room (c .before .before .before .before .before .before .before .before .before .before .before .before .loop .inv)) in let w = (rw (c .before .before .before .before .before .before .q2 .given .1) at (c .before .before .before .before .before .before .before .before .choose .ensures)) in omega (arith, r, w .step .within, c .before .before .before .before .before .before .before .before .before .before .before .before .before .before .before .before .before .pre .1 .0, whole-fits _ _ _ _ _ _ (c .before .before .before .whole .result) (c .before .before .before .whole .ensures))
 
--- src/lib.rt:222:17
+-- src/lib.rt:223:17
 choice-same-length-2 : (t : ℕ) → choice-lts.Need-same-length-2 (
   core-reads.Asked,
   core-reads.Learnt,
@@ -852,7 +848,7 @@ choice-same-length-2 : (t : ℕ) → choice-lts.Need-same-length-2 (
 ) (choice-at t) choice.Post choice-Inv-loop choice-μ-loop
 choice-same-length-2 t c = search needs
 
--- src/lib.rt:222:17
+-- src/lib.rt:223:17
 choice-returns-2 : (t : ℕ) → choice-lts.Need-returns-2 (
   core-reads.Asked,
   core-reads.Learnt,
@@ -873,7 +869,7 @@ choice-returns-2 : (t : ℕ) → choice-lts.Need-returns-2 (
 ) (choice-at t) choice.Post choice-Inv-loop choice-μ-loop
 choice-returns-2 t c = choosing-whole (c .before .before .before .before .before .before .before .before .before .before .before .before .before .before .before .loop .inv) _ _ _ _ _ _ _ (c .before .before .before .before .before .before .whole .result) (c .before .before .before .before .before .before .before .before .before .before .before .before .before .before .core .ensures) (sym (c .before .before .before .before .before .before .before .before .before .before .before .before .before .is-union .ensures) ∙ not-false _ (c .before .before .before .before .before .before .before .before .before .before .before .before .if1 .left)) (rw (c .before .before .before .before .before .before .before .before .before .q2 .given .1) at (c .before .before .before .before .before .before .before .before .before .before .before .choose .ensures)) (c .before .before .before .before .before .before .whole .ensures) (c .before .before .close-chain2 .ensures .0) (c .before .before .close-chain2 .ensures .1)
 
--- src/lib.rt:224:29
+-- src/lib.rt:225:29
 choice-enum-known-k : (t : ℕ) → choice-lts.Need-enum-known-k (
   core-reads.Asked,
   core-reads.Learnt,
@@ -894,7 +890,7 @@ choice-enum-known-k : (t : ℕ) → choice-lts.Need-enum-known-k (
 ) (choice-at t) choice.Post choice-Inv-loop choice-μ-loop
 choice-enum-known-k t c = search needs
 
--- src/lib.rt:225:17
+-- src/lib.rt:226:17
 choice-same-length-3 : (t : ℕ) → choice-lts.Need-same-length-3 (
   core-reads.Asked,
   core-reads.Learnt,
@@ -915,7 +911,7 @@ choice-same-length-3 : (t : ℕ) → choice-lts.Need-same-length-3 (
 ) (choice-at t) choice.Post choice-Inv-loop choice-μ-loop
 choice-same-length-3 t c = search needs
 
--- src/lib.rt:225:17
+-- src/lib.rt:226:17
 choice-returns-3 : (t : ℕ) → choice-lts.Need-returns-3 (
   core-reads.Asked,
   core-reads.Learnt,
@@ -936,151 +932,178 @@ choice-returns-3 : (t : ℕ) → choice-lts.Need-returns-3 (
 ) (choice-at t) choice.Post choice-Inv-loop choice-μ-loop
 choice-returns-3 t c = choosing-stopped (c .before .before .before .before .before .before .before .loop .inv) _ _ _ (c .before .before .before .before .before .before .core .ensures) (sym (c .before .before .before .before .before .is-union .ensures) ∙ not-false _ (c .before .before .before .before .if1 .left)) (rw (c .before .k .given .1) at (c .before .before .before .choose .ensures))
 
--- src/lib.rt:291:11
-element-choice-requires : (t : ℕ) → element-lts.Need-choice-requires (
-  choice-below t,
-  choice.Post,
+-- src/lib.rt:327:11
+element-list-value-requires : (t : ℕ) → element-lts.Need-list-value-requires (
+  list-value-below t,
+  list-value.Post,
   after-value-reads.Asked,
   after-value-reads.Learnt,
 ) (element-at t) element.Post
-element-choice-requires t c κs = omega (arith, c .before .before .before .before .before .pre .1)
+element-list-value-requires t c κs = (omega arith, c .before .before .before .before .before .pre .1)
 
--- src/lib.rt:292:19
+-- src/lib.rt:328:19
 element-enum-known-v : (t : ℕ) → element-lts.Need-enum-known-v (
-  choice-below t,
-  choice.Post,
+  list-value-below t,
+  list-value.Post,
   after-value-reads.Asked,
   after-value-reads.Learnt,
 ) (element-at t) element.Post
 element-enum-known-v t c = search needs
 
--- src/lib.rt:300:13
+-- src/lib.rt:329:21
+element-enum-known-v-2 : (t : ℕ) → element-lts.Need-enum-known-v-2 (
+  list-value-below t,
+  list-value.Post,
+  after-value-reads.Asked,
+  after-value-reads.Learnt,
+) (element-at t) element.Post
+element-enum-known-v-2 t c = search needs
+
+-- src/lib.rt:337:13
 element-add-after-value : (t : ℕ) → element-lts.Need-add-after-value (
-  choice-below t,
-  choice.Post,
+  list-value-below t,
+  list-value.Post,
   after-value-reads.Asked,
   after-value-reads.Learnt,
 ) (element-at t) element.Post
 element-add-after-value t c = omega (arith, c .before .before .before .before .before .before .before .before .before .before .before .pre .1 .1)
 
--- src/lib.rt:292:34
+-- src/lib.rt:329:36
 element-after-value-requires : (t : ℕ) → element-lts.Need-after-value-requires (
-  choice-below t,
-  choice.Post,
+  list-value-below t,
+  list-value.Post,
   after-value-reads.Asked,
   after-value-reads.Learnt,
 ) (element-at t) element.Post
 element-after-value-requires t c κs = omega (arith, c .before .before .before .before .before .before .before .before .before .before .before .pre .1 .0 .short)
 
--- src/lib.rt:302:25
+-- src/lib.rt:339:25
 element-enum-known-w : (t : ℕ) → element-lts.Need-enum-known-w (
-  choice-below t,
-  choice.Post,
+  list-value-below t,
+  list-value.Post,
   after-value-reads.Asked,
   after-value-reads.Learnt,
 ) (element-at t) element.Post
 element-enum-known-w t c = search needs
 
--- src/lib.rt:303:38
+-- src/lib.rt:340:38
 element-enum-told : (t : ℕ) → element-lts.Need-enum-told (
-  choice-below t,
-  choice.Post,
+  list-value-below t,
+  list-value.Post,
   after-value-reads.Asked,
   after-value-reads.Learnt,
 ) (element-at t) element.Post
 element-enum-told t c = search needs
 
--- src/lib.rt:304:28
+-- src/lib.rt:341:28
 element-enum-known-k : (t : ℕ) → element-lts.Need-enum-known-k (
-  choice-below t,
-  choice.Post,
+  list-value-below t,
+  list-value.Post,
   after-value-reads.Asked,
   after-value-reads.Learnt,
 ) (element-at t) element.Post
 element-enum-known-k t c = search needs
 
--- src/lib.rt:306:22
+-- src/lib.rt:343:24
 element-enum-known-k-2 : (t : ℕ) → element-lts.Need-enum-known-k-2 (
-  choice-below t,
-  choice.Post,
+  list-value-below t,
+  list-value.Post,
   after-value-reads.Asked,
   after-value-reads.Learnt,
 ) (element-at t) element.Post
 element-enum-known-k-2 t c = search needs
 
--- src/lib.rt:278:1
+-- src/lib.rt:312:1
 element-same-length : (t : ℕ) → element-lts.Need-same-length (
-  choice-below t,
-  choice.Post,
+  list-value-below t,
+  list-value.Post,
   after-value-reads.Asked,
   after-value-reads.Learnt,
 ) (element-at t) element.Post
 element-same-length t c = search needs
 
--- src/lib.rt:278:1
+-- src/lib.rt:312:1
 element-returns : (t : ℕ) → element-lts.Need-returns (
-  choice-below t,
-  choice.Post,
+  list-value-below t,
+  list-value.Post,
   after-value-reads.Asked,
   after-value-reads.Learnt,
 ) (element-at t) element.Post
-element-returns t c = element-more _ _ (c .before .before .before .before .before .before .before .before .before .before .before .before .before .before .before .args .f) _ _ _ _ _ (rw (c .before .before .before .before .before .v .given .1) at (c .before .before .before .before .before .before .before .before .before .choice .ensures)) _ (rw (c .before .w .given .1) at (c .before .before .before .after-value .ensures))
+element-returns t c = rw (c .before .v .given .1) at (c .before .before .before .before .before .list-value .ensures)
 
--- src/lib.rt:278:1
+-- src/lib.rt:312:1
 element-same-length-2 : (t : ℕ) → element-lts.Need-same-length-2 (
-  choice-below t,
-  choice.Post,
+  list-value-below t,
+  list-value.Post,
   after-value-reads.Asked,
   after-value-reads.Learnt,
 ) (element-at t) element.Post
 element-same-length-2 t c = search needs
 
--- src/lib.rt:278:1
+-- src/lib.rt:312:1
 element-returns-2 : (t : ℕ) → element-lts.Need-returns-2 (
-  choice-below t,
-  choice.Post,
+  list-value-below t,
+  list-value.Post,
   after-value-reads.Asked,
   after-value-reads.Learnt,
 ) (element-at t) element.Post
-element-returns-2 t c = element-last _ _ (c .before .before .before .before .before .before .before .before .before .before .before .before .before .before .args .f) _ _ _ _ _ (rw (c .before .before .before .before .v .given .1) at (c .before .before .before .before .before .before .before .before .choice .ensures)) (rw (c .enum-told .given .1) at (c .before .before .after-value .ensures))
+element-returns-2 t c = element-more _ _ (c .before .before .before .before .before .before .before .before .before .before .before .before .before .before .before .args .f) _ _ _ _ _ (rw (c .before .before .before .before .before .v2 .given .1) at (c .before .before .before .before .before .before .before .before .before .list-value .ensures)) _ (rw (c .before .w .given .1) at (c .before .before .before .after-value .ensures))
 
--- src/lib.rt:278:1
+-- src/lib.rt:312:1
 element-same-length-3 : (t : ℕ) → element-lts.Need-same-length-3 (
-  choice-below t,
-  choice.Post,
+  list-value-below t,
+  list-value.Post,
   after-value-reads.Asked,
   after-value-reads.Learnt,
 ) (element-at t) element.Post
 element-same-length-3 t c = search needs
 
--- src/lib.rt:278:1
+-- src/lib.rt:312:1
 element-returns-3 : (t : ℕ) → element-lts.Need-returns-3 (
-  choice-below t,
-  choice.Post,
+  list-value-below t,
+  list-value.Post,
   after-value-reads.Asked,
   after-value-reads.Learnt,
 ) (element-at t) element.Post
-element-returns-3 t c = element-after _ _ (c .before .before .before .before .before .before .before .before .before .before .before .before .before .before .before .args .f) _ _ _ _ _ (rw (c .before .before .before .before .before .v .given .1) at (c .before .before .before .before .before .before .before .before .before .choice .ensures)) _ _ (rw (c .before .k .given .1) at (c .before .before .before .after-value .ensures))
+element-returns-3 t c = element-last _ _ (c .before .before .before .before .before .before .before .before .before .before .before .before .before .before .args .f) _ _ _ _ _ (rw (c .before .before .before .before .v2 .given .1) at (c .before .before .before .before .before .before .before .before .list-value .ensures)) (rw (c .enum-told .given .1) at (c .before .before .after-value .ensures))
 
--- src/lib.rt:278:1
+-- src/lib.rt:312:1
 element-same-length-4 : (t : ℕ) → element-lts.Need-same-length-4 (
-  choice-below t,
-  choice.Post,
+  list-value-below t,
+  list-value.Post,
   after-value-reads.Asked,
   after-value-reads.Learnt,
 ) (element-at t) element.Post
 element-same-length-4 t c = search needs
 
--- src/lib.rt:278:1
+-- src/lib.rt:312:1
 element-returns-4 : (t : ℕ) → element-lts.Need-returns-4 (
-  choice-below t,
-  choice.Post,
+  list-value-below t,
+  list-value.Post,
   after-value-reads.Asked,
   after-value-reads.Learnt,
 ) (element-at t) element.Post
-element-returns-4 t c = element-refused _ _ (c .before .before .before .before .before .before .before .before .before .before .before .args .f) _ _ _ (rw (c .before .k2 .given .1) at (c .before .before .before .before .before .choice .ensures))
+element-returns-4 t c = element-after _ _ (c .before .before .before .before .before .before .before .before .before .before .before .before .before .before .before .args .f) _ _ _ _ _ (rw (c .before .before .before .before .before .v2 .given .1) at (c .before .before .before .before .before .before .before .before .before .list-value .ensures)) _ _ (rw (c .before .k .given .1) at (c .before .before .before .after-value .ensures))
 
--- src/lib.rt:438:11
+-- src/lib.rt:312:1
+element-same-length-5 : (t : ℕ) → element-lts.Need-same-length-5 (
+  list-value-below t,
+  list-value.Post,
+  after-value-reads.Asked,
+  after-value-reads.Learnt,
+) (element-at t) element.Post
+element-same-length-5 t c = search needs
+
+-- src/lib.rt:312:1
+element-returns-5 : (t : ℕ) → element-lts.Need-returns-5 (
+  list-value-below t,
+  list-value.Post,
+  after-value-reads.Asked,
+  after-value-reads.Learnt,
+) (element-at t) element.Post
+element-returns-5 t c = element-refused _ _ (c .before .before .before .before .before .before .before .before .before .before .before .args .f) _ _ _ (rw (c .before .k2 .given .1) at (c .before .before .before .before .before .list-value .ensures))
+
+-- src/lib.rt:453:11
 field-field-at-requires : (t : ℕ) → field-lts.Need-field-at-requires (
   field-at-reads.Asked,
   field-at-reads.Learnt,
@@ -1089,7 +1112,7 @@ field-field-at-requires : (t : ℕ) → field-lts.Need-field-at-requires (
 ) (field-at t) field.Post
 field-field-at-requires t c κs = omega (arith, c .before .before .before .before .pre .1 .0 .short)
 
--- src/lib.rt:439:54
+-- src/lib.rt:454:54
 field-enum-told : (t : ℕ) → field-lts.Need-enum-told (
   field-at-reads.Asked,
   field-at-reads.Learnt,
@@ -1098,7 +1121,7 @@ field-enum-told : (t : ℕ) → field-lts.Need-enum-told (
 ) (field-at t) field.Post
 field-enum-told t c = search needs
 
--- src/lib.rt:439:30
+-- src/lib.rt:454:30
 field-list-requires : (t : ℕ) → field-lts.Need-list-requires (
   field-at-reads.Asked,
   field-at-reads.Learnt,
@@ -1107,7 +1130,7 @@ field-list-requires : (t : ℕ) → field-lts.Need-list-requires (
 ) (field-at t) field.Post
 field-list-requires t c κs = omega (arith, c .before .before .before .before .before .before .before .before .pre .1)
 
--- src/lib.rt:440:23
+-- src/lib.rt:455:23
 field-enum-known-v : (t : ℕ) → field-lts.Need-enum-known-v (
   field-at-reads.Asked,
   field-at-reads.Learnt,
@@ -1116,7 +1139,7 @@ field-enum-known-v : (t : ℕ) → field-lts.Need-enum-known-v (
 ) (field-at t) field.Post
 field-enum-known-v t c = search needs
 
--- src/lib.rt:441:26
+-- src/lib.rt:456:26
 field-enum-known-k : (t : ℕ) → field-lts.Need-enum-known-k (
   field-at-reads.Asked,
   field-at-reads.Learnt,
@@ -1125,7 +1148,7 @@ field-enum-known-k : (t : ℕ) → field-lts.Need-enum-known-k (
 ) (field-at t) field.Post
 field-enum-known-k t c = search needs
 
--- src/lib.rt:443:43
+-- src/lib.rt:458:43
 field-enum-told-2 : (t : ℕ) → field-lts.Need-enum-told-2 (
   field-at-reads.Asked,
   field-at-reads.Learnt,
@@ -1134,7 +1157,7 @@ field-enum-told-2 : (t : ℕ) → field-lts.Need-enum-told-2 (
 ) (field-at t) field.Post
 field-enum-told-2 t c = search needs
 
--- src/lib.rt:444:24
+-- src/lib.rt:459:24
 field-enum-known-k-2 : (t : ℕ) → field-lts.Need-enum-known-k-2 (
   field-at-reads.Asked,
   field-at-reads.Learnt,
@@ -1143,7 +1166,7 @@ field-enum-known-k-2 : (t : ℕ) → field-lts.Need-enum-known-k-2 (
 ) (field-at t) field.Post
 field-enum-known-k-2 t c = search needs
 
--- src/lib.rt:425:1
+-- src/lib.rt:440:1
 field-same-length : (t : ℕ) → field-lts.Need-same-length (
   field-at-reads.Asked,
   field-at-reads.Learnt,
@@ -1152,7 +1175,7 @@ field-same-length : (t : ℕ) → field-lts.Need-same-length (
 ) (field-at t) field.Post
 field-same-length t c = search needs
 
--- src/lib.rt:425:1
+-- src/lib.rt:440:1
 field-returns : (t : ℕ) → field-lts.Need-returns (
   field-at-reads.Asked,
   field-at-reads.Learnt,
@@ -1161,7 +1184,7 @@ field-returns : (t : ℕ) → field-lts.Need-returns (
 ) (field-at t) field.Post
 field-returns t c = λ p qs. field-on _ _ (c .before .before .before .before .before .before .before .before .before .before .before .before .before .before .args .f) _ _ _ p qs ((rw (c .before .before .before .before .before .before .before .enum-told .given .1) at (c .before .before .before .before .before .before .before .before .before .field-at .ensures)) _ p qs) _ _ (rw (c .before .v .given .1) at (c .before .before .before .before .before .list .ensures))
 
--- src/lib.rt:425:1
+-- src/lib.rt:440:1
 field-same-length-2 : (t : ℕ) → field-lts.Need-same-length-2 (
   field-at-reads.Asked,
   field-at-reads.Learnt,
@@ -1170,7 +1193,7 @@ field-same-length-2 : (t : ℕ) → field-lts.Need-same-length-2 (
 ) (field-at t) field.Post
 field-same-length-2 t c = search needs
 
--- src/lib.rt:425:1
+-- src/lib.rt:440:1
 field-returns-2 : (t : ℕ) → field-lts.Need-returns-2 (
   field-at-reads.Asked,
   field-at-reads.Learnt,
@@ -1179,7 +1202,7 @@ field-returns-2 : (t : ℕ) → field-lts.Need-returns-2 (
 ) (field-at t) field.Post
 field-returns-2 t c = λ p qs. field-refused _ _ (c .before .before .before .before .before .before .before .before .before .before .before .before .before .before .args .f) _ [] [] p qs ((rw (c .before .before .before .before .before .before .before .enum-told .given .1) at (c .before .before .before .before .before .before .before .before .before .field-at .ensures)) _ p qs) _ _ (rw (c .before .k .given .1) at (c .before .before .before .before .before .list .ensures))
 
--- src/lib.rt:425:1
+-- src/lib.rt:440:1
 field-returns-3 : (t : ℕ) → field-lts.Need-returns-3 (
   field-at-reads.Asked,
   field-at-reads.Learnt,
@@ -1188,7 +1211,7 @@ field-returns-3 : (t : ℕ) → field-lts.Need-returns-3 (
 ) (field-at t) field.Post
 field-returns-3 t c = λ p qs. field-none _ _ (c .before .before .before .before .before .before .before .args .f) _ _ p qs ((rw (c .enum-told2 .given .1) at (c .before .before .field-at .ensures)) _ p qs) (c .before .before .before .before .before .before .before .pre .1 .0 .here)
 
--- src/lib.rt:425:1
+-- src/lib.rt:440:1
 field-returns-4 : (t : ℕ) → field-lts.Need-returns-4 (
   field-at-reads.Asked,
   field-at-reads.Learnt,
@@ -1203,7 +1226,7 @@ fields-Inv-loop table offs n s rows₀ inside g₀ i₀ rows g i = Fielding tabl
 abbrev fields-μ-loop : fields-lts.MeasureT-loop
 fields-μ-loop table offs n s rows₀ inside g₀ i₀ rows g i = n - i
 
--- src/lib.rt:463:5
+-- src/lib.rt:478:5
 fields-loop-holds : (t : ℕ) → fields-lts.Need-loop-holds (
   next-untagged-reads.Asked,
   next-untagged-reads.Learnt,
@@ -1218,7 +1241,7 @@ fields-loop-holds : (t : ℕ) → fields-lts.Need-loop-holds (
 ) (fields-at t) fields.Post fields-Inv-loop fields-μ-loop
 fields-loop-holds t c = fielding-start _ _ _ _ _ _ _ (c .before .before .before .before .pre .1 .here)
 
--- src/lib.rt:464:15
+-- src/lib.rt:479:15
 fields-next-untagged-requires : (t : ℕ) → fields-lts.Need-next-untagged-requires (
   next-untagged-reads.Asked,
   next-untagged-reads.Learnt,
@@ -1233,7 +1256,7 @@ fields-next-untagged-requires : (t : ℕ) → fields-lts.Need-next-untagged-requ
 ) (fields-at t) fields.Post fields-Inv-loop fields-μ-loop
 fields-next-untagged-requires t c κs = search needs
 
--- src/lib.rt:466:49
+-- src/lib.rt:481:49
 fields-enum-told : (t : ℕ) → fields-lts.Need-enum-told (
   next-untagged-reads.Asked,
   next-untagged-reads.Learnt,
@@ -1248,7 +1271,7 @@ fields-enum-told : (t : ℕ) → fields-lts.Need-enum-told (
 ) (fields-at t) fields.Post fields-Inv-loop fields-μ-loop
 fields-enum-told t c = search needs
 
--- src/lib.rt:466:17
+-- src/lib.rt:481:17
 fields-items-requires : (t : ℕ) → fields-lts.Need-items-requires (
   next-untagged-reads.Asked,
   next-untagged-reads.Learnt,
@@ -1263,7 +1286,7 @@ fields-items-requires : (t : ℕ) → fields-lts.Need-items-requires (
 ) (fields-at t) fields.Post fields-Inv-loop fields-μ-loop
 fields-items-requires t c κs = let r = (fielding-room (c .before .before .before .before .loop .inv) (c .before .before .before .before .before .before .before .before .before .pre .1)) in omega (arith, r, fielding-depth (c .before .before .before .before .loop .inv))
 
--- src/lib.rt:466:17
+-- src/lib.rt:481:17
 fields-same-length : (t : ℕ) → fields-lts.Need-same-length (
   next-untagged-reads.Asked,
   next-untagged-reads.Learnt,
@@ -1278,7 +1301,7 @@ fields-same-length : (t : ℕ) → fields-lts.Need-same-length (
 ) (fields-at t) fields.Post fields-Inv-loop fields-μ-loop
 fields-same-length t c = search needs
 
--- src/lib.rt:466:17
+-- src/lib.rt:481:17
 fields-returns : (t : ℕ) → fields-lts.Need-returns (
   next-untagged-reads.Asked,
   next-untagged-reads.Learnt,
@@ -1293,7 +1316,7 @@ fields-returns : (t : ℕ) → fields-lts.Need-returns (
 ) (fields-at t) fields.Post fields-Inv-loop fields-μ-loop
 fields-returns t c = fielding-items (c .before .before .before .before .before .before .before .loop .inv) _ (c .before .before .items .result) (found-none (c .before .before .before .before .before .before .next-untagged .result) _ (c .before .before .before .before .enum-told .given .1) (c .before .before .before .before .before .before .next-untagged .ensures)) (c .before .before .items .ensures)
 
--- src/lib.rt:468:23
+-- src/lib.rt:483:23
 fields-enum-known-q : (t : ℕ) → fields-lts.Need-enum-known-q (
   next-untagged-reads.Asked,
   next-untagged-reads.Learnt,
@@ -1308,7 +1331,7 @@ fields-enum-known-q : (t : ℕ) → fields-lts.Need-enum-known-q (
 ) (fields-at t) fields.Post fields-Inv-loop fields-μ-loop
 fields-enum-known-q t c = search needs
 
--- src/lib.rt:468:66
+-- src/lib.rt:483:66
 fields-for-field-requires : (t : ℕ) → fields-lts.Need-for-field-requires (
   next-untagged-reads.Asked,
   next-untagged-reads.Learnt,
@@ -1323,7 +1346,7 @@ fields-for-field-requires : (t : ℕ) → fields-lts.Need-for-field-requires (
 ) (fields-at t) fields.Post fields-Inv-loop fields-μ-loop
 fields-for-field-requires t c κs = search needs
 
--- src/lib.rt:468:35
+-- src/lib.rt:483:35
 fields-field-requires : (t : ℕ) → fields-lts.Need-field-requires (
   next-untagged-reads.Asked,
   next-untagged-reads.Learnt,
@@ -1338,7 +1361,7 @@ fields-field-requires : (t : ℕ) → fields-lts.Need-field-requires (
 ) (fields-at t) fields.Post fields-Inv-loop fields-μ-loop
 fields-field-requires t c κs = let r = (fielding-room (c .before .before .before .before .before .before .loop .inv) (c .before .before .before .before .before .before .before .before .before .before .before .pre .1)) in let q = next-between _ _ _ _ _ _ (found-at (c .before .before .before .before .before .next-untagged .result) _ _ (c .before .before .before .q .given .1) (c .before .before .before .before .before .next-untagged .ensures)) in rw (c .for-field .ensures) (omega (arith, r, q, fielding-depth (c .before .before .before .before .before .before .loop .inv)))
 
--- src/lib.rt:469:26
+-- src/lib.rt:484:26
 fields-enum-known-v : (t : ℕ) → fields-lts.Need-enum-known-v (
   next-untagged-reads.Asked,
   next-untagged-reads.Learnt,
@@ -1353,7 +1376,7 @@ fields-enum-known-v : (t : ℕ) → fields-lts.Need-enum-known-v (
 ) (fields-at t) fields.Post fields-Inv-loop fields-μ-loop
 fields-enum-known-v t c = search needs
 
--- src/lib.rt:470:21
+-- src/lib.rt:485:21
 fields-moved-requires : (t : ℕ) → fields-lts.Need-moved-requires (
   next-untagged-reads.Asked,
   next-untagged-reads.Learnt,
@@ -1368,7 +1391,7 @@ fields-moved-requires : (t : ℕ) → fields-lts.Need-moved-requires (
 ) (fields-at t) fields.Post fields-Inv-loop fields-μ-loop
 fields-moved-requires t c κs = search needs
 
--- src/lib.rt:471:25
+-- src/lib.rt:486:25
 fields-add-i : (t : ℕ) → fields-lts.Need-add-i (
   next-untagged-reads.Asked,
   next-untagged-reads.Learnt,
@@ -1383,7 +1406,7 @@ fields-add-i : (t : ℕ) → fields-lts.Need-add-i (
 ) (fields-at t) fields.Post fields-Inv-loop fields-μ-loop
 fields-add-i t c = let q = next-between _ _ _ _ _ _ (found-at (c .before .before .before .before .before .before .before .before .before .before .before .before .next-untagged .result) _ _ (c .before .before .before .before .before .before .before .before .before .before .q .given .1) (c .before .before .before .before .before .before .before .before .before .before .before .before .next-untagged .ensures)) in omega (arith, q, c .before .before .before .before .before .before .before .before .before .before .before .before .before .before .before .before .before .before .pre .1 .known)
 
--- src/lib.rt:463:5
+-- src/lib.rt:478:5
 fields-loop-less : (t : ℕ) → fields-lts.Need-loop-less (
   next-untagged-reads.Asked,
   next-untagged-reads.Learnt,
@@ -1398,7 +1421,7 @@ fields-loop-less : (t : ℕ) → fields-lts.Need-loop-less (
 ) (fields-at t) fields.Post fields-Inv-loop fields-μ-loop
 fields-loop-less t c = let q = next-between _ _ _ _ _ _ (found-at (c .before .before .before .before .before .before .before .before .before .before .before .before .next-untagged .result) _ _ (c .before .before .before .before .before .before .before .before .before .before .q .given .1) (c .before .before .before .before .before .before .before .before .before .before .before .before .next-untagged .ensures)) in omega (arith, q)
 
--- src/lib.rt:463:5
+-- src/lib.rt:478:5
 fields-loop-again : (t : ℕ) → fields-lts.Need-loop-again (
   next-untagged-reads.Asked,
   next-untagged-reads.Learnt,
@@ -1413,7 +1436,7 @@ fields-loop-again : (t : ℕ) → fields-lts.Need-loop-again (
 ) (fields-at t) fields.Post fields-Inv-loop fields-μ-loop
 fields-loop-again t c = fielding-on (c .before .before .before .before .before .before .before .before .before .before .before .before .before .loop .inv) _ (found-at (c .before .before .before .before .before .before .before .before .before .before .before .before .next-untagged .result) _ _ (c .before .before .before .before .before .before .before .before .before .before .q .given .1) (c .before .before .before .before .before .before .before .before .before .before .before .before .next-untagged .ensures)) _ (c .before .before .before .before .before .before .field .result) (rw (c .before .before .before .before .before .before .before .for-field .ensures) at (c .before .before .before .before .before .before .field .ensures)) _ _ _ (c .before .before .v .given .1) (c .moved .ensures)
 
--- src/lib.rt:473:27
+-- src/lib.rt:488:27
 fields-enum-known-o : (t : ℕ) → fields-lts.Need-enum-known-o (
   next-untagged-reads.Asked,
   next-untagged-reads.Learnt,
@@ -1428,7 +1451,7 @@ fields-enum-known-o : (t : ℕ) → fields-lts.Need-enum-known-o (
 ) (fields-at t) fields.Post fields-Inv-loop fields-μ-loop
 fields-enum-known-o t c = search needs
 
--- src/lib.rt:474:21
+-- src/lib.rt:489:21
 fields-same-length-2 : (t : ℕ) → fields-lts.Need-same-length-2 (
   next-untagged-reads.Asked,
   next-untagged-reads.Learnt,
@@ -1443,7 +1466,7 @@ fields-same-length-2 : (t : ℕ) → fields-lts.Need-same-length-2 (
 ) (fields-at t) fields.Post fields-Inv-loop fields-μ-loop
 fields-same-length-2 t c = search needs
 
--- src/lib.rt:474:21
+-- src/lib.rt:489:21
 fields-returns-2 : (t : ℕ) → fields-lts.Need-returns-2 (
   next-untagged-reads.Asked,
   next-untagged-reads.Learnt,
@@ -1458,7 +1481,7 @@ fields-returns-2 : (t : ℕ) → fields-lts.Need-returns-2 (
 ) (fields-at t) fields.Post fields-Inv-loop fields-μ-loop
 fields-returns-2 t c = fielding-out (c .before .before .before .before .before .before .before .before .before .before .before .before .loop .inv) _ (found-at (c .before .before .before .before .before .before .before .before .before .before .before .next-untagged .result) _ _ (c .before .before .before .before .before .before .before .before .before .q .given .1) (c .before .before .before .before .before .before .before .before .before .before .before .next-untagged .ensures)) _ (c .before .before .before .before .before .field .result) (rw (c .before .before .before .before .before .before .for-field .ensures) at (c .before .before .before .before .before .field .ensures)) _ (c .before .o .given .1)
 
--- src/lib.rt:370:11
+-- src/lib.rt:385:11
 item-item-at-requires : (t : ℕ) → item-lts.Need-item-at-requires (
   item-at-reads.Asked,
   item-at-reads.Learnt,
@@ -1473,7 +1496,7 @@ item-item-at-requires : (t : ℕ) → item-lts.Need-item-at-requires (
 ) (item-at t) item.Post
 item-item-at-requires t c κs = omega (arith, c .before .before .before .before .before .pre .1 .0 .short)
 
--- src/lib.rt:371:42
+-- src/lib.rt:386:42
 item-enum-told : (t : ℕ) → item-lts.Need-enum-told (
   item-at-reads.Asked,
   item-at-reads.Learnt,
@@ -1488,7 +1511,7 @@ item-enum-told : (t : ℕ) → item-lts.Need-enum-told (
 ) (item-at t) item.Post
 item-enum-told t c = search needs
 
--- src/lib.rt:372:20
+-- src/lib.rt:387:20
 item-enum-known-q : (t : ℕ) → item-lts.Need-enum-known-q (
   item-at-reads.Asked,
   item-at-reads.Learnt,
@@ -1503,7 +1526,7 @@ item-enum-known-q : (t : ℕ) → item-lts.Need-enum-known-q (
 ) (item-at t) item.Post
 item-enum-known-q t c = search needs
 
--- src/lib.rt:373:13
+-- src/lib.rt:388:13
 item-mark-requires : (t : ℕ) → item-lts.Need-mark-requires (
   item-at-reads.Asked,
   item-at-reads.Learnt,
@@ -1518,7 +1541,7 @@ item-mark-requires : (t : ℕ) → item-lts.Need-mark-requires (
 ) (item-at t) item.Post
 item-mark-requires t c κs = search needs
 
--- src/lib.rt:380:28
+-- src/lib.rt:395:28
 item-add-t31 : (t : ℕ) → item-lts.Need-add-t31 (
   item-at-reads.Asked,
   item-at-reads.Learnt,
@@ -1533,7 +1556,7 @@ item-add-t31 : (t : ℕ) → item-lts.Need-add-t31 (
 ) (item-at t) item.Post
 item-add-t31 t c = let w = ((rw (c .before .before .before .before .before .q .given .1) at (c .before .before .before .before .before .before .before .item-at .ensures)) (c .before .before .before .before .before .before .before .before .before .before .before .before .before .pre .1 .1 .ks) (c .before .before .before .before .before .before .before .before .before .before .before .before .before .pre .1 .1 .marks)) in omega (arith, w .step .less, w .step .within, c .before .before .before .before .before .before .before .before .before .before .before .before .before .pre .1 .0 .short)
 
--- src/lib.rt:381:26
+-- src/lib.rt:396:26
 item-add-t32 : (t : ℕ) → item-lts.Need-add-t32 (
   item-at-reads.Asked,
   item-at-reads.Learnt,
@@ -1548,7 +1571,7 @@ item-add-t32 : (t : ℕ) → item-lts.Need-add-t32 (
 ) (item-at t) item.Post
 item-add-t32 t c = let w = ((rw (c .before .before .before .before .before .before .before .q .given .1) at (c .before .before .before .before .before .before .before .before .before .item-at .ensures)) (c .before .before .before .before .before .before .before .before .before .before .before .before .before .before .before .pre .1 .1 .ks) (c .before .before .before .before .before .before .before .before .before .before .before .before .before .before .before .pre .1 .1 .marks)) in omega (arith, w .step .less, w .step .within, c .before .before .before .before .before .before .before .before .before .before .before .before .before .before .before .pre .1 .0 .short)
 
--- src/lib.rt:374:13
+-- src/lib.rt:389:13
 item-put-row-requires : (t : ℕ) → item-lts.Need-put-row-requires (
   item-at-reads.Asked,
   item-at-reads.Learnt,
@@ -1563,7 +1586,7 @@ item-put-row-requires : (t : ℕ) → item-lts.Need-put-row-requires (
 ) (item-at t) item.Post
 item-put-row-requires t c κs = let w = ((rw (c .before .before .before .before .before .before .before .q .given .1) at (c .before .before .before .before .before .before .before .before .before .item-at .ensures)) (c .before .before .before .before .before .before .before .before .before .before .before .before .before .before .before .pre .1 .1 .ks) (c .before .before .before .before .before .before .before .before .before .before .before .before .before .before .before .pre .1 .1 .marks)) in omega (arith, w .step .less, w .step .within, w .below, c .before .before .before .before .before .before .before .before .before .before .before .before .before .before .before .pre .1 .0)
 
--- src/lib.rt:384:25
+-- src/lib.rt:399:25
 item-add-t31-2 : (t : ℕ) → item-lts.Need-add-t31-2 (
   item-at-reads.Asked,
   item-at-reads.Learnt,
@@ -1578,7 +1601,7 @@ item-add-t31-2 : (t : ℕ) → item-lts.Need-add-t31-2 (
 ) (item-at t) item.Post
 item-add-t31-2 t c = omega (arith, c .before .before .before .before .before .before .before .before .before .before .before .before .before .before .before .before .before .before .before .pre .1 .0)
 
--- src/lib.rt:386:20
+-- src/lib.rt:401:20
 item-enum-known-q-2 : (t : ℕ) → item-lts.Need-enum-known-q-2 (
   item-at-reads.Asked,
   item-at-reads.Learnt,
@@ -1593,7 +1616,7 @@ item-enum-known-q-2 : (t : ℕ) → item-lts.Need-enum-known-q-2 (
 ) (item-at t) item.Post
 item-enum-known-q-2 t c = search needs
 
--- src/lib.rt:387:13
+-- src/lib.rt:402:13
 item-mark-requires-2 : (t : ℕ) → item-lts.Need-mark-requires-2 (
   item-at-reads.Asked,
   item-at-reads.Learnt,
@@ -1608,7 +1631,7 @@ item-mark-requires-2 : (t : ℕ) → item-lts.Need-mark-requires-2 (
 ) (item-at t) item.Post
 item-mark-requires-2 t c κs = search needs
 
--- src/lib.rt:388:49
+-- src/lib.rt:403:49
 item-for-field-requires : (t : ℕ) → item-lts.Need-for-field-requires (
   item-at-reads.Asked,
   item-at-reads.Learnt,
@@ -1623,7 +1646,7 @@ item-for-field-requires : (t : ℕ) → item-lts.Need-for-field-requires (
 ) (item-at t) item.Post
 item-for-field-requires t c κs = search needs
 
--- src/lib.rt:388:19
+-- src/lib.rt:403:19
 item-list-requires : (t : ℕ) → item-lts.Need-list-requires (
   item-at-reads.Asked,
   item-at-reads.Learnt,
@@ -1638,7 +1661,7 @@ item-list-requires : (t : ℕ) → item-lts.Need-list-requires (
 ) (item-at t) item.Post
 item-list-requires t c κs = let w = ((rw (c .before .before .before .before .before .q2 .given .1) at (c .before .before .before .before .before .before .before .item-at .ensures)) (c .before .before .before .before .before .before .before .before .before .before .before .before .before .pre .1 .1 .ks) (c .before .before .before .before .before .before .before .before .before .before .before .before .before .pre .1 .1 .marks)) in rw (c .for-field .ensures) (omega (arith, w .first .least, w .first .less, w .second .least, w .second .less, w .second .within, w .below, c .before .before .before .before .before .before .before .before .before .before .before .before .before .pre .1 .0))
 
--- src/lib.rt:389:27
+-- src/lib.rt:404:27
 item-enum-known-w : (t : ℕ) → item-lts.Need-enum-known-w (
   item-at-reads.Asked,
   item-at-reads.Learnt,
@@ -1653,7 +1676,7 @@ item-enum-known-w : (t : ℕ) → item-lts.Need-enum-known-w (
 ) (item-at t) item.Post
 item-enum-known-w t c = search needs
 
--- src/lib.rt:390:30
+-- src/lib.rt:405:30
 item-enum-known-k : (t : ℕ) → item-lts.Need-enum-known-k (
   item-at-reads.Asked,
   item-at-reads.Learnt,
@@ -1668,7 +1691,7 @@ item-enum-known-k : (t : ℕ) → item-lts.Need-enum-known-k (
 ) (item-at t) item.Post
 item-enum-known-k t c = search needs
 
--- src/lib.rt:393:23
+-- src/lib.rt:408:23
 item-enum-known-v : (t : ℕ) → item-lts.Need-enum-known-v (
   item-at-reads.Asked,
   item-at-reads.Learnt,
@@ -1683,7 +1706,7 @@ item-enum-known-v : (t : ℕ) → item-lts.Need-enum-known-v (
 ) (item-at t) item.Post
 item-enum-known-v t c = search needs
 
--- src/lib.rt:394:23
+-- src/lib.rt:409:23
 item-enum-known-k-2 : (t : ℕ) → item-lts.Need-enum-known-k-2 (
   item-at-reads.Asked,
   item-at-reads.Learnt,
@@ -1698,7 +1721,7 @@ item-enum-known-k-2 : (t : ℕ) → item-lts.Need-enum-known-k-2 (
 ) (item-at t) item.Post
 item-enum-known-k-2 t c = search needs
 
--- src/lib.rt:356:1
+-- src/lib.rt:371:1
 item-returns : (t : ℕ) → item-lts.Need-returns (
   item-at-reads.Asked,
   item-at-reads.Learnt,
@@ -1713,7 +1736,7 @@ item-returns : (t : ℕ) → item-lts.Need-returns (
 ) (item-at t) item.Post
 item-returns t c = λ ks m. λ fuel. items-none _ _ (c .before .before .before .before .before .before .before .before .args .f) _ _ fuel ks ((rw (c .enum-told .given .1) at (c .before .before .item-at .ensures)) ks m _ fuel) (c .before .before .before .before .before .before .before .before .pre .1 .0 .here)
 
--- src/lib.rt:356:1
+-- src/lib.rt:371:1
 item-same-length : (t : ℕ) → item-lts.Need-same-length (
   item-at-reads.Asked,
   item-at-reads.Learnt,
@@ -1728,7 +1751,7 @@ item-same-length : (t : ℕ) → item-lts.Need-same-length (
 ) (item-at t) item.Post
 item-same-length t c = search needs
 
--- src/lib.rt:356:1
+-- src/lib.rt:371:1
 item-returns-2 : (t : ℕ) → item-lts.Need-returns-2 (
   item-at-reads.Asked,
   item-at-reads.Learnt,
@@ -1743,7 +1766,7 @@ item-returns-2 : (t : ℕ) → item-lts.Need-returns-2 (
 ) (item-at t) item.Post
 item-returns-2 t c = λ ks m. let w = (rw (c .before .before .before .before .before .before .before .before .before .before .before .q .given .1) at (c .before .before .before .before .before .before .before .before .before .before .before .before .before .item-at .ensures)) ks m in item-void _ _ _ (c .before .before .before .before .before .before .before .before .before .before .before .before .before .before .before .before .before .before .before .args .f) _ ks _ _ _ _ _ _ w (rw (c .before .before .before .before .before .before .before .before .mark .ensures) (marks-more _ ks _ (omega (arith, w .below, c .before .before .before .before .before .before .before .before .before .before .before .before .before .before .before .before .before .before .before .pre .1 .0 .known)) m)) (c .before .before .before .put-row .ensures)
 
--- src/lib.rt:356:1
+-- src/lib.rt:371:1
 item-same-length-2 : (t : ℕ) → item-lts.Need-same-length-2 (
   item-at-reads.Asked,
   item-at-reads.Learnt,
@@ -1758,7 +1781,7 @@ item-same-length-2 : (t : ℕ) → item-lts.Need-same-length-2 (
 ) (item-at t) item.Post
 item-same-length-2 t c = search needs
 
--- src/lib.rt:356:1
+-- src/lib.rt:371:1
 item-returns-3 : (t : ℕ) → item-lts.Need-returns-3 (
   item-at-reads.Asked,
   item-at-reads.Learnt,
@@ -1773,7 +1796,7 @@ item-returns-3 : (t : ℕ) → item-lts.Need-returns-3 (
 ) (item-at t) item.Post
 item-returns-3 t c = λ ks m. let w = (rw (c .before .before .before .before .before .before .before .before .before .before .before .q2 .given .1) at (c .before .before .before .before .before .before .before .before .before .before .before .before .before .item-at .ensures)) ks m in item-list _ _ _ (c .before .before .before .before .before .before .before .before .before .before .before .before .before .before .before .before .before .before .before .args .f) _ ks _ _ _ _ _ w _ _ (rw (c .before .before .before .before .before .before .before .before .mark2 .ensures) (marks-more _ ks _ (omega (arith, w .below, c .before .before .before .before .before .before .before .before .before .before .before .before .before .before .before .before .before .before .before .pre .1 .0 .known)) m)) (rw (c .before .before .before .before .before .before .for-field .ensures, c .before .w .given .1) at (c .before .before .before .before .before .list .ensures))
 
--- src/lib.rt:356:1
+-- src/lib.rt:371:1
 item-same-length-3 : (t : ℕ) → item-lts.Need-same-length-3 (
   item-at-reads.Asked,
   item-at-reads.Learnt,
@@ -1788,7 +1811,7 @@ item-same-length-3 : (t : ℕ) → item-lts.Need-same-length-3 (
 ) (item-at t) item.Post
 item-same-length-3 t c = search needs
 
--- src/lib.rt:356:1
+-- src/lib.rt:371:1
 item-returns-4 : (t : ℕ) → item-lts.Need-returns-4 (
   item-at-reads.Asked,
   item-at-reads.Learnt,
@@ -1803,7 +1826,7 @@ item-returns-4 : (t : ℕ) → item-lts.Need-returns-4 (
 ) (item-at t) item.Post
 item-returns-4 t c = λ ks m. λ fuel. item-refused _ _ _ (c .before .before .before .before .before .before .before .before .before .before .before .before .before .before .before .before .before .before .before .args .f) _ ks [] [] [] _ _ ((rw (c .before .before .before .before .before .before .before .before .before .before .before .q2 .given .1) at (c .before .before .before .before .before .before .before .before .before .before .before .before .before .item-at .ensures)) ks m) _ _ (rw (c .before .before .before .before .before .before .for-field .ensures, c .before .k .given .1) at (c .before .before .before .before .before .list .ensures)) fuel
 
--- src/lib.rt:356:1
+-- src/lib.rt:371:1
 item-returns-5 : (t : ℕ) → item-lts.Need-returns-5 (
   item-at-reads.Asked,
   item-at-reads.Learnt,
@@ -1818,7 +1841,7 @@ item-returns-5 : (t : ℕ) → item-lts.Need-returns-5 (
 ) (item-at t) item.Post
 item-returns-5 t c = λ ks m. item-passed _ (c .before .before .before .before .before .before .before .before .before .args .n) _ (c .before .before .before .before .before .before .before .before .before .args .f) _ ks _ _ _ _ ((rw (c .before .v .given .1) at (c .before .before .before .item-at .ensures)) ks m) m refl
 
--- src/lib.rt:356:1
+-- src/lib.rt:371:1
 item-returns-6 : (t : ℕ) → item-lts.Need-returns-6 (
   item-at-reads.Asked,
   item-at-reads.Learnt,
@@ -1839,7 +1862,7 @@ items-Inv-loop table offs n s rows₀ inside seen₀ g₀ rows seen g = Iteming 
 abbrev items-μ-loop : items-lts.MeasureT-loop
 items-μ-loop table offs n s rows₀ inside seen₀ g₀ rows seen g = length s - g .at
 
--- src/lib.rt:410:20
+-- src/lib.rt:425:20
 items-no-marks-requires : (t : ℕ) → items-lts.Need-no-marks-requires (
   no-marks-reads.Asked,
   no-marks-reads.Learnt,
@@ -1850,7 +1873,7 @@ items-no-marks-requires : (t : ℕ) → items-lts.Need-no-marks-requires (
 ) (items-at t) items.Post items-Inv-loop items-μ-loop
 items-no-marks-requires t c κs = search needs
 
--- src/lib.rt:412:5
+-- src/lib.rt:427:5
 items-loop-holds : (t : ℕ) → items-lts.Need-loop-holds (
   no-marks-reads.Asked,
   no-marks-reads.Learnt,
@@ -1861,7 +1884,7 @@ items-loop-holds : (t : ℕ) → items-lts.Need-loop-holds (
 ) (items-at t) items.Post items-Inv-loop items-μ-loop
 items-loop-holds t c = iteming-start _ _ _ _ _ _ (c .no-marks .ensures) (c .before .before .before .before .before .pre .1 .here)
 
--- src/lib.rt:413:15
+-- src/lib.rt:428:15
 items-item-requires : (t : ℕ) → items-lts.Need-item-requires (
   no-marks-reads.Asked,
   no-marks-reads.Learnt,
@@ -1872,7 +1895,7 @@ items-item-requires : (t : ℕ) → items-lts.Need-item-requires (
 ) (items-at t) items.Post items-Inv-loop items-μ-loop
 items-item-requires t c κs = let r = iteming-room (c .before .before .loop .inv) _ (c .before .before .before .before .before .before .before .before .pre .1) in let d = iteming-depth (c .before .before .loop .inv) in let m : Marked _ = record { ks = c .before .before .loop .inv .seen; marks = c .before .before .loop .inv .marked } in search needs
 
--- src/lib.rt:414:22
+-- src/lib.rt:429:22
 items-enum-known-v : (t : ℕ) → items-lts.Need-enum-known-v (
   no-marks-reads.Asked,
   no-marks-reads.Learnt,
@@ -1883,7 +1906,7 @@ items-enum-known-v : (t : ℕ) → items-lts.Need-enum-known-v (
 ) (items-at t) items.Post items-Inv-loop items-μ-loop
 items-enum-known-v t c = search needs
 
--- src/lib.rt:415:17
+-- src/lib.rt:430:17
 items-moved-requires : (t : ℕ) → items-lts.Need-moved-requires (
   no-marks-reads.Asked,
   no-marks-reads.Learnt,
@@ -1894,7 +1917,7 @@ items-moved-requires : (t : ℕ) → items-lts.Need-moved-requires (
 ) (items-at t) items.Post items-Inv-loop items-μ-loop
 items-moved-requires t c κs = search needs
 
--- src/lib.rt:412:5
+-- src/lib.rt:427:5
 items-loop-less : (t : ℕ) → items-lts.Need-loop-less (
   no-marks-reads.Asked,
   no-marks-reads.Learnt,
@@ -1905,7 +1928,7 @@ items-loop-less : (t : ℕ) → items-lts.Need-loop-less (
 ) (items-at t) items.Post items-Inv-loop items-μ-loop
 items-loop-less t c = let t = (iteming-turn (c .before .before .before .before .before .before .before .before .before .loop .inv) _ _ (c .before .before .before .before .before .before .item .result) (c .before .before .before .before .before .before .item .ensures) _ _ (c .before .before .v .given .1)) in rw (c .moved .ensures) (omega (arith, t))
 
--- src/lib.rt:412:5
+-- src/lib.rt:427:5
 items-loop-again : (t : ℕ) → items-lts.Need-loop-again (
   no-marks-reads.Asked,
   no-marks-reads.Learnt,
@@ -1916,7 +1939,7 @@ items-loop-again : (t : ℕ) → items-lts.Need-loop-again (
 ) (items-at t) items.Post items-Inv-loop items-μ-loop
 items-loop-again t c = iteming-on (c .before .before .before .before .before .before .before .before .before .loop .inv) _ _ (c .before .before .before .before .before .before .item .result) (c .before .before .before .before .before .before .item .ensures) _ _ _ (c .before .before .v .given .1) (c .moved .ensures)
 
--- src/lib.rt:417:23
+-- src/lib.rt:432:23
 items-enum-known-o : (t : ℕ) → items-lts.Need-enum-known-o (
   no-marks-reads.Asked,
   no-marks-reads.Learnt,
@@ -1927,7 +1950,7 @@ items-enum-known-o : (t : ℕ) → items-lts.Need-enum-known-o (
 ) (items-at t) items.Post items-Inv-loop items-μ-loop
 items-enum-known-o t c = search needs
 
--- src/lib.rt:418:17
+-- src/lib.rt:433:17
 items-same-length : (t : ℕ) → items-lts.Need-same-length (
   no-marks-reads.Asked,
   no-marks-reads.Learnt,
@@ -1938,7 +1961,7 @@ items-same-length : (t : ℕ) → items-lts.Need-same-length (
 ) (items-at t) items.Post items-Inv-loop items-μ-loop
 items-same-length t c = search needs
 
--- src/lib.rt:418:17
+-- src/lib.rt:433:17
 items-returns : (t : ℕ) → items-lts.Need-returns (
   no-marks-reads.Asked,
   no-marks-reads.Learnt,
@@ -1955,200 +1978,263 @@ list-Inv-loop table offs n s rows₀ e g₀ c₀ rows g c = Listing (schemaAt ta
 abbrev list-μ-loop : list-lts.MeasureT-loop
 list-μ-loop table offs n s rows₀ e g₀ c₀ rows g c = length s - g .at
 
--- src/lib.rt:337:9
+-- src/lib.rt:352:9
 list-ints-of-requires : (t : ℕ) → list-lts.Need-ints-of-requires (
   ints-of-reads.Asked,
   ints-of-reads.Learnt,
-  next-element-below t,
-  next-element.Post,
+  element-below t,
+  element.Post,
   next-value-reads.Asked,
   next-value-reads.Learnt,
 ) (list-at t) list.Post list-Inv-loop list-μ-loop
 list-ints-of-requires t c κs = search needs
 
--- src/lib.rt:340:5
+-- src/lib.rt:355:5
 list-loop-holds : (t : ℕ) → list-lts.Need-loop-holds (
   ints-of-reads.Asked,
   ints-of-reads.Learnt,
-  next-element-below t,
-  next-element.Post,
+  element-below t,
+  element.Post,
   next-value-reads.Asked,
   next-value-reads.Learnt,
 ) (list-at t) list.Post list-Inv-loop list-μ-loop
 list-loop-holds t c = listing-start _ _ _ _ (c .before .before .before .before .before .pre .1 .0 .here)
 
--- src/lib.rt:341:15
-list-next-element-requires : (t : ℕ) → list-lts.Need-next-element-requires (
+-- src/lib.rt:356:15
+list-element-requires : (t : ℕ) → list-lts.Need-element-requires (
   ints-of-reads.Asked,
   ints-of-reads.Learnt,
-  next-element-below t,
-  next-element.Post,
+  element-below t,
+  element.Post,
   next-value-reads.Asked,
   next-value-reads.Learnt,
 ) (list-at t) list.Post list-Inv-loop list-μ-loop
-list-next-element-requires t c κs = let r = (listing-room (c .before .loop .inv) _ (c .before .before .before .before .before .before .before .pre .1 .0)) in let d = listing-depth (c .before .loop .inv) in let k = listing-named (c .before .loop .inv) in let i = listing-ints (c .before .loop .inv) _ (c .before .before .ints-of .ensures) in let w = c .before .loop .inv .few in let p = c .before .before .before .before .before .before .before .pre .1 .1 in (omega (arith, d), (r, (omega (arith, k, w, p, r), i)))
+list-element-requires t c κs = let r = (listing-room (c .before .loop .inv) _ (c .before .before .before .before .before .before .before .pre .1 .0)) in let d = listing-depth (c .before .loop .inv) in let k = listing-named (c .before .loop .inv) in let i = listing-ints (c .before .loop .inv) _ (c .before .before .ints-of .ensures) in let w = c .before .loop .inv .few in let p = c .before .before .before .before .before .before .before .pre .1 .1 in (omega (arith, d), (r, (omega (arith, k, w, p, r), i)))
 
--- src/lib.rt:342:22
+-- src/lib.rt:357:22
 list-enum-known-v : (t : ℕ) → list-lts.Need-enum-known-v (
   ints-of-reads.Asked,
   ints-of-reads.Learnt,
-  next-element-below t,
-  next-element.Post,
+  element-below t,
+  element.Post,
   next-value-reads.Asked,
   next-value-reads.Learnt,
 ) (list-at t) list.Post list-Inv-loop list-μ-loop
 list-enum-known-v t c = search needs
 
--- src/lib.rt:343:17
+-- src/lib.rt:358:17
 list-next-value-requires : (t : ℕ) → list-lts.Need-next-value-requires (
   ints-of-reads.Asked,
   ints-of-reads.Learnt,
-  next-element-below t,
-  next-element.Post,
+  element-below t,
+  element.Post,
   next-value-reads.Asked,
   next-value-reads.Learnt,
 ) (list-at t) list.Post list-Inv-loop list-μ-loop
 list-next-value-requires t c κs = search needs
 
--- src/lib.rt:344:17
+-- src/lib.rt:359:17
 list-add-c : (t : ℕ) → list-lts.Need-add-c (
   ints-of-reads.Asked,
   ints-of-reads.Learnt,
-  next-element-below t,
-  next-element.Post,
+  element-below t,
+  element.Post,
   next-value-reads.Asked,
   next-value-reads.Learnt,
 ) (list-at t) list.Post list-Inv-loop list-μ-loop
 list-add-c t c = let r = (listing-room (c .before .before .before .before .before .before .before .before .loop .inv) _ (c .before .before .before .before .before .before .before .before .before .before .before .before .before .before .pre .1 .0)) in omega (arith, r, c .before .before .before .before .before .before .before .before .loop .inv .few)
 
--- src/lib.rt:340:5
+-- src/lib.rt:355:5
 list-loop-less : (t : ℕ) → list-lts.Need-loop-less (
   ints-of-reads.Asked,
   ints-of-reads.Learnt,
-  next-element-below t,
-  next-element.Post,
+  element-below t,
+  element.Post,
   next-value-reads.Asked,
   next-value-reads.Learnt,
 ) (list-at t) list.Post list-Inv-loop list-μ-loop
-list-loop-less t c = let t = (listing-turn (c .before .before .before .before .before .before .before .before .loop .inv) _ (c .before .before .before .before .before .before .next-element .result) _ _ (c .before .before .before .before .before .before .next-element .ensures) (c .before .before .v .given .1)) in rw (c .next-value .ensures) (omega (arith, t))
+list-loop-less t c = let t = (listing-turn (c .before .before .before .before .before .before .before .before .loop .inv) _ (c .before .before .before .before .before .before .element .result) _ _ (c .before .before .before .before .before .before .element .ensures) (c .before .before .v .given .1)) in rw (c .next-value .ensures) (omega (arith, t))
 
--- src/lib.rt:340:5
+-- src/lib.rt:355:5
 list-loop-again : (t : ℕ) → list-lts.Need-loop-again (
   ints-of-reads.Asked,
   ints-of-reads.Learnt,
-  next-element-below t,
-  next-element.Post,
+  element-below t,
+  element.Post,
   next-value-reads.Asked,
   next-value-reads.Learnt,
 ) (list-at t) list.Post list-Inv-loop list-μ-loop
-list-loop-again t c = listing-on (c .before .before .before .before .before .before .before .before .loop .inv) _ (c .before .before .before .before .before .before .next-element .result) _ _ _ (c .before .before .before .before .before .before .next-element .ensures) (c .before .before .v .given .1) (c .next-value .ensures)
+list-loop-again t c = listing-on (c .before .before .before .before .before .before .before .before .loop .inv) _ (c .before .before .before .before .before .before .element .result) _ _ _ (c .before .before .before .before .before .before .element .ensures) (c .before .before .v .given .1) (c .next-value .ensures)
 
--- src/lib.rt:346:23
+-- src/lib.rt:361:23
 list-enum-known-o : (t : ℕ) → list-lts.Need-enum-known-o (
   ints-of-reads.Asked,
   ints-of-reads.Learnt,
-  next-element-below t,
-  next-element.Post,
+  element-below t,
+  element.Post,
   next-value-reads.Asked,
   next-value-reads.Learnt,
 ) (list-at t) list.Post list-Inv-loop list-μ-loop
 list-enum-known-o t c = search needs
 
--- src/lib.rt:347:17
+-- src/lib.rt:362:17
 list-same-length : (t : ℕ) → list-lts.Need-same-length (
   ints-of-reads.Asked,
   ints-of-reads.Learnt,
-  next-element-below t,
-  next-element.Post,
+  element-below t,
+  element.Post,
   next-value-reads.Asked,
   next-value-reads.Learnt,
 ) (list-at t) list.Post list-Inv-loop list-μ-loop
 list-same-length t c = search needs
 
--- src/lib.rt:347:17
+-- src/lib.rt:362:17
 list-returns : (t : ℕ) → list-lts.Need-returns (
   ints-of-reads.Asked,
   ints-of-reads.Learnt,
-  next-element-below t,
-  next-element.Post,
+  element-below t,
+  element.Post,
   next-value-reads.Asked,
   next-value-reads.Learnt,
 ) (list-at t) list.Post list-Inv-loop list-μ-loop
-list-returns t c = listing-out (c .before .before .before .before .before .before .before .loop .inv) _ (c .before .before .before .before .before .next-element .result) _ (c .before .before .before .before .before .next-element .ensures) (c .before .o .given .1)
+list-returns t c = listing-out (c .before .before .before .before .before .before .before .loop .inv) _ (c .before .before .before .before .before .element .result) _ (c .before .before .before .before .before .element .ensures) (c .before .o .given .1)
 
--- src/lib.rt:326:11
-next-element-quick-int-requires : (t : ℕ) → next-element-lts.Need-quick-int-requires (
+-- src/lib.rt:301:11
+list-value-quick-int-requires : (t : ℕ) → list-value-lts.Need-quick-int-requires (
   quick-int-reads.Asked,
   quick-int-reads.Learnt,
-  element-below t,
-  element.Post,
-) (next-element-at t) next-element.Post
-next-element-quick-int-requires t c κs = c .before .before .before .before .before .pre .1
+  choice-below t,
+  choice.Post,
+) (list-value-at t) list-value.Post
+list-value-quick-int-requires t c κs = c .before .before .before .before .before .pre .1
 
--- src/lib.rt:327:19
-next-element-enum-known-v : (t : ℕ) → next-element-lts.Need-enum-known-v (
+-- src/lib.rt:302:19
+list-value-enum-known-v : (t : ℕ) → list-value-lts.Need-enum-known-v (
   quick-int-reads.Asked,
   quick-int-reads.Learnt,
-  element-below t,
-  element.Post,
-) (next-element-at t) next-element.Post
-next-element-enum-known-v t c = search needs
+  choice-below t,
+  choice.Post,
+) (list-value-at t) list-value.Post
+list-value-enum-known-v t c = search needs
 
--- src/lib.rt:328:51
-next-element-enum-told : (t : ℕ) → next-element-lts.Need-enum-told (
+-- src/lib.rt:303:22
+list-value-enum-known-v-2 : (t : ℕ) → list-value-lts.Need-enum-known-v-2 (
   quick-int-reads.Asked,
   quick-int-reads.Learnt,
-  element-below t,
-  element.Post,
-) (next-element-at t) next-element.Post
-next-element-enum-told t c = search needs
+  choice-below t,
+  choice.Post,
+) (list-value-at t) list-value.Post
+list-value-enum-known-v-2 t c = search needs
 
--- src/lib.rt:328:24
-next-element-element-requires : (t : ℕ) → next-element-lts.Need-element-requires (
+-- src/lib.rt:304:56
+list-value-enum-told : (t : ℕ) → list-value-lts.Need-enum-told (
   quick-int-reads.Asked,
   quick-int-reads.Learnt,
-  element-below t,
-  element.Post,
-) (next-element-at t) next-element.Post
-next-element-element-requires t c κs = omega (arith, c .before .before .before .before .before .before .before .before .before .before .before .pre .1 .0, c .before .before .before .before .before .before .before .before .before .before .before .pre .1 .1 .0)
+  choice-below t,
+  choice.Post,
+) (list-value-at t) list-value.Post
+list-value-enum-told t c = search needs
 
--- src/lib.rt:311:1
-next-element-same-length : (t : ℕ) → next-element-lts.Need-same-length (
+-- src/lib.rt:304:30
+list-value-choice-requires : (t : ℕ) → list-value-lts.Need-choice-requires (
   quick-int-reads.Asked,
   quick-int-reads.Learnt,
-  element-below t,
-  element.Post,
-) (next-element-at t) next-element.Post
-next-element-same-length t c = search needs
+  choice-below t,
+  choice.Post,
+) (list-value-at t) list-value.Post
+list-value-choice-requires t c κs = omega (arith, c .before .before .before .before .before .before .before .before .before .before .before .pre .1 .0, c .before .before .before .before .before .before .before .before .before .before .before .pre .1 .1 .0)
 
--- src/lib.rt:311:1
-next-element-returns : (t : ℕ) → next-element-lts.Need-returns (
+-- src/lib.rt:305:23
+list-value-enum-known-v-3 : (t : ℕ) → list-value-lts.Need-enum-known-v-3 (
   quick-int-reads.Asked,
   quick-int-reads.Learnt,
-  element-below t,
-  element.Post,
-) (next-element-at t) next-element.Post
-next-element-returns t c = quick-element _ _ (c .before .before .before .before .before .before .before .before .before .before .before .args .f) _ _ _ _ _ (rw (c .before .v .given .1) at (c .before .before .before .before .before .quick-int .ensures))
+  choice-below t,
+  choice.Post,
+) (list-value-at t) list-value.Post
+list-value-enum-known-v-3 t c = search needs
 
--- src/lib.rt:311:1
-next-element-same-length-2 : (t : ℕ) → next-element-lts.Need-same-length-2 (
+-- src/lib.rt:306:26
+list-value-enum-known-k : (t : ℕ) → list-value-lts.Need-enum-known-k (
   quick-int-reads.Asked,
   quick-int-reads.Learnt,
-  element-below t,
-  element.Post,
-) (next-element-at t) next-element.Post
-next-element-same-length-2 t c = search needs
+  choice-below t,
+  choice.Post,
+) (list-value-at t) list-value.Post
+list-value-enum-known-k t c = search needs
 
--- src/lib.rt:311:1
-next-element-returns-2 : (t : ℕ) → next-element-lts.Need-returns-2 (
+-- src/lib.rt:286:1
+list-value-same-length : (t : ℕ) → list-value-lts.Need-same-length (
   quick-int-reads.Asked,
   quick-int-reads.Learnt,
-  element-below t,
-  element.Post,
-) (next-element-at t) next-element.Post
-next-element-returns-2 t c = rw (rw (c .before .before .before .before .enum-told .given .1) at (c .before .before .before .before .before .before .before .before .quick-int .ensures)) at (c .before .before .element .ensures)
+  choice-below t,
+  choice.Post,
+) (list-value-at t) list-value.Post
+list-value-same-length t c = search needs
 
--- src/lib.rt:265:9
+-- src/lib.rt:286:1
+list-value-returns : (t : ℕ) → list-value-lts.Need-returns (
+  quick-int-reads.Asked,
+  quick-int-reads.Learnt,
+  choice-below t,
+  choice.Post,
+) (list-value-at t) list-value.Post
+list-value-returns t c = quick-element _ _ (c .before .before .before .before .before .before .before .before .before .before .before .args .f) _ _ _ _ _ (rw (c .before .v .given .1) at (c .before .before .before .before .before .quick-int .ensures))
+
+-- src/lib.rt:286:1
+list-value-same-length-2 : (t : ℕ) → list-value-lts.Need-same-length-2 (
+  quick-int-reads.Asked,
+  quick-int-reads.Learnt,
+  choice-below t,
+  choice.Post,
+) (list-value-at t) list-value.Post
+list-value-same-length-2 t c = search needs
+
+-- src/lib.rt:286:1
+list-value-returns-2 : (t : ℕ) → list-value-lts.Need-returns-2 (
+  quick-int-reads.Asked,
+  quick-int-reads.Learnt,
+  choice-below t,
+  choice.Post,
+) (list-value-at t) list-value.Post
+list-value-returns-2 t c = quick-ended _ _ (c .before .before .before .before .before .before .before .before .before .before .before .args .f) _ _ _ _ (rw (c .before .v2 .given .1) at (c .before .before .before .before .before .quick-int .ensures))
+
+-- src/lib.rt:286:1
+list-value-same-length-3 : (t : ℕ) → list-value-lts.Need-same-length-3 (
+  quick-int-reads.Asked,
+  quick-int-reads.Learnt,
+  choice-below t,
+  choice.Post,
+) (list-value-at t) list-value.Post
+list-value-same-length-3 t c = search needs
+
+-- src/lib.rt:286:1
+list-value-returns-3 : (t : ℕ) → list-value-lts.Need-returns-3 (
+  quick-int-reads.Asked,
+  quick-int-reads.Learnt,
+  choice-below t,
+  choice.Post,
+) (list-value-at t) list-value.Post
+list-value-returns-3 t c = rw ((rw (c .before .before .before .before .before .before .before .enum-told .given .1) at (c .before .before .before .before .before .before .before .before .before .before .before .quick-int .ensures)), c .before .v3 .given .1) at (c .before .before .before .before .before .choice .ensures)
+
+-- src/lib.rt:286:1
+list-value-same-length-4 : (t : ℕ) → list-value-lts.Need-same-length-4 (
+  quick-int-reads.Asked,
+  quick-int-reads.Learnt,
+  choice-below t,
+  choice.Post,
+) (list-value-at t) list-value.Post
+list-value-same-length-4 t c = search needs
+
+-- src/lib.rt:286:1
+list-value-returns-4 : (t : ℕ) → list-value-lts.Need-returns-4 (
+  quick-int-reads.Asked,
+  quick-int-reads.Learnt,
+  choice-below t,
+  choice.Post,
+) (list-value-at t) list-value.Post
+list-value-returns-4 t c = rw ((rw (c .before .before .before .before .before .before .before .enum-told .given .1) at (c .before .before .before .before .before .before .before .before .before .before .before .quick-int .ensures)), c .before .k .given .1) at (c .before .before .before .before .before .choice .ensures)
+
+-- src/lib.rt:266:9
 value-core-requires : (t : ℕ) → value-lts.Need-core-requires (
   core-reads.Asked,
   core-reads.Learnt,
@@ -2163,7 +2249,7 @@ value-core-requires : (t : ℕ) → value-lts.Need-core-requires (
 ) (value-at t) value.Post
 value-core-requires t c κs = search needs
 
--- src/lib.rt:266:11
+-- src/lib.rt:267:11
 value-kind-requires : (t : ℕ) → value-lts.Need-kind-requires (
   core-reads.Asked,
   core-reads.Learnt,
@@ -2178,7 +2264,7 @@ value-kind-requires : (t : ℕ) → value-lts.Need-kind-requires (
 ) (value-at t) value.Post
 value-kind-requires t c κs = search needs
 
--- src/lib.rt:267:24
+-- src/lib.rt:268:24
 value-enum-told : (t : ℕ) → value-lts.Need-enum-told (
   core-reads.Asked,
   core-reads.Learnt,
@@ -2193,7 +2279,7 @@ value-enum-told : (t : ℕ) → value-lts.Need-enum-told (
 ) (value-at t) value.Post
 value-enum-told t c = search needs
 
--- src/lib.rt:267:24
+-- src/lib.rt:268:24
 value-no-value-requires : (t : ℕ) → value-lts.Need-no-value-requires (
   core-reads.Asked,
   core-reads.Learnt,
@@ -2208,7 +2294,7 @@ value-no-value-requires : (t : ℕ) → value-lts.Need-no-value-requires (
 ) (value-at t) value.Post
 value-no-value-requires t c κs = omega (arith, c .before .before .before .before .before .before .before .before .pre .1 .0 .short)
 
--- src/lib.rt:268:59
+-- src/lib.rt:269:59
 value-enum-told-2 : (t : ℕ) → value-lts.Need-enum-told-2 (
   core-reads.Asked,
   core-reads.Learnt,
@@ -2223,7 +2309,7 @@ value-enum-told-2 : (t : ℕ) → value-lts.Need-enum-told-2 (
 ) (value-at t) value.Post
 value-enum-told-2 t c = search needs
 
--- src/lib.rt:268:26
+-- src/lib.rt:269:26
 value-simple-requires : (t : ℕ) → value-lts.Need-simple-requires (
   core-reads.Asked,
   core-reads.Learnt,
@@ -2238,7 +2324,7 @@ value-simple-requires : (t : ℕ) → value-lts.Need-simple-requires (
 ) (value-at t) value.Post
 value-simple-requires t c κs = omega (arith, c .before .before .before .before .before .before .before .before .before .pre .1)
 
--- src/lib.rt:269:52
+-- src/lib.rt:270:52
 value-enum-told-3 : (t : ℕ) → value-lts.Need-enum-told-3 (
   core-reads.Asked,
   core-reads.Learnt,
@@ -2253,7 +2339,7 @@ value-enum-told-3 : (t : ℕ) → value-lts.Need-enum-told-3 (
 ) (value-at t) value.Post
 value-enum-told-3 t c = search needs
 
--- src/lib.rt:269:26
+-- src/lib.rt:270:26
 value-braced-requires : (t : ℕ) → value-lts.Need-braced-requires (
   core-reads.Asked,
   core-reads.Learnt,
@@ -2268,7 +2354,7 @@ value-braced-requires : (t : ℕ) → value-lts.Need-braced-requires (
 ) (value-at t) value.Post
 value-braced-requires t c κs = omega (arith, c .before .before .before .before .before .before .before .before .before .pre .1)
 
--- src/lib.rt:270:25
+-- src/lib.rt:271:25
 value-enum-told-4 : (t : ℕ) → value-lts.Need-enum-told-4 (
   core-reads.Asked,
   core-reads.Learnt,
@@ -2283,7 +2369,7 @@ value-enum-told-4 : (t : ℕ) → value-lts.Need-enum-told-4 (
 ) (value-at t) value.Post
 value-enum-told-4 t c = search needs
 
--- src/lib.rt:270:25
+-- src/lib.rt:271:25
 value-no-value-requires-2 : (t : ℕ) → value-lts.Need-no-value-requires-2 (
   core-reads.Asked,
   core-reads.Learnt,
@@ -2298,7 +2384,7 @@ value-no-value-requires-2 : (t : ℕ) → value-lts.Need-no-value-requires-2 (
 ) (value-at t) value.Post
 value-no-value-requires-2 t c κs = omega (arith, c .before .before .before .before .before .before .before .before .pre .1 .0 .short)
 
--- src/lib.rt:271:29
+-- src/lib.rt:272:29
 value-enum-told-5 : (t : ℕ) → value-lts.Need-enum-told-5 (
   core-reads.Asked,
   core-reads.Learnt,
@@ -2313,7 +2399,7 @@ value-enum-told-5 : (t : ℕ) → value-lts.Need-enum-told-5 (
 ) (value-at t) value.Post
 value-enum-told-5 t c = search needs
 
--- src/lib.rt:271:29
+-- src/lib.rt:272:29
 value-no-value-requires-3 : (t : ℕ) → value-lts.Need-no-value-requires-3 (
   core-reads.Asked,
   core-reads.Learnt,
@@ -2328,7 +2414,7 @@ value-no-value-requires-3 : (t : ℕ) → value-lts.Need-no-value-requires-3 (
 ) (value-at t) value.Post
 value-no-value-requires-3 t c κs = omega (arith, c .before .before .before .before .before .before .before .before .pre .1 .0 .short)
 
--- src/lib.rt:260:1
+-- src/lib.rt:261:1
 value-returns : (t : ℕ) → value-lts.Need-returns (
   core-reads.Asked,
   core-reads.Learnt,
@@ -2344,7 +2430,7 @@ value-returns : (t : ℕ) → value-lts.Need-returns (
 unfolding isPlace
 value-returns t c = plain-none _ _ (c .before .before .before .before .before .before .before .before .before .args .f) _ _ (c .no-value .result) schema.void (rw (← c .before .before .before .before .core .ensures) (sym (c .before .before .before .kind .ensures) ∙ ap shapeOf (c .before .enum-told .given .1))) refl (c .no-value .ensures)
 
--- src/lib.rt:260:1
+-- src/lib.rt:261:1
 value-same-length : (t : ℕ) → value-lts.Need-same-length (
   core-reads.Asked,
   core-reads.Learnt,
@@ -2359,7 +2445,7 @@ value-same-length : (t : ℕ) → value-lts.Need-same-length (
 ) (value-at t) value.Post
 value-same-length t c = search needs
 
--- src/lib.rt:260:1
+-- src/lib.rt:261:1
 value-returns-2 : (t : ℕ) → value-lts.Need-returns-2 (
   core-reads.Asked,
   core-reads.Learnt,
@@ -2374,7 +2460,7 @@ value-returns-2 : (t : ℕ) → value-lts.Need-returns-2 (
 ) (value-at t) value.Post
 value-returns-2 t c = plain-simple _ _ (c .before .before .before .before .before .before .before .before .before .before .before .before .args .f) _ _ (c .before .before .simple .result) _ (c .before .before .before .before .before .before .before .core .ensures) (sym (c .before .before .before .before .before .before .kind .ensures) ∙ ap shapeOf (c .before .before .before .before .enum-told2 .given .1)) (c .before .before .simple .ensures)
 
--- src/lib.rt:260:1
+-- src/lib.rt:261:1
 value-same-length-2 : (t : ℕ) → value-lts.Need-same-length-2 (
   core-reads.Asked,
   core-reads.Learnt,
@@ -2389,7 +2475,7 @@ value-same-length-2 : (t : ℕ) → value-lts.Need-same-length-2 (
 ) (value-at t) value.Post
 value-same-length-2 t c = search needs
 
--- src/lib.rt:260:1
+-- src/lib.rt:261:1
 value-returns-3 : (t : ℕ) → value-lts.Need-returns-3 (
   core-reads.Asked,
   core-reads.Learnt,
@@ -2404,7 +2490,7 @@ value-returns-3 : (t : ℕ) → value-lts.Need-returns-3 (
 ) (value-at t) value.Post
 value-returns-3 t c = plain-struct _ _ (c .before .before .before .before .before .before .before .before .before .before .before .before .args .f) _ _ (c .before .before .braced .result) _ (c .before .before .before .before .before .before .before .core .ensures) (sym (c .before .before .before .before .before .before .kind .ensures) ∙ ap shapeOf (c .before .before .before .before .enum-told3 .given .1)) (c .before .before .braced .ensures)
 
--- src/lib.rt:260:1
+-- src/lib.rt:261:1
 value-returns-4 : (t : ℕ) → value-lts.Need-returns-4 (
   core-reads.Asked,
   core-reads.Learnt,
@@ -2420,7 +2506,7 @@ value-returns-4 : (t : ℕ) → value-lts.Need-returns-4 (
 unfolding isPlace
 value-returns-4 t c = plain-none _ _ (c .before .before .before .before .before .before .before .before .before .args .f) _ _ (c .no-value2 .result) schema.union (rw (← c .before .before .before .before .core .ensures) (sym (c .before .before .before .kind .ensures) ∙ ap shapeOf (c .before .enum-told4 .given .1))) refl (c .no-value2 .ensures)
 
--- src/lib.rt:260:1
+-- src/lib.rt:261:1
 value-returns-5 : (t : ℕ) → value-lts.Need-returns-5 (
   core-reads.Asked,
   core-reads.Learnt,
@@ -2436,9 +2522,9 @@ value-returns-5 : (t : ℕ) → value-lts.Need-returns-5 (
 unfolding isPlace
 value-returns-5 t c = plain-none _ _ (c .before .before .before .before .before .before .before .before .before .args .f) _ _ (c .no-value3 .result) schema.reference (rw (← c .before .before .before .before .core .ensures) (sym (c .before .before .before .kind .ensures) ∙ ap shapeOf (c .before .enum-told5 .given .1))) refl (c .no-value3 .ensures)
 
-pub +body+braced+choice+element+field+fields+item+items+list+next-element+value-spec :
+pub +body+braced+choice+element+field+fields+item+items+list+list-value+value-spec :
     {M : Type 1} → statement M
-+body+braced+choice+element+field+fields+item+items+list+next-element+value-spec =
++body+braced+choice+element+field+fields+item+items+list+list-value+value-spec =
     close
     μ-body
     μ-braced
@@ -2449,7 +2535,7 @@ pub +body+braced+choice+element+field+fields+item+items+list+next-element+value-
     μ-item
     μ-items
     μ-list
-    μ-next-element
+    μ-list-value
     μ-value
     (λ t. body-lts.spec (
       head-reads.Asked,
@@ -2541,15 +2627,16 @@ pub +body+braced+choice+element+field+fields+item+items+list+next-element+value-
     (choice-same-length-3 t)
     (choice-returns-3 t))
     (λ t. element-lts.spec (
-      choice-below t,
-      choice.Post,
+      list-value-below t,
+      list-value.Post,
       after-value-reads.Asked,
       after-value-reads.Learnt,
     )
     (element-at t)
     element.Post
-    (element-choice-requires t)
+    (element-list-value-requires t)
     (element-enum-known-v t)
+    (element-enum-known-v-2 t)
     (element-add-after-value t)
     (element-after-value-requires t)
     (element-enum-known-w t)
@@ -2563,7 +2650,9 @@ pub +body+braced+choice+element+field+fields+item+items+list+next-element+value-
     (element-same-length-3 t)
     (element-returns-3 t)
     (element-same-length-4 t)
-    (element-returns-4 t))
+    (element-returns-4 t)
+    (element-same-length-5 t)
+    (element-returns-5 t))
     (λ t. field-lts.spec
     (field-at-reads.Asked, field-at-reads.Learnt, list-below t, list.Post)
     (field-at t)
@@ -2678,8 +2767,8 @@ pub +body+braced+choice+element+field+fields+item+items+list+next-element+value-
     (λ t. list-lts.spec (
       ints-of-reads.Asked,
       ints-of-reads.Learnt,
-      next-element-below t,
-      next-element.Post,
+      element-below t,
+      element.Post,
       next-value-reads.Asked,
       next-value-reads.Learnt,
     )
@@ -2689,7 +2778,7 @@ pub +body+braced+choice+element+field+fields+item+items+list+next-element+value-
     list-μ-loop
     (list-ints-of-requires t)
     (list-loop-holds t)
-    (list-next-element-requires t)
+    (list-element-requires t)
     (list-enum-known-v t)
     (list-next-value-requires t)
     (list-add-c t)
@@ -2698,22 +2787,29 @@ pub +body+braced+choice+element+field+fields+item+items+list+next-element+value-
     (list-enum-known-o t)
     (list-same-length t)
     (list-returns t))
-    (λ t. next-element-lts.spec (
+    (λ t. list-value-lts.spec (
       quick-int-reads.Asked,
       quick-int-reads.Learnt,
-      element-below t,
-      element.Post,
+      choice-below t,
+      choice.Post,
     )
-    (next-element-at t)
-    next-element.Post
-    (next-element-quick-int-requires t)
-    (next-element-enum-known-v t)
-    (next-element-enum-told t)
-    (next-element-element-requires t)
-    (next-element-same-length t)
-    (next-element-returns t)
-    (next-element-same-length-2 t)
-    (next-element-returns-2 t))
+    (list-value-at t)
+    list-value.Post
+    (list-value-quick-int-requires t)
+    (list-value-enum-known-v t)
+    (list-value-enum-known-v-2 t)
+    (list-value-enum-told t)
+    (list-value-choice-requires t)
+    (list-value-enum-known-v-3 t)
+    (list-value-enum-known-k t)
+    (list-value-same-length t)
+    (list-value-returns t)
+    (list-value-same-length-2 t)
+    (list-value-returns-2 t)
+    (list-value-same-length-3 t)
+    (list-value-returns-3 t)
+    (list-value-same-length-4 t)
+    (list-value-returns-4 t))
     λ t. value-lts.spec (
       core-reads.Asked,
       core-reads.Learnt,
