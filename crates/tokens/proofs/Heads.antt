@@ -3,19 +3,25 @@ use mathlib.Core.Path.{_≡_, refl, ap, sym, subst, _∙_}
 use mathlib.Core.List.{List, [], _∷_}
 use Prim.Native.Nat.{ℕ, zero, suc, _+_, _-_, _≤_, _<_}
 use native.Mathlib.Omega.{arith}
-use lib.ListN.{length, drop, getD}
-use mathlib.Core.Bool.{false}
-use Rattle.classes.specs.Bytes.{isBlank}
+use lib.Dec.{eqb}
+use lib.ListN.{length, take, drop, getD}
+use lib.Seq.{drop-cons}
+use borrow.Author.Tests.{ne-eqb}
+use mathlib.Core.Bool.{Bool, true, false}
+use Rattle.classes.specs.Bytes.{isBlank, isWordByte, isStringByte, isQuote}
+use Rattle.classes.specs.Lists.{runOf}
 use Rattle.schema.specs.Token.{Token, word, string, equals, comma, opening, closing}
-use Rattle.message_rules.specs.Scan.{lexeme, Cut, clean, badAt, putFirst, tokensOf}
+use Rattle.schema.proofs.CountLaws.{clash-bool}
+use Rattle.message_rules.specs.Scan.{lexeme, Cut, clean, badAt, putFirst, tokensOf, Begins, plain, quoted, mark, nothing, beginsOf, cutToken, cutRest, cutFrom}
 use Rattle.message_rules.specs.Scan.{Lexeme as Lex}
 use Rattle.message_rules.specs.Verdict.{startOr}
-use Rattle.tokens.specs.Cursor.{part, cutAt, restAt, lexemesAt, Step, Reads}
-use Rattle.tokens.specs.Head.{tokenOf, kindAt, HeadAt, markHead}
+use Rattle.tokens.specs.Cursor.{part, rowEnd, cutAt, restAt, lexemesAt, Step, Reads}
+use Rattle.tokens.specs.Head.{tokenOf, kindAt, HeadAt, markHead, LacksComma}
 use Rattle.tokens.specs.declared.Cursor.{Cursor}
 use Rattle.tokens.specs.declared.Head.{Head}
 use Rattle.tokens.specs.declared.Lexeme.{Lexeme}
 use Rattle.tokens.specs.declared.Lexeme.the-variants.{Word, Text, Equals, Comma, Opening, Closing, End, Bad}
+use Rattle.tokens.proofs.CutAt.{cut-rest, rest-end}
 use Rattle.tokens.proofs.Steps.{step-equals, step-comma, step-opening, step-closing}
 use Rattle.tokens.proofs.Plain.{solid}
 
@@ -127,3 +133,57 @@ module _ (base : ℕ) (s : List ℕ) (i : ℕ) (h : Head) (g : HeadAt base s i h
 
   pub head-not : (k : ℕ) → (h .kind ≡ k → ⊥) → kindAt (tokensOf (lexemesAt base s i)) ≡ k → ⊥
   head-not k n e = n (sym head-kind ∙ e)
+
+-- ---- no comma
+begins-comma : (b : ℕ) → (b ≡ 44 → ⊥) → beginsOf b ≡ mark comma → ⊥
+unfolding beginsOf
+begins-comma b n = go (isWordByte b) (isQuote b) (eqb b 61) (eqb b 44) (eqb b 123) (eqb b 125) (ne-eqb b 44 n)
+  where
+    go : (p q x y z w : Bool) → y ≡ false → elim p [ true ↦ plain | false ↦ elim q [ true ↦ quoted | false ↦ elim x [ true ↦ mark equals | false ↦ elim y [ true ↦ mark comma | false ↦ elim z [ true ↦ mark opening | false ↦ elim w [ true ↦ mark closing | false ↦ nothing ] ] ] ] ] ] ≡ mark comma → ⊥
+    go true q x y z w k e = let c : _≡_ {A = ℕ} 0 1 = cc in absurd (omega arith)
+    go false true x y z w k e = let c : _≡_ {A = ℕ} 0 1 = cc in absurd (omega arith)
+    go false false true y z w k e = let c : _≡_ {A = ℕ} 0 1 = cc in absurd (omega arith)
+    go false false false true z w k e = clash-bool (sym k)
+    go false false false false true w k e = let c : _≡_ {A = ℕ} 0 1 = cc in absurd (omega arith)
+    go false false false false false true k e = let c : _≡_ {A = ℕ} 0 1 = cc in absurd (omega arith)
+    go false false false false false false k e = let c : _≡_ {A = ℕ} 0 1 = cc in absurd (omega arith)
+
+mark-kind : (t : Token) (r : List Token) → (t ≡ comma → ⊥) → kindAt (t ∷ r) ≡ 4 → ⊥
+unfolding kindAt
+mark-kind (word w) r n e = omega arith
+mark-kind (string w) r n e = omega arith
+mark-kind equals r n e = omega arith
+mark-kind comma r n e = n refl
+mark-kind opening r n e = omega arith
+mark-kind closing r n e = omega arith
+
+token-kind : (next : ℕ → List ℕ → Cut) (at b : ℕ) (l : List ℕ) (g : Begins) → (g ≡ mark comma → ⊥) → kindAt (tokensOf (cutToken next at b l g .lexemes)) ≡ 4 → ⊥
+unfolding cutToken tokensOf kindAt
+token-kind next at b l plain n e = omega arith
+token-kind next at b l quoted n e = go (isQuote (getD l (runOf isStringByte l) 0)) e
+  where
+    go : (t : Bool) → kindAt (tokensOf ((elim t as (λ _. Cut) [ true ↦ putFirst (lexeme (string (take (runOf isStringByte l) l)) at (at + runOf isStringByte l + 2)) (next (at + runOf isStringByte l + 2) (drop (suc (runOf isStringByte l)) l)) | false ↦ badAt at ]) .lexemes)) ≡ 4 → ⊥
+    go true z = omega arith
+    go false z = omega arith
+token-kind next at b l (mark t) n e = mark-kind t (tokensOf (next (at + 1) l .lexemes)) (λ z. n (ap mark z)) e
+token-kind next at b l nothing n e = omega arith
+
+-- the kind of the first token of a cut
+abbrev kindIn : Cut → ℕ
+kindIn c = kindAt (tokensOf (c .lexemes))
+
+module _ (s : List ℕ) (lo p : ℕ) (q : p ≡ rowEnd isBlank s lo) where
+  from-there : (base : ℕ) → cutAt base s lo ≡ restAt base s p
+  from-there base = cut-rest base s lo ∙ ap (restAt base s) (sym q)
+
+  pub lacks-end : length s ≤ p → LacksComma s lo
+  unfolding kindAt tokensOf
+  lacks-end h base e = let y : _≡_ {A = ℕ} 0 4 = sym (ap kindIn (from-there base ∙ rest-end base s p h)) ∙ e in omega arith
+
+  token-there : (base : ℕ) → p < length s → restAt base s p ≡ cutToken (cutFrom (length s)) (base + p) (getD s p 0) (drop (suc p) s) (beginsOf (getD s p 0))
+  unfolding restAt cutRest
+  token-there base h = ap (cutRest (cutFrom (length s)) (base + p)) (drop-cons s p 0 h)
+
+  pub lacks-there : p < length s → (getD s p 0 ≡ 44 → ⊥) → LacksComma s lo
+  lacks-there h n base e =
+      token-kind (cutFrom (length s)) (base + p) (getD s p 0) (drop (suc p) s) (beginsOf (getD s p 0)) (begins-comma (getD s p 0) n) (sym (ap kindIn (from-there base ∙ token-there base h)) ∙ e)

@@ -6,6 +6,7 @@ use Prim.Native.Nat.{ℕ, _+_, _-_, _≤_}
 use lib.Dec.{eqb}
 use lib.ListN.{length}
 use Rattle.schema.specs.Token.{Token, word, string, equals, comma, opening, closing}
+use Rattle.message_rules.specs.Scan.{tokensOf}
 use Rattle.message_rules.specs.Verdict.{startOr}
 use Rattle.tokens.specs.Cursor.{part, cutAt, lexemesAt, Step}
 use Rattle.tokens.specs.declared.Head.{Head}
@@ -46,3 +47,7 @@ pub record HeadAt (base : ℕ) (s : List ℕ) (lo : ℕ) (h : Head) : Type 0 whe
 -- the head of a mark, a token of one byte
 abbrev pub markHead : ℕ → ℕ → Head
 markHead k a = record { kind = k; start = a; past = record { at = a + 1 } }
+
+-- no comma stands next
+abbrev pub LacksComma : List ℕ → ℕ → Type 0
+LacksComma s lo = (base : ℕ) → kindAt (tokensOf (lexemesAt base s lo)) ≡ 4 → ⊥

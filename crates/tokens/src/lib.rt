@@ -7,7 +7,7 @@ ghost use Rattle.numbers.specs.Limits.{openLimit};
 ghost use Rattle.classes.specs.Bytes.{isBlank, isWordByte, isPlain, isStringByte};
 ghost use Rattle.message_rules.specs.Scan.{cut, scanFault};
 ghost use Rattle.tokens.specs.Cursor.{rowEnd, cutAt, restAt, Reads};
-ghost use Rattle.tokens.specs.Head.{HeadAt, markHead};
+ghost use Rattle.tokens.specs.Head.{HeadAt, markHead, LacksComma};
 ghost use Rattle.tokens.specs.Scanned.{foundOf};
 ghost use Rattle.tokens.specs.Digits.{Led, DigitsEnd, DigitsAt};
 ghost use Rattle.tokens.specs.Turn.{ScanTurn, Plains, PlainEnd};
@@ -228,6 +228,22 @@ impl Cursor {
             }
         }
         self.head_of_next(s)
+    }
+}
+
+impl Cursor {
+    // No comma stands next.
+    pub fn lacks_comma(self, s: &[u8]) -> bool
+        ensures { λ r. ⌜ (r ≡ true → LacksComma (now (s .entry)) (self .at)) ⌝ }
+    {
+        let from = skip_blank(s, self.at);
+        if s.len() <= from {
+            return true;
+        }
+        if s[from] == b',' {
+            return false;
+        }
+        true
     }
 }
 

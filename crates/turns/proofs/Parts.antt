@@ -25,7 +25,7 @@ use Rattle.message_rules.specs.Verdict.{startOr}
 use Rattle.schema.proofs.Sound.{unknowns-sound}
 use Rattle.schema.proofs.Complete.{leaves-width}
 use Rattle.tokens.specs.Cursor.{part, cutAt, lexemesAt, Step}
-use Rattle.tokens.specs.Head.{tokenOf, kindAt, HeadAt}
+use Rattle.tokens.specs.Head.{tokenOf, kindAt, HeadAt, LacksComma}
 use Rattle.tokens.specs.declared.Head.{Head}
 use Rattle.tokens.specs.declared.Cursor.{Cursor}
 use Rattle.tokens.proofs.Heads.{head-step, head-kind, head-not, step-lex, step-tokens, step-left, step-place, step-within}
@@ -325,6 +325,10 @@ value-ends S q c next v (opening ∷ r) a = refl
 value-ends S q c next v (equals ∷ r) a = refl
 value-ends S q c next v (comma ∷ r) a = absurd (a refl)
 value-ends S q c next v (closing ∷ r) a = refl
+
+pub value-bare : (S : Schema) (base : ℕ) (s : List ℕ) (q v c : ℕ) → LacksComma s v → S .lo q ≤ c → (next : List Token → Result (Tree list)) (w : Tree value) → afterValue S q c next w (tokensAt base s v) ≡ got (last w) (tokensAt base s v)
+unfolding listEnds need
+value-bare S base s q v c a b next w = value-ends S q c next w (tokensAt base s v) (a base) ∙ rw (le-leb (S .lo q) c b) refl
 
 module _ (S : Schema) (base : ℕ) (s : List ℕ) (q v c : ℕ) (h : Head) (g : HeadAt base s v h) where
   pub value-last : (h .kind ≡ 4 → ⊥) → S .lo q ≤ c → (next : List Token → Result (Tree list)) (w : Tree value) → afterValue S q c next w (tokensAt base s v) ≡ got (last w) (tokensAt base s v)

@@ -275,6 +275,11 @@ pub fn after_value(
     requires { ⌜ base + length (now s) ≤ messageLimit ⌝ }
     ensures { λ r. ⌜ AfterAt (now (table .entry)) (now (offs .entry)) n (now (s .entry)) base q (v .at) c r ⌝ }
 {
+    if v.lacks_comma(s) {
+        if lookup::lo(table, offs, n, q) <= c {
+            return After::Last;
+        }
+    }
     let h = v.head(s);
     let past = h.past;
     if h.kind == tokens::COMMA {
