@@ -50,6 +50,8 @@ use Rattle.turns.specs.Turns.{Values, endOf, Shut, ShutAt, Deeper, Whole, Grows
 use Rattle.turns.proofs.GoingLaws.{stopped-before, stopped-then, stopped-same, then-refused, then-got, read-same, going-same, going-start, going-stopped, going-on, going-read, going-step, chain-start, chain-stopped, chain-on, chain-read}
 use Rattle.turns.proofs.Parts.{stop-here}
 use Rattle.reader.specs.Turning.{valuesOf, here, Fewer, Turned, ElementAt, FieldAt, Itemed, ItemTurn, PlainAt, closedRows, endPlace, isUnion, movedOf, fieldOf, underOf, innerOf, deeperOf, openRow, Twice, WholeAt}
+use Rattle.reader.specs.declared.Taken.{Taken}
+use Rattle.reader.specs.declared.Taken.the-variants as taken
 use Rattle.reader.specs.declared.Turn.{Turn}
 use Rattle.reader.specs.declared.Turn.the-variants.{On, Out}
 
@@ -456,7 +458,7 @@ pub quick-ended : (S : Schema) (s : List ℕ) (f : Frame) (before after : List �
 unfolding byKind
 quick-ended S s f before after u m q = value-same s f before after (Done u m) (value-is S (bodyAt S (f .depth) true) (length (here s f)) (f .parameter) (here s f) schema.simple (q .simple)) (q .value)
 
-pub quick-element : (S : Schema) (s : List ℕ) (f : Frame) (c : ℕ) (before after : List ℕ) (u : Cursor) (m : ℕ) → QuickOn S s f c before after (u .at) m → ElementAt S s f c before after (On u m)
+pub quick-element : (S : Schema) (s : List ℕ) (f : Frame) (c : ℕ) (before after : List ℕ) (u : Cursor) (m : ℕ) → QuickOn S s f c before after (u .at) m → ElementAt S s f c before after (taken.On u m)
 quick-element S s f c before after u m q = element-more S s f c before after (record { at = q .end }) m (quick-ended S s f before after (record { at = q .end }) m (q .value)) (u .at) (q .more)
 
 -- ---- choices
@@ -616,13 +618,13 @@ module _ {S : Schema} {s : List ℕ} {f g : Frame} {before after : List ℕ} {c 
   pub listing-ints : (e : Ints) → IntsOf S (f .parameter) e → IntsOf S (g .parameter) e
   listing-ints e h = subst (λ q. IntsOf S q e) (sym listing-named) h
 
-  pub listing-turn : (mid : List ℕ) (t : Turn) (u : Cursor) (m : ℕ) → ElementAt S s g c after mid t → t ≡ On u m → (g .at < u .at) × (u .at ≤ length s)
+  pub listing-turn : (mid : List ℕ) (t : Taken) (u : Cursor) (m : ℕ) → ElementAt S s g c after mid t → t ≡ taken.On u m → (g .at < u .at) × (u .at ≤ length s)
   listing-turn mid t u m h e = let w : (fuel : ℕ) → Fewer s g (u .at) × Turned (listAt S (valuesOf S (g .depth)) (suc fuel) (g .parameter) c (here s g)) (listAt S (valuesOf S (g .depth)) fuel (g .parameter) (suc c) (tokensAt (g .base) s (u .at))) s g (g .parameter) after mid (u .at) m = subst (ElementAt S s g c after mid) e h in (omega (arith, w 0 .1 .moved .far), w 0 .1 .moved .within)
 
-  pub listing-on : (mid : List ℕ) (t : Turn) (u : Cursor) (m : ℕ) (g′ : Frame) → ElementAt S s g c after mid t → t ≡ On u m → g′ ≡ movedOf g (u .at) m → Listing S s f g′ before mid (c + 1)
+  pub listing-on : (mid : List ℕ) (t : Taken) (u : Cursor) (m : ℕ) (g′ : Frame) → ElementAt S s g c after mid t → t ≡ taken.On u m → g′ ≡ movedOf g (u .at) m → Listing S s f g′ before mid (c + 1)
   listing-on mid t u m g′ h e q =
       let w : (fuel : ℕ) → Fewer s (movedOf f (g .at) (g .row)) (u .at) × Turned (listAt S (valuesOf S (f .depth)) (suc fuel) (f .parameter) c (tokensAt (f .base) s (g .at))) (listAt S (valuesOf S (f .depth)) fuel (f .parameter) (suc c) (tokensAt (f .base) s (u .at))) s (movedOf f (g .at) (g .row)) (f .parameter) after mid (u .at) m
-      = subst (λ z. ElementAt S s z c after mid (On u m)) (i .same) (subst (ElementAt S s g c after mid) e h) in
+      = subst (λ z. ElementAt S s z c after mid (taken.On u m)) (i .same) (subst (ElementAt S s g c after mid) e h) in
       let b = listing-turn mid t u m h e in
       let k : g′ ≡ movedOf f (u .at) m = q ∙ ap (λ z. movedOf z (u .at) m) (i .same) in
       rw (k, add-one c) record {
@@ -632,8 +634,11 @@ module _ {S : Schema} {s : List ℕ} {f g : Frame} {before after : List ℕ} {c 
         size = sets-length after mid (rowWidth * g .row) (cells (w 0 .1 .going .acc)) (w 0 .1 .going .written) ∙ i .size;
       }
 
-  pub listing-out : (mid : List ℕ) (t : Turn) (r : Got) → ElementAt S s g c after mid t → t ≡ Out r → Ends (wholeList S (valuesOf S (f .depth)) (f .parameter) (here s f)) s f before mid 1 r
-  listing-out mid t r h e = loop-out (i .loop) mid 1 r (subst (λ z. ElementAt S s z c after mid (Out r)) (i .same) (subst (ElementAt S s g c after mid) e h))
+  pub listing-done : (mid : List ℕ) (t : Taken) (u : Cursor) (m : ℕ) → ElementAt S s g c after mid t → t ≡ taken.Done u m → Ends (wholeList S (valuesOf S (f .depth)) (f .parameter) (here s f)) s f before mid 1 (Done u m)
+  listing-done mid t u m h e = loop-out (i .loop) mid 1 (Done u m) (subst (λ z. ElementAt S s z c after mid (taken.Done u m)) (i .same) (subst (ElementAt S s g c after mid) e h))
+
+  pub listing-refused : (mid : List ℕ) (t : Taken) (n q : ℕ) → ElementAt S s g c after mid t → t ≡ taken.Refused n q → Ends (wholeList S (valuesOf S (f .depth)) (f .parameter) (here s f)) s f before mid 1 (Refused n q)
+  listing-refused mid t n q h e = loop-out (i .loop) mid 1 (Refused n q) (subst (λ z. ElementAt S s z c after mid (taken.Refused n q)) (i .same) (subst (ElementAt S s g c after mid) e h))
 
 -- the items of a body
 pub record Iteming (S : Schema) (s : List ℕ) (f g : Frame) (inside : Bool) (before after : List ℕ) (marks : List Bool) : Type 0 where

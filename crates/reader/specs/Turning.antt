@@ -44,13 +44,14 @@ pub record Turned {k : Sort} (o o′ : Result (Tree k)) (s : List ℕ) (f : Fram
   pub moved : Moved (length s) (f .at) 1 (f .row) at next
 
 -- the c-th value of a list
-abbrev pub ElementAt : Schema → List ℕ → Frame → ℕ → List ℕ → List ℕ → Turn → Type 0
-ElementAt S s f c before after (On u next) = (fuel : ℕ) → Fewer s f (u .at) × Turned (listAt S (valuesOf S (f .depth)) (suc fuel) (f .parameter) c (here s f)) (listAt S (valuesOf S (f .depth)) fuel (f .parameter) (suc c) (tokensAt (f .base) s (u .at))) s f (f .parameter) before after (u .at) next
-ElementAt S s f c before after (Out g) = (fuel : ℕ) → Ends (listAt S (valuesOf S (f .depth)) (suc fuel) (f .parameter) c (here s f)) s f before after 1 g
+abbrev pub ElementAt : Schema → List ℕ → Frame → ℕ → List ℕ → List ℕ → Taken → Type 0
+ElementAt S s f c before after (taken.On u next) = (fuel : ℕ) → Fewer s f (u .at) × Turned (listAt S (valuesOf S (f .depth)) (suc fuel) (f .parameter) c (here s f)) (listAt S (valuesOf S (f .depth)) fuel (f .parameter) (suc c) (tokensAt (f .base) s (u .at))) s f (f .parameter) before after (u .at) next
+ElementAt S s f c before after (taken.Done u next) = (fuel : ℕ) → Ends (listAt S (valuesOf S (f .depth)) (suc fuel) (f .parameter) c (here s f)) s f before after 1 (Done u next)
+ElementAt S s f c before after (taken.Refused n q) = (fuel : ℕ) → Ends (listAt S (valuesOf S (f .depth)) (suc fuel) (f .parameter) c (here s f)) s f before after 1 (Refused n q)
 
 -- the same before what follows is read
 abbrev pub TakenAt : Schema → List ℕ → Frame → ℕ → List ℕ → List ℕ → Taken → Type 0
-TakenAt S s f c before after (taken.On u next) = ElementAt S s f c before after (On u next)
+TakenAt S s f c before after (taken.On u next) = ElementAt S s f c before after (taken.On u next)
 TakenAt S s f c before after (taken.Done u next) = EndsValue (valuesOf S (f .depth) (f .parameter) (here s f)) s f before after (Done u next)
 TakenAt S s f c before after (taken.Refused n q) = EndsValue (valuesOf S (f .depth) (f .parameter) (here s f)) s f before after (Refused n q)
 

@@ -276,6 +276,7 @@ fn value(table: &[u8], offs: &[u32], n: usize, s: &[u8], rows: &mut [u32], f: Fr
 // ---- lists
 
 // A value of a list: On, with the comma behind it and another to come; Done, up to the cursor, and the next row; or refused.
+// Not a `Turn`: a cursor that shares its place with no tag stays in one register.
 enum Taken {
     On(Cursor, usize),
     Done(Cursor, usize),
@@ -318,14 +319,14 @@ fn element(
     f: Frame,
     c: usize,
     e: Ints,
-) -> Turn
+) -> Taken
     requires { ⌜ Room f (length (now s)) n ⌝ }
     requires { ⌜ (f .parameter < n) × (c < 4294967296) ⌝ }
     requires { ⌜ IntsOf (schemaAt (now table) (now offs) n) (f .parameter) e ⌝ }
     ensures { λ r. ⌜ ElementAt (schemaAt (now (table .entry)) (now (offs .entry)) n) (now (s .entry)) f c (now (rows .entry)) (now (rows .exit)) r ⌝ }
 {
     match list_value(table, offs, n, s, rows, f, c, e) {
-        Taken::On(v, m) => Turn::On(v, m),
+        Taken::On(v, m) => Taken::On(v, m),
         Taken::Done(v, m) => match turns::after_value(
             table,
             offs,
@@ -336,11 +337,11 @@ fn element(
             v,
             c + 1,
         ) {
-            After::More(w) => Turn::On(w, m),
-            After::Last => Turn::Out(Got::Done(v, m)),
-            After::Refused(k, p) => Turn::Out(Got::Refused(k, p)),
+            After::More(w) => Taken::On(w, m),
+            After::Last => Taken::Done(v, m),
+            After::Refused(k, p) => Taken::Refused(k, p),
         },
-        Taken::Refused(k, p) => Turn::Out(Got::Refused(k, p)),
+        Taken::Refused(k, p) => Taken::Refused(k, p),
     }
 }
 
@@ -354,12 +355,15 @@ fn list(table: &[u8], offs: &[u32], n: usize, s: &[u8], rows: &mut [u32], f: Fra
     let mut c: usize = 0;
     loop {
         match element(table, offs, n, s, rows, g, c, e) {
-            Turn::On(v, next) => {
+            Taken::On(v, next) => {
                 g = next_value(g, v.at, next, g.parent);
                 c += 1;
             }
-            Turn::Out(o) => {
-                return o;
+            Taken::Done(v, m) => {
+                return Got::Done(v, m);
+            }
+            Taken::Refused(k, p) => {
+                return Got::Refused(k, p);
             }
         }
     }

@@ -15,7 +15,7 @@ use Rattle.lookup.specs.IntList.{IntsOf}
 use Rattle.unknown.proofs.AlongLaws.{part-end}
 use Rattle.turns.proofs.Parts.{found-at, found-none}
 use Rattle.reader.specs.Turning.{Marked, endPlace}
-use Rattle.reader.proofs.Steps.{Listing, listing-start, listing-room, listing-named, listing-ints, listing-depth, listing-turn, listing-on, listing-out, Iteming, iteming-start, iteming-room, iteming-depth, iteming-turn, iteming-on, iteming-out, Fielding, fielding-start, fielding-room, fielding-depth, fielding-items, fielding-on, fielding-out, Choosing, choosing-start, choosing-room, choosing-base, choosing-depth, choosing-value, choosing-whole, choosing-stopped, choosing-on, deeper-less, plain-fits, whole-fits, next-between, body-none, body-ends, room-deeper, room-inner, braced-within, braced-ends, braced-refused, quick-ended, quick-element, element-more, element-last, element-after, element-refused, field-on, field-refused, field-none, items-none, item-void, item-list, item-refused, item-passed, plain-none, plain-simple, plain-struct, isPlace}
+use Rattle.reader.proofs.Steps.{Listing, listing-start, listing-room, listing-named, listing-ints, listing-depth, listing-turn, listing-on, listing-done, listing-refused, Iteming, iteming-start, iteming-room, iteming-depth, iteming-turn, iteming-on, iteming-out, Fielding, fielding-start, fielding-room, fielding-depth, fielding-items, fielding-on, fielding-out, Choosing, choosing-start, choosing-room, choosing-base, choosing-depth, choosing-value, choosing-whole, choosing-stopped, choosing-on, deeper-less, plain-fits, whole-fits, next-between, body-none, body-ends, room-deeper, room-inner, braced-within, braced-ends, braced-refused, quick-ended, quick-element, element-more, element-last, element-after, element-refused, field-on, field-refused, field-none, items-none, item-void, item-list, item-refused, item-passed, plain-none, plain-simple, plain-struct, isPlace}
 use Prim.Native.Nat.{ℕ, _<_}
 use borrow.Fn.Kinds.{In}
 use borrow.Fn.PlainCycle.{Measures, is, falls, and}
@@ -187,7 +187,7 @@ value-at t = and 4 value-kinds.ps (is 4 value-kinds.ps μ-value t) value.Pre
 abbrev value-below : ℕ → In 4 value-kinds.ps
 value-below t = and 4 value-kinds.ps (falls 4 value-kinds.ps _<_ μ-value t) value.Pre
 
--- src/lib.rt:511:13
+-- src/lib.rt:515:13
 body-head-requires : (t : ℕ) → body-lts.Need-head-requires (
   head-reads.Asked,
   head-reads.Learnt,
@@ -198,7 +198,7 @@ body-head-requires : (t : ℕ) → body-lts.Need-head-requires (
 ) (body-at t) body.Post
 body-head-requires t c κs = search needs
 
--- src/lib.rt:512:32
+-- src/lib.rt:516:32
 body-add-t11 : (t : ℕ) → body-lts.Need-add-t11 (
   head-reads.Asked,
   head-reads.Learnt,
@@ -209,7 +209,7 @@ body-add-t11 : (t : ℕ) → body-lts.Need-add-t11 (
 ) (body-at t) body.Post
 body-add-t11 t c = omega (arith, c .before .before .head .ensures 0 .within, c .before .before .before .before .before .before .before .before .before .pre .1 .short)
 
--- src/lib.rt:512:9
+-- src/lib.rt:516:9
 body-returns : (t : ℕ) → body-lts.Need-returns (
   head-reads.Asked,
   head-reads.Learnt,
@@ -220,7 +220,7 @@ body-returns : (t : ℕ) → body-lts.Need-returns (
 ) (body-at t) body.Post
 body-returns t c = body-none _ _ (c .before .before .before .before .before .before .before .before .before .args .f) _ (c .before .before .head .result) (c .before .before .head .ensures _) (c .before .before .before .if1 .taken)
 
--- src/lib.rt:514:37
+-- src/lib.rt:518:37
 body-deeper-requires : (t : ℕ) → body-lts.Need-deeper-requires (
   head-reads.Asked,
   head-reads.Learnt,
@@ -231,7 +231,7 @@ body-deeper-requires : (t : ℕ) → body-lts.Need-deeper-requires (
 ) (body-at t) body.Post
 body-deeper-requires t c κs = pos-of-ne-zero (c .before .if1 .left)
 
--- src/lib.rt:514:5
+-- src/lib.rt:518:5
 body-fields-requires : (t : ℕ) → body-lts.Need-fields-requires (
   head-reads.Asked,
   head-reads.Learnt,
@@ -242,7 +242,7 @@ body-fields-requires : (t : ℕ) → body-lts.Need-fields-requires (
 ) (body-at t) body.Post
 body-fields-requires t c κs = rw (c .deeper .ensures) (omega (arith, c .before .before .before .before .before .before .before .before .pre .1, pos-of-ne-zero (c .before .before .if1 .left)))
 
--- src/lib.rt:497:1
+-- src/lib.rt:501:1
 body-same-length : (t : ℕ) → body-lts.Need-same-length (
   head-reads.Asked,
   head-reads.Learnt,
@@ -253,7 +253,7 @@ body-same-length : (t : ℕ) → body-lts.Need-same-length (
 ) (body-at t) body.Post
 body-same-length t c = search needs
 
--- src/lib.rt:497:1
+-- src/lib.rt:501:1
 body-returns-2 : (t : ℕ) → body-lts.Need-returns-2 (
   head-reads.Asked,
   head-reads.Learnt,
@@ -932,7 +932,7 @@ choice-returns-3 : (t : ℕ) → choice-lts.Need-returns-3 (
 ) (choice-at t) choice.Post choice-Inv-loop choice-μ-loop
 choice-returns-3 t c = choosing-stopped (c .before .before .before .before .before .before .before .loop .inv) _ _ _ (c .before .before .before .before .before .before .core .ensures) (sym (c .before .before .before .before .before .is-union .ensures) ∙ not-false _ (c .before .before .before .before .if1 .left)) (rw (c .before .k .given .1) at (c .before .before .before .choose .ensures))
 
--- src/lib.rt:327:11
+-- src/lib.rt:328:11
 element-list-value-requires : (t : ℕ) → element-lts.Need-list-value-requires (
   list-value-below t,
   list-value.Post,
@@ -941,7 +941,7 @@ element-list-value-requires : (t : ℕ) → element-lts.Need-list-value-requires
 ) (element-at t) element.Post
 element-list-value-requires t c κs = (omega arith, c .before .before .before .before .before .pre .1)
 
--- src/lib.rt:328:19
+-- src/lib.rt:329:19
 element-enum-known-v : (t : ℕ) → element-lts.Need-enum-known-v (
   list-value-below t,
   list-value.Post,
@@ -950,7 +950,7 @@ element-enum-known-v : (t : ℕ) → element-lts.Need-enum-known-v (
 ) (element-at t) element.Post
 element-enum-known-v t c = search needs
 
--- src/lib.rt:329:21
+-- src/lib.rt:330:21
 element-enum-known-v-2 : (t : ℕ) → element-lts.Need-enum-known-v-2 (
   list-value-below t,
   list-value.Post,
@@ -959,7 +959,7 @@ element-enum-known-v-2 : (t : ℕ) → element-lts.Need-enum-known-v-2 (
 ) (element-at t) element.Post
 element-enum-known-v-2 t c = search needs
 
--- src/lib.rt:337:13
+-- src/lib.rt:338:13
 element-add-after-value : (t : ℕ) → element-lts.Need-add-after-value (
   list-value-below t,
   list-value.Post,
@@ -968,7 +968,7 @@ element-add-after-value : (t : ℕ) → element-lts.Need-add-after-value (
 ) (element-at t) element.Post
 element-add-after-value t c = omega (arith, c .before .before .before .before .before .before .before .before .before .before .before .pre .1 .1)
 
--- src/lib.rt:329:36
+-- src/lib.rt:330:36
 element-after-value-requires : (t : ℕ) → element-lts.Need-after-value-requires (
   list-value-below t,
   list-value.Post,
@@ -977,7 +977,7 @@ element-after-value-requires : (t : ℕ) → element-lts.Need-after-value-requir
 ) (element-at t) element.Post
 element-after-value-requires t c κs = omega (arith, c .before .before .before .before .before .before .before .before .before .before .before .pre .1 .0 .short)
 
--- src/lib.rt:339:25
+-- src/lib.rt:340:25
 element-enum-known-w : (t : ℕ) → element-lts.Need-enum-known-w (
   list-value-below t,
   list-value.Post,
@@ -986,7 +986,7 @@ element-enum-known-w : (t : ℕ) → element-lts.Need-enum-known-w (
 ) (element-at t) element.Post
 element-enum-known-w t c = search needs
 
--- src/lib.rt:340:38
+-- src/lib.rt:341:28
 element-enum-told : (t : ℕ) → element-lts.Need-enum-told (
   list-value-below t,
   list-value.Post,
@@ -995,7 +995,7 @@ element-enum-told : (t : ℕ) → element-lts.Need-enum-told (
 ) (element-at t) element.Post
 element-enum-told t c = search needs
 
--- src/lib.rt:341:28
+-- src/lib.rt:342:28
 element-enum-known-k : (t : ℕ) → element-lts.Need-enum-known-k (
   list-value-below t,
   list-value.Post,
@@ -1004,7 +1004,7 @@ element-enum-known-k : (t : ℕ) → element-lts.Need-enum-known-k (
 ) (element-at t) element.Post
 element-enum-known-k t c = search needs
 
--- src/lib.rt:343:24
+-- src/lib.rt:344:24
 element-enum-known-k-2 : (t : ℕ) → element-lts.Need-enum-known-k-2 (
   list-value-below t,
   list-value.Post,
@@ -1013,7 +1013,7 @@ element-enum-known-k-2 : (t : ℕ) → element-lts.Need-enum-known-k-2 (
 ) (element-at t) element.Post
 element-enum-known-k-2 t c = search needs
 
--- src/lib.rt:312:1
+-- src/lib.rt:313:1
 element-same-length : (t : ℕ) → element-lts.Need-same-length (
   list-value-below t,
   list-value.Post,
@@ -1022,7 +1022,7 @@ element-same-length : (t : ℕ) → element-lts.Need-same-length (
 ) (element-at t) element.Post
 element-same-length t c = search needs
 
--- src/lib.rt:312:1
+-- src/lib.rt:313:1
 element-returns : (t : ℕ) → element-lts.Need-returns (
   list-value-below t,
   list-value.Post,
@@ -1031,7 +1031,7 @@ element-returns : (t : ℕ) → element-lts.Need-returns (
 ) (element-at t) element.Post
 element-returns t c = rw (c .before .v .given .1) at (c .before .before .before .before .before .list-value .ensures)
 
--- src/lib.rt:312:1
+-- src/lib.rt:313:1
 element-same-length-2 : (t : ℕ) → element-lts.Need-same-length-2 (
   list-value-below t,
   list-value.Post,
@@ -1040,7 +1040,7 @@ element-same-length-2 : (t : ℕ) → element-lts.Need-same-length-2 (
 ) (element-at t) element.Post
 element-same-length-2 t c = search needs
 
--- src/lib.rt:312:1
+-- src/lib.rt:313:1
 element-returns-2 : (t : ℕ) → element-lts.Need-returns-2 (
   list-value-below t,
   list-value.Post,
@@ -1049,7 +1049,7 @@ element-returns-2 : (t : ℕ) → element-lts.Need-returns-2 (
 ) (element-at t) element.Post
 element-returns-2 t c = element-more _ _ (c .before .before .before .before .before .before .before .before .before .before .before .before .before .before .before .args .f) _ _ _ _ _ (rw (c .before .before .before .before .before .v2 .given .1) at (c .before .before .before .before .before .before .before .before .before .list-value .ensures)) _ (rw (c .before .w .given .1) at (c .before .before .before .after-value .ensures))
 
--- src/lib.rt:312:1
+-- src/lib.rt:313:1
 element-same-length-3 : (t : ℕ) → element-lts.Need-same-length-3 (
   list-value-below t,
   list-value.Post,
@@ -1058,7 +1058,7 @@ element-same-length-3 : (t : ℕ) → element-lts.Need-same-length-3 (
 ) (element-at t) element.Post
 element-same-length-3 t c = search needs
 
--- src/lib.rt:312:1
+-- src/lib.rt:313:1
 element-returns-3 : (t : ℕ) → element-lts.Need-returns-3 (
   list-value-below t,
   list-value.Post,
@@ -1067,7 +1067,7 @@ element-returns-3 : (t : ℕ) → element-lts.Need-returns-3 (
 ) (element-at t) element.Post
 element-returns-3 t c = element-last _ _ (c .before .before .before .before .before .before .before .before .before .before .before .before .before .before .args .f) _ _ _ _ _ (rw (c .before .before .before .before .v2 .given .1) at (c .before .before .before .before .before .before .before .before .list-value .ensures)) (rw (c .enum-told .given .1) at (c .before .before .after-value .ensures))
 
--- src/lib.rt:312:1
+-- src/lib.rt:313:1
 element-same-length-4 : (t : ℕ) → element-lts.Need-same-length-4 (
   list-value-below t,
   list-value.Post,
@@ -1076,7 +1076,7 @@ element-same-length-4 : (t : ℕ) → element-lts.Need-same-length-4 (
 ) (element-at t) element.Post
 element-same-length-4 t c = search needs
 
--- src/lib.rt:312:1
+-- src/lib.rt:313:1
 element-returns-4 : (t : ℕ) → element-lts.Need-returns-4 (
   list-value-below t,
   list-value.Post,
@@ -1085,7 +1085,7 @@ element-returns-4 : (t : ℕ) → element-lts.Need-returns-4 (
 ) (element-at t) element.Post
 element-returns-4 t c = element-after _ _ (c .before .before .before .before .before .before .before .before .before .before .before .before .before .before .before .args .f) _ _ _ _ _ (rw (c .before .before .before .before .before .v2 .given .1) at (c .before .before .before .before .before .before .before .before .before .list-value .ensures)) _ _ (rw (c .before .k .given .1) at (c .before .before .before .after-value .ensures))
 
--- src/lib.rt:312:1
+-- src/lib.rt:313:1
 element-same-length-5 : (t : ℕ) → element-lts.Need-same-length-5 (
   list-value-below t,
   list-value.Post,
@@ -1094,7 +1094,7 @@ element-same-length-5 : (t : ℕ) → element-lts.Need-same-length-5 (
 ) (element-at t) element.Post
 element-same-length-5 t c = search needs
 
--- src/lib.rt:312:1
+-- src/lib.rt:313:1
 element-returns-5 : (t : ℕ) → element-lts.Need-returns-5 (
   list-value-below t,
   list-value.Post,
@@ -1103,7 +1103,7 @@ element-returns-5 : (t : ℕ) → element-lts.Need-returns-5 (
 ) (element-at t) element.Post
 element-returns-5 t c = element-refused _ _ (c .before .before .before .before .before .before .before .before .before .before .before .args .f) _ _ _ (rw (c .before .k2 .given .1) at (c .before .before .before .before .before .list-value .ensures))
 
--- src/lib.rt:453:11
+-- src/lib.rt:457:11
 field-field-at-requires : (t : ℕ) → field-lts.Need-field-at-requires (
   field-at-reads.Asked,
   field-at-reads.Learnt,
@@ -1112,7 +1112,7 @@ field-field-at-requires : (t : ℕ) → field-lts.Need-field-at-requires (
 ) (field-at t) field.Post
 field-field-at-requires t c κs = omega (arith, c .before .before .before .before .pre .1 .0 .short)
 
--- src/lib.rt:454:54
+-- src/lib.rt:458:54
 field-enum-told : (t : ℕ) → field-lts.Need-enum-told (
   field-at-reads.Asked,
   field-at-reads.Learnt,
@@ -1121,7 +1121,7 @@ field-enum-told : (t : ℕ) → field-lts.Need-enum-told (
 ) (field-at t) field.Post
 field-enum-told t c = search needs
 
--- src/lib.rt:454:30
+-- src/lib.rt:458:30
 field-list-requires : (t : ℕ) → field-lts.Need-list-requires (
   field-at-reads.Asked,
   field-at-reads.Learnt,
@@ -1130,7 +1130,7 @@ field-list-requires : (t : ℕ) → field-lts.Need-list-requires (
 ) (field-at t) field.Post
 field-list-requires t c κs = omega (arith, c .before .before .before .before .before .before .before .before .pre .1)
 
--- src/lib.rt:455:23
+-- src/lib.rt:459:23
 field-enum-known-v : (t : ℕ) → field-lts.Need-enum-known-v (
   field-at-reads.Asked,
   field-at-reads.Learnt,
@@ -1139,7 +1139,7 @@ field-enum-known-v : (t : ℕ) → field-lts.Need-enum-known-v (
 ) (field-at t) field.Post
 field-enum-known-v t c = search needs
 
--- src/lib.rt:456:26
+-- src/lib.rt:460:26
 field-enum-known-k : (t : ℕ) → field-lts.Need-enum-known-k (
   field-at-reads.Asked,
   field-at-reads.Learnt,
@@ -1148,7 +1148,7 @@ field-enum-known-k : (t : ℕ) → field-lts.Need-enum-known-k (
 ) (field-at t) field.Post
 field-enum-known-k t c = search needs
 
--- src/lib.rt:458:43
+-- src/lib.rt:462:43
 field-enum-told-2 : (t : ℕ) → field-lts.Need-enum-told-2 (
   field-at-reads.Asked,
   field-at-reads.Learnt,
@@ -1157,7 +1157,7 @@ field-enum-told-2 : (t : ℕ) → field-lts.Need-enum-told-2 (
 ) (field-at t) field.Post
 field-enum-told-2 t c = search needs
 
--- src/lib.rt:459:24
+-- src/lib.rt:463:24
 field-enum-known-k-2 : (t : ℕ) → field-lts.Need-enum-known-k-2 (
   field-at-reads.Asked,
   field-at-reads.Learnt,
@@ -1166,7 +1166,7 @@ field-enum-known-k-2 : (t : ℕ) → field-lts.Need-enum-known-k-2 (
 ) (field-at t) field.Post
 field-enum-known-k-2 t c = search needs
 
--- src/lib.rt:440:1
+-- src/lib.rt:444:1
 field-same-length : (t : ℕ) → field-lts.Need-same-length (
   field-at-reads.Asked,
   field-at-reads.Learnt,
@@ -1175,7 +1175,7 @@ field-same-length : (t : ℕ) → field-lts.Need-same-length (
 ) (field-at t) field.Post
 field-same-length t c = search needs
 
--- src/lib.rt:440:1
+-- src/lib.rt:444:1
 field-returns : (t : ℕ) → field-lts.Need-returns (
   field-at-reads.Asked,
   field-at-reads.Learnt,
@@ -1184,7 +1184,7 @@ field-returns : (t : ℕ) → field-lts.Need-returns (
 ) (field-at t) field.Post
 field-returns t c = λ p qs. field-on _ _ (c .before .before .before .before .before .before .before .before .before .before .before .before .before .before .args .f) _ _ _ p qs ((rw (c .before .before .before .before .before .before .before .enum-told .given .1) at (c .before .before .before .before .before .before .before .before .before .field-at .ensures)) _ p qs) _ _ (rw (c .before .v .given .1) at (c .before .before .before .before .before .list .ensures))
 
--- src/lib.rt:440:1
+-- src/lib.rt:444:1
 field-same-length-2 : (t : ℕ) → field-lts.Need-same-length-2 (
   field-at-reads.Asked,
   field-at-reads.Learnt,
@@ -1193,7 +1193,7 @@ field-same-length-2 : (t : ℕ) → field-lts.Need-same-length-2 (
 ) (field-at t) field.Post
 field-same-length-2 t c = search needs
 
--- src/lib.rt:440:1
+-- src/lib.rt:444:1
 field-returns-2 : (t : ℕ) → field-lts.Need-returns-2 (
   field-at-reads.Asked,
   field-at-reads.Learnt,
@@ -1202,7 +1202,7 @@ field-returns-2 : (t : ℕ) → field-lts.Need-returns-2 (
 ) (field-at t) field.Post
 field-returns-2 t c = λ p qs. field-refused _ _ (c .before .before .before .before .before .before .before .before .before .before .before .before .before .before .args .f) _ [] [] p qs ((rw (c .before .before .before .before .before .before .before .enum-told .given .1) at (c .before .before .before .before .before .before .before .before .before .field-at .ensures)) _ p qs) _ _ (rw (c .before .k .given .1) at (c .before .before .before .before .before .list .ensures))
 
--- src/lib.rt:440:1
+-- src/lib.rt:444:1
 field-returns-3 : (t : ℕ) → field-lts.Need-returns-3 (
   field-at-reads.Asked,
   field-at-reads.Learnt,
@@ -1211,7 +1211,7 @@ field-returns-3 : (t : ℕ) → field-lts.Need-returns-3 (
 ) (field-at t) field.Post
 field-returns-3 t c = λ p qs. field-none _ _ (c .before .before .before .before .before .before .before .args .f) _ _ p qs ((rw (c .enum-told2 .given .1) at (c .before .before .field-at .ensures)) _ p qs) (c .before .before .before .before .before .before .before .pre .1 .0 .here)
 
--- src/lib.rt:440:1
+-- src/lib.rt:444:1
 field-returns-4 : (t : ℕ) → field-lts.Need-returns-4 (
   field-at-reads.Asked,
   field-at-reads.Learnt,
@@ -1226,7 +1226,7 @@ fields-Inv-loop table offs n s rows₀ inside g₀ i₀ rows g i = Fielding tabl
 abbrev fields-μ-loop : fields-lts.MeasureT-loop
 fields-μ-loop table offs n s rows₀ inside g₀ i₀ rows g i = n - i
 
--- src/lib.rt:478:5
+-- src/lib.rt:482:5
 fields-loop-holds : (t : ℕ) → fields-lts.Need-loop-holds (
   next-untagged-reads.Asked,
   next-untagged-reads.Learnt,
@@ -1241,7 +1241,7 @@ fields-loop-holds : (t : ℕ) → fields-lts.Need-loop-holds (
 ) (fields-at t) fields.Post fields-Inv-loop fields-μ-loop
 fields-loop-holds t c = fielding-start _ _ _ _ _ _ _ (c .before .before .before .before .pre .1 .here)
 
--- src/lib.rt:479:15
+-- src/lib.rt:483:15
 fields-next-untagged-requires : (t : ℕ) → fields-lts.Need-next-untagged-requires (
   next-untagged-reads.Asked,
   next-untagged-reads.Learnt,
@@ -1256,7 +1256,7 @@ fields-next-untagged-requires : (t : ℕ) → fields-lts.Need-next-untagged-requ
 ) (fields-at t) fields.Post fields-Inv-loop fields-μ-loop
 fields-next-untagged-requires t c κs = search needs
 
--- src/lib.rt:481:49
+-- src/lib.rt:485:49
 fields-enum-told : (t : ℕ) → fields-lts.Need-enum-told (
   next-untagged-reads.Asked,
   next-untagged-reads.Learnt,
@@ -1271,7 +1271,7 @@ fields-enum-told : (t : ℕ) → fields-lts.Need-enum-told (
 ) (fields-at t) fields.Post fields-Inv-loop fields-μ-loop
 fields-enum-told t c = search needs
 
--- src/lib.rt:481:17
+-- src/lib.rt:485:17
 fields-items-requires : (t : ℕ) → fields-lts.Need-items-requires (
   next-untagged-reads.Asked,
   next-untagged-reads.Learnt,
@@ -1286,7 +1286,7 @@ fields-items-requires : (t : ℕ) → fields-lts.Need-items-requires (
 ) (fields-at t) fields.Post fields-Inv-loop fields-μ-loop
 fields-items-requires t c κs = let r = (fielding-room (c .before .before .before .before .loop .inv) (c .before .before .before .before .before .before .before .before .before .pre .1)) in omega (arith, r, fielding-depth (c .before .before .before .before .loop .inv))
 
--- src/lib.rt:481:17
+-- src/lib.rt:485:17
 fields-same-length : (t : ℕ) → fields-lts.Need-same-length (
   next-untagged-reads.Asked,
   next-untagged-reads.Learnt,
@@ -1301,7 +1301,7 @@ fields-same-length : (t : ℕ) → fields-lts.Need-same-length (
 ) (fields-at t) fields.Post fields-Inv-loop fields-μ-loop
 fields-same-length t c = search needs
 
--- src/lib.rt:481:17
+-- src/lib.rt:485:17
 fields-returns : (t : ℕ) → fields-lts.Need-returns (
   next-untagged-reads.Asked,
   next-untagged-reads.Learnt,
@@ -1316,7 +1316,7 @@ fields-returns : (t : ℕ) → fields-lts.Need-returns (
 ) (fields-at t) fields.Post fields-Inv-loop fields-μ-loop
 fields-returns t c = fielding-items (c .before .before .before .before .before .before .before .loop .inv) _ (c .before .before .items .result) (found-none (c .before .before .before .before .before .before .next-untagged .result) _ (c .before .before .before .before .enum-told .given .1) (c .before .before .before .before .before .before .next-untagged .ensures)) (c .before .before .items .ensures)
 
--- src/lib.rt:483:23
+-- src/lib.rt:487:23
 fields-enum-known-q : (t : ℕ) → fields-lts.Need-enum-known-q (
   next-untagged-reads.Asked,
   next-untagged-reads.Learnt,
@@ -1331,7 +1331,7 @@ fields-enum-known-q : (t : ℕ) → fields-lts.Need-enum-known-q (
 ) (fields-at t) fields.Post fields-Inv-loop fields-μ-loop
 fields-enum-known-q t c = search needs
 
--- src/lib.rt:483:66
+-- src/lib.rt:487:66
 fields-for-field-requires : (t : ℕ) → fields-lts.Need-for-field-requires (
   next-untagged-reads.Asked,
   next-untagged-reads.Learnt,
@@ -1346,7 +1346,7 @@ fields-for-field-requires : (t : ℕ) → fields-lts.Need-for-field-requires (
 ) (fields-at t) fields.Post fields-Inv-loop fields-μ-loop
 fields-for-field-requires t c κs = search needs
 
--- src/lib.rt:483:35
+-- src/lib.rt:487:35
 fields-field-requires : (t : ℕ) → fields-lts.Need-field-requires (
   next-untagged-reads.Asked,
   next-untagged-reads.Learnt,
@@ -1361,7 +1361,7 @@ fields-field-requires : (t : ℕ) → fields-lts.Need-field-requires (
 ) (fields-at t) fields.Post fields-Inv-loop fields-μ-loop
 fields-field-requires t c κs = let r = (fielding-room (c .before .before .before .before .before .before .loop .inv) (c .before .before .before .before .before .before .before .before .before .before .before .pre .1)) in let q = next-between _ _ _ _ _ _ (found-at (c .before .before .before .before .before .next-untagged .result) _ _ (c .before .before .before .q .given .1) (c .before .before .before .before .before .next-untagged .ensures)) in rw (c .for-field .ensures) (omega (arith, r, q, fielding-depth (c .before .before .before .before .before .before .loop .inv)))
 
--- src/lib.rt:484:26
+-- src/lib.rt:488:26
 fields-enum-known-v : (t : ℕ) → fields-lts.Need-enum-known-v (
   next-untagged-reads.Asked,
   next-untagged-reads.Learnt,
@@ -1376,7 +1376,7 @@ fields-enum-known-v : (t : ℕ) → fields-lts.Need-enum-known-v (
 ) (fields-at t) fields.Post fields-Inv-loop fields-μ-loop
 fields-enum-known-v t c = search needs
 
--- src/lib.rt:485:21
+-- src/lib.rt:489:21
 fields-moved-requires : (t : ℕ) → fields-lts.Need-moved-requires (
   next-untagged-reads.Asked,
   next-untagged-reads.Learnt,
@@ -1391,7 +1391,7 @@ fields-moved-requires : (t : ℕ) → fields-lts.Need-moved-requires (
 ) (fields-at t) fields.Post fields-Inv-loop fields-μ-loop
 fields-moved-requires t c κs = search needs
 
--- src/lib.rt:486:25
+-- src/lib.rt:490:25
 fields-add-i : (t : ℕ) → fields-lts.Need-add-i (
   next-untagged-reads.Asked,
   next-untagged-reads.Learnt,
@@ -1406,7 +1406,7 @@ fields-add-i : (t : ℕ) → fields-lts.Need-add-i (
 ) (fields-at t) fields.Post fields-Inv-loop fields-μ-loop
 fields-add-i t c = let q = next-between _ _ _ _ _ _ (found-at (c .before .before .before .before .before .before .before .before .before .before .before .before .next-untagged .result) _ _ (c .before .before .before .before .before .before .before .before .before .before .q .given .1) (c .before .before .before .before .before .before .before .before .before .before .before .before .next-untagged .ensures)) in omega (arith, q, c .before .before .before .before .before .before .before .before .before .before .before .before .before .before .before .before .before .before .pre .1 .known)
 
--- src/lib.rt:478:5
+-- src/lib.rt:482:5
 fields-loop-less : (t : ℕ) → fields-lts.Need-loop-less (
   next-untagged-reads.Asked,
   next-untagged-reads.Learnt,
@@ -1421,7 +1421,7 @@ fields-loop-less : (t : ℕ) → fields-lts.Need-loop-less (
 ) (fields-at t) fields.Post fields-Inv-loop fields-μ-loop
 fields-loop-less t c = let q = next-between _ _ _ _ _ _ (found-at (c .before .before .before .before .before .before .before .before .before .before .before .before .next-untagged .result) _ _ (c .before .before .before .before .before .before .before .before .before .before .q .given .1) (c .before .before .before .before .before .before .before .before .before .before .before .before .next-untagged .ensures)) in omega (arith, q)
 
--- src/lib.rt:478:5
+-- src/lib.rt:482:5
 fields-loop-again : (t : ℕ) → fields-lts.Need-loop-again (
   next-untagged-reads.Asked,
   next-untagged-reads.Learnt,
@@ -1436,7 +1436,7 @@ fields-loop-again : (t : ℕ) → fields-lts.Need-loop-again (
 ) (fields-at t) fields.Post fields-Inv-loop fields-μ-loop
 fields-loop-again t c = fielding-on (c .before .before .before .before .before .before .before .before .before .before .before .before .before .loop .inv) _ (found-at (c .before .before .before .before .before .before .before .before .before .before .before .before .next-untagged .result) _ _ (c .before .before .before .before .before .before .before .before .before .before .q .given .1) (c .before .before .before .before .before .before .before .before .before .before .before .before .next-untagged .ensures)) _ (c .before .before .before .before .before .before .field .result) (rw (c .before .before .before .before .before .before .before .for-field .ensures) at (c .before .before .before .before .before .before .field .ensures)) _ _ _ (c .before .before .v .given .1) (c .moved .ensures)
 
--- src/lib.rt:488:27
+-- src/lib.rt:492:27
 fields-enum-known-o : (t : ℕ) → fields-lts.Need-enum-known-o (
   next-untagged-reads.Asked,
   next-untagged-reads.Learnt,
@@ -1451,7 +1451,7 @@ fields-enum-known-o : (t : ℕ) → fields-lts.Need-enum-known-o (
 ) (fields-at t) fields.Post fields-Inv-loop fields-μ-loop
 fields-enum-known-o t c = search needs
 
--- src/lib.rt:489:21
+-- src/lib.rt:493:21
 fields-same-length-2 : (t : ℕ) → fields-lts.Need-same-length-2 (
   next-untagged-reads.Asked,
   next-untagged-reads.Learnt,
@@ -1466,7 +1466,7 @@ fields-same-length-2 : (t : ℕ) → fields-lts.Need-same-length-2 (
 ) (fields-at t) fields.Post fields-Inv-loop fields-μ-loop
 fields-same-length-2 t c = search needs
 
--- src/lib.rt:489:21
+-- src/lib.rt:493:21
 fields-returns-2 : (t : ℕ) → fields-lts.Need-returns-2 (
   next-untagged-reads.Asked,
   next-untagged-reads.Learnt,
@@ -1481,7 +1481,7 @@ fields-returns-2 : (t : ℕ) → fields-lts.Need-returns-2 (
 ) (fields-at t) fields.Post fields-Inv-loop fields-μ-loop
 fields-returns-2 t c = fielding-out (c .before .before .before .before .before .before .before .before .before .before .before .before .loop .inv) _ (found-at (c .before .before .before .before .before .before .before .before .before .before .before .next-untagged .result) _ _ (c .before .before .before .before .before .before .before .before .before .q .given .1) (c .before .before .before .before .before .before .before .before .before .before .before .next-untagged .ensures)) _ (c .before .before .before .before .before .field .result) (rw (c .before .before .before .before .before .before .for-field .ensures) at (c .before .before .before .before .before .field .ensures)) _ (c .before .o .given .1)
 
--- src/lib.rt:385:11
+-- src/lib.rt:389:11
 item-item-at-requires : (t : ℕ) → item-lts.Need-item-at-requires (
   item-at-reads.Asked,
   item-at-reads.Learnt,
@@ -1496,7 +1496,7 @@ item-item-at-requires : (t : ℕ) → item-lts.Need-item-at-requires (
 ) (item-at t) item.Post
 item-item-at-requires t c κs = omega (arith, c .before .before .before .before .before .pre .1 .0 .short)
 
--- src/lib.rt:386:42
+-- src/lib.rt:390:42
 item-enum-told : (t : ℕ) → item-lts.Need-enum-told (
   item-at-reads.Asked,
   item-at-reads.Learnt,
@@ -1511,7 +1511,7 @@ item-enum-told : (t : ℕ) → item-lts.Need-enum-told (
 ) (item-at t) item.Post
 item-enum-told t c = search needs
 
--- src/lib.rt:387:20
+-- src/lib.rt:391:20
 item-enum-known-q : (t : ℕ) → item-lts.Need-enum-known-q (
   item-at-reads.Asked,
   item-at-reads.Learnt,
@@ -1526,7 +1526,7 @@ item-enum-known-q : (t : ℕ) → item-lts.Need-enum-known-q (
 ) (item-at t) item.Post
 item-enum-known-q t c = search needs
 
--- src/lib.rt:388:13
+-- src/lib.rt:392:13
 item-mark-requires : (t : ℕ) → item-lts.Need-mark-requires (
   item-at-reads.Asked,
   item-at-reads.Learnt,
@@ -1541,7 +1541,7 @@ item-mark-requires : (t : ℕ) → item-lts.Need-mark-requires (
 ) (item-at t) item.Post
 item-mark-requires t c κs = search needs
 
--- src/lib.rt:395:28
+-- src/lib.rt:399:28
 item-add-t31 : (t : ℕ) → item-lts.Need-add-t31 (
   item-at-reads.Asked,
   item-at-reads.Learnt,
@@ -1556,7 +1556,7 @@ item-add-t31 : (t : ℕ) → item-lts.Need-add-t31 (
 ) (item-at t) item.Post
 item-add-t31 t c = let w = ((rw (c .before .before .before .before .before .q .given .1) at (c .before .before .before .before .before .before .before .item-at .ensures)) (c .before .before .before .before .before .before .before .before .before .before .before .before .before .pre .1 .1 .ks) (c .before .before .before .before .before .before .before .before .before .before .before .before .before .pre .1 .1 .marks)) in omega (arith, w .step .less, w .step .within, c .before .before .before .before .before .before .before .before .before .before .before .before .before .pre .1 .0 .short)
 
--- src/lib.rt:396:26
+-- src/lib.rt:400:26
 item-add-t32 : (t : ℕ) → item-lts.Need-add-t32 (
   item-at-reads.Asked,
   item-at-reads.Learnt,
@@ -1571,7 +1571,7 @@ item-add-t32 : (t : ℕ) → item-lts.Need-add-t32 (
 ) (item-at t) item.Post
 item-add-t32 t c = let w = ((rw (c .before .before .before .before .before .before .before .q .given .1) at (c .before .before .before .before .before .before .before .before .before .item-at .ensures)) (c .before .before .before .before .before .before .before .before .before .before .before .before .before .before .before .pre .1 .1 .ks) (c .before .before .before .before .before .before .before .before .before .before .before .before .before .before .before .pre .1 .1 .marks)) in omega (arith, w .step .less, w .step .within, c .before .before .before .before .before .before .before .before .before .before .before .before .before .before .before .pre .1 .0 .short)
 
--- src/lib.rt:389:13
+-- src/lib.rt:393:13
 item-put-row-requires : (t : ℕ) → item-lts.Need-put-row-requires (
   item-at-reads.Asked,
   item-at-reads.Learnt,
@@ -1586,7 +1586,7 @@ item-put-row-requires : (t : ℕ) → item-lts.Need-put-row-requires (
 ) (item-at t) item.Post
 item-put-row-requires t c κs = let w = ((rw (c .before .before .before .before .before .before .before .q .given .1) at (c .before .before .before .before .before .before .before .before .before .item-at .ensures)) (c .before .before .before .before .before .before .before .before .before .before .before .before .before .before .before .pre .1 .1 .ks) (c .before .before .before .before .before .before .before .before .before .before .before .before .before .before .before .pre .1 .1 .marks)) in omega (arith, w .step .less, w .step .within, w .below, c .before .before .before .before .before .before .before .before .before .before .before .before .before .before .before .pre .1 .0)
 
--- src/lib.rt:399:25
+-- src/lib.rt:403:25
 item-add-t31-2 : (t : ℕ) → item-lts.Need-add-t31-2 (
   item-at-reads.Asked,
   item-at-reads.Learnt,
@@ -1601,7 +1601,7 @@ item-add-t31-2 : (t : ℕ) → item-lts.Need-add-t31-2 (
 ) (item-at t) item.Post
 item-add-t31-2 t c = omega (arith, c .before .before .before .before .before .before .before .before .before .before .before .before .before .before .before .before .before .before .before .pre .1 .0)
 
--- src/lib.rt:401:20
+-- src/lib.rt:405:20
 item-enum-known-q-2 : (t : ℕ) → item-lts.Need-enum-known-q-2 (
   item-at-reads.Asked,
   item-at-reads.Learnt,
@@ -1616,7 +1616,7 @@ item-enum-known-q-2 : (t : ℕ) → item-lts.Need-enum-known-q-2 (
 ) (item-at t) item.Post
 item-enum-known-q-2 t c = search needs
 
--- src/lib.rt:402:13
+-- src/lib.rt:406:13
 item-mark-requires-2 : (t : ℕ) → item-lts.Need-mark-requires-2 (
   item-at-reads.Asked,
   item-at-reads.Learnt,
@@ -1631,7 +1631,7 @@ item-mark-requires-2 : (t : ℕ) → item-lts.Need-mark-requires-2 (
 ) (item-at t) item.Post
 item-mark-requires-2 t c κs = search needs
 
--- src/lib.rt:403:49
+-- src/lib.rt:407:49
 item-for-field-requires : (t : ℕ) → item-lts.Need-for-field-requires (
   item-at-reads.Asked,
   item-at-reads.Learnt,
@@ -1646,7 +1646,7 @@ item-for-field-requires : (t : ℕ) → item-lts.Need-for-field-requires (
 ) (item-at t) item.Post
 item-for-field-requires t c κs = search needs
 
--- src/lib.rt:403:19
+-- src/lib.rt:407:19
 item-list-requires : (t : ℕ) → item-lts.Need-list-requires (
   item-at-reads.Asked,
   item-at-reads.Learnt,
@@ -1661,7 +1661,7 @@ item-list-requires : (t : ℕ) → item-lts.Need-list-requires (
 ) (item-at t) item.Post
 item-list-requires t c κs = let w = ((rw (c .before .before .before .before .before .q2 .given .1) at (c .before .before .before .before .before .before .before .item-at .ensures)) (c .before .before .before .before .before .before .before .before .before .before .before .before .before .pre .1 .1 .ks) (c .before .before .before .before .before .before .before .before .before .before .before .before .before .pre .1 .1 .marks)) in rw (c .for-field .ensures) (omega (arith, w .first .least, w .first .less, w .second .least, w .second .less, w .second .within, w .below, c .before .before .before .before .before .before .before .before .before .before .before .before .before .pre .1 .0))
 
--- src/lib.rt:404:27
+-- src/lib.rt:408:27
 item-enum-known-w : (t : ℕ) → item-lts.Need-enum-known-w (
   item-at-reads.Asked,
   item-at-reads.Learnt,
@@ -1676,7 +1676,7 @@ item-enum-known-w : (t : ℕ) → item-lts.Need-enum-known-w (
 ) (item-at t) item.Post
 item-enum-known-w t c = search needs
 
--- src/lib.rt:405:30
+-- src/lib.rt:409:30
 item-enum-known-k : (t : ℕ) → item-lts.Need-enum-known-k (
   item-at-reads.Asked,
   item-at-reads.Learnt,
@@ -1691,7 +1691,7 @@ item-enum-known-k : (t : ℕ) → item-lts.Need-enum-known-k (
 ) (item-at t) item.Post
 item-enum-known-k t c = search needs
 
--- src/lib.rt:408:23
+-- src/lib.rt:412:23
 item-enum-known-v : (t : ℕ) → item-lts.Need-enum-known-v (
   item-at-reads.Asked,
   item-at-reads.Learnt,
@@ -1706,7 +1706,7 @@ item-enum-known-v : (t : ℕ) → item-lts.Need-enum-known-v (
 ) (item-at t) item.Post
 item-enum-known-v t c = search needs
 
--- src/lib.rt:409:23
+-- src/lib.rt:413:23
 item-enum-known-k-2 : (t : ℕ) → item-lts.Need-enum-known-k-2 (
   item-at-reads.Asked,
   item-at-reads.Learnt,
@@ -1721,7 +1721,7 @@ item-enum-known-k-2 : (t : ℕ) → item-lts.Need-enum-known-k-2 (
 ) (item-at t) item.Post
 item-enum-known-k-2 t c = search needs
 
--- src/lib.rt:371:1
+-- src/lib.rt:375:1
 item-returns : (t : ℕ) → item-lts.Need-returns (
   item-at-reads.Asked,
   item-at-reads.Learnt,
@@ -1736,7 +1736,7 @@ item-returns : (t : ℕ) → item-lts.Need-returns (
 ) (item-at t) item.Post
 item-returns t c = λ ks m. λ fuel. items-none _ _ (c .before .before .before .before .before .before .before .before .args .f) _ _ fuel ks ((rw (c .enum-told .given .1) at (c .before .before .item-at .ensures)) ks m _ fuel) (c .before .before .before .before .before .before .before .before .pre .1 .0 .here)
 
--- src/lib.rt:371:1
+-- src/lib.rt:375:1
 item-same-length : (t : ℕ) → item-lts.Need-same-length (
   item-at-reads.Asked,
   item-at-reads.Learnt,
@@ -1751,7 +1751,7 @@ item-same-length : (t : ℕ) → item-lts.Need-same-length (
 ) (item-at t) item.Post
 item-same-length t c = search needs
 
--- src/lib.rt:371:1
+-- src/lib.rt:375:1
 item-returns-2 : (t : ℕ) → item-lts.Need-returns-2 (
   item-at-reads.Asked,
   item-at-reads.Learnt,
@@ -1766,7 +1766,7 @@ item-returns-2 : (t : ℕ) → item-lts.Need-returns-2 (
 ) (item-at t) item.Post
 item-returns-2 t c = λ ks m. let w = (rw (c .before .before .before .before .before .before .before .before .before .before .before .q .given .1) at (c .before .before .before .before .before .before .before .before .before .before .before .before .before .item-at .ensures)) ks m in item-void _ _ _ (c .before .before .before .before .before .before .before .before .before .before .before .before .before .before .before .before .before .before .before .args .f) _ ks _ _ _ _ _ _ w (rw (c .before .before .before .before .before .before .before .before .mark .ensures) (marks-more _ ks _ (omega (arith, w .below, c .before .before .before .before .before .before .before .before .before .before .before .before .before .before .before .before .before .before .before .pre .1 .0 .known)) m)) (c .before .before .before .put-row .ensures)
 
--- src/lib.rt:371:1
+-- src/lib.rt:375:1
 item-same-length-2 : (t : ℕ) → item-lts.Need-same-length-2 (
   item-at-reads.Asked,
   item-at-reads.Learnt,
@@ -1781,7 +1781,7 @@ item-same-length-2 : (t : ℕ) → item-lts.Need-same-length-2 (
 ) (item-at t) item.Post
 item-same-length-2 t c = search needs
 
--- src/lib.rt:371:1
+-- src/lib.rt:375:1
 item-returns-3 : (t : ℕ) → item-lts.Need-returns-3 (
   item-at-reads.Asked,
   item-at-reads.Learnt,
@@ -1796,7 +1796,7 @@ item-returns-3 : (t : ℕ) → item-lts.Need-returns-3 (
 ) (item-at t) item.Post
 item-returns-3 t c = λ ks m. let w = (rw (c .before .before .before .before .before .before .before .before .before .before .before .q2 .given .1) at (c .before .before .before .before .before .before .before .before .before .before .before .before .before .item-at .ensures)) ks m in item-list _ _ _ (c .before .before .before .before .before .before .before .before .before .before .before .before .before .before .before .before .before .before .before .args .f) _ ks _ _ _ _ _ w _ _ (rw (c .before .before .before .before .before .before .before .before .mark2 .ensures) (marks-more _ ks _ (omega (arith, w .below, c .before .before .before .before .before .before .before .before .before .before .before .before .before .before .before .before .before .before .before .pre .1 .0 .known)) m)) (rw (c .before .before .before .before .before .before .for-field .ensures, c .before .w .given .1) at (c .before .before .before .before .before .list .ensures))
 
--- src/lib.rt:371:1
+-- src/lib.rt:375:1
 item-same-length-3 : (t : ℕ) → item-lts.Need-same-length-3 (
   item-at-reads.Asked,
   item-at-reads.Learnt,
@@ -1811,7 +1811,7 @@ item-same-length-3 : (t : ℕ) → item-lts.Need-same-length-3 (
 ) (item-at t) item.Post
 item-same-length-3 t c = search needs
 
--- src/lib.rt:371:1
+-- src/lib.rt:375:1
 item-returns-4 : (t : ℕ) → item-lts.Need-returns-4 (
   item-at-reads.Asked,
   item-at-reads.Learnt,
@@ -1826,7 +1826,7 @@ item-returns-4 : (t : ℕ) → item-lts.Need-returns-4 (
 ) (item-at t) item.Post
 item-returns-4 t c = λ ks m. λ fuel. item-refused _ _ _ (c .before .before .before .before .before .before .before .before .before .before .before .before .before .before .before .before .before .before .before .args .f) _ ks [] [] [] _ _ ((rw (c .before .before .before .before .before .before .before .before .before .before .before .q2 .given .1) at (c .before .before .before .before .before .before .before .before .before .before .before .before .before .item-at .ensures)) ks m) _ _ (rw (c .before .before .before .before .before .before .for-field .ensures, c .before .k .given .1) at (c .before .before .before .before .before .list .ensures)) fuel
 
--- src/lib.rt:371:1
+-- src/lib.rt:375:1
 item-returns-5 : (t : ℕ) → item-lts.Need-returns-5 (
   item-at-reads.Asked,
   item-at-reads.Learnt,
@@ -1841,7 +1841,7 @@ item-returns-5 : (t : ℕ) → item-lts.Need-returns-5 (
 ) (item-at t) item.Post
 item-returns-5 t c = λ ks m. item-passed _ (c .before .before .before .before .before .before .before .before .before .args .n) _ (c .before .before .before .before .before .before .before .before .before .args .f) _ ks _ _ _ _ ((rw (c .before .v .given .1) at (c .before .before .before .item-at .ensures)) ks m) m refl
 
--- src/lib.rt:371:1
+-- src/lib.rt:375:1
 item-returns-6 : (t : ℕ) → item-lts.Need-returns-6 (
   item-at-reads.Asked,
   item-at-reads.Learnt,
@@ -1862,7 +1862,7 @@ items-Inv-loop table offs n s rows₀ inside seen₀ g₀ rows seen g = Iteming 
 abbrev items-μ-loop : items-lts.MeasureT-loop
 items-μ-loop table offs n s rows₀ inside seen₀ g₀ rows seen g = length s - g .at
 
--- src/lib.rt:425:20
+-- src/lib.rt:429:20
 items-no-marks-requires : (t : ℕ) → items-lts.Need-no-marks-requires (
   no-marks-reads.Asked,
   no-marks-reads.Learnt,
@@ -1873,7 +1873,7 @@ items-no-marks-requires : (t : ℕ) → items-lts.Need-no-marks-requires (
 ) (items-at t) items.Post items-Inv-loop items-μ-loop
 items-no-marks-requires t c κs = search needs
 
--- src/lib.rt:427:5
+-- src/lib.rt:431:5
 items-loop-holds : (t : ℕ) → items-lts.Need-loop-holds (
   no-marks-reads.Asked,
   no-marks-reads.Learnt,
@@ -1884,7 +1884,7 @@ items-loop-holds : (t : ℕ) → items-lts.Need-loop-holds (
 ) (items-at t) items.Post items-Inv-loop items-μ-loop
 items-loop-holds t c = iteming-start _ _ _ _ _ _ (c .no-marks .ensures) (c .before .before .before .before .before .pre .1 .here)
 
--- src/lib.rt:428:15
+-- src/lib.rt:432:15
 items-item-requires : (t : ℕ) → items-lts.Need-item-requires (
   no-marks-reads.Asked,
   no-marks-reads.Learnt,
@@ -1895,7 +1895,7 @@ items-item-requires : (t : ℕ) → items-lts.Need-item-requires (
 ) (items-at t) items.Post items-Inv-loop items-μ-loop
 items-item-requires t c κs = let r = iteming-room (c .before .before .loop .inv) _ (c .before .before .before .before .before .before .before .before .pre .1) in let d = iteming-depth (c .before .before .loop .inv) in let m : Marked _ = record { ks = c .before .before .loop .inv .seen; marks = c .before .before .loop .inv .marked } in search needs
 
--- src/lib.rt:429:22
+-- src/lib.rt:433:22
 items-enum-known-v : (t : ℕ) → items-lts.Need-enum-known-v (
   no-marks-reads.Asked,
   no-marks-reads.Learnt,
@@ -1906,7 +1906,7 @@ items-enum-known-v : (t : ℕ) → items-lts.Need-enum-known-v (
 ) (items-at t) items.Post items-Inv-loop items-μ-loop
 items-enum-known-v t c = search needs
 
--- src/lib.rt:430:17
+-- src/lib.rt:434:17
 items-moved-requires : (t : ℕ) → items-lts.Need-moved-requires (
   no-marks-reads.Asked,
   no-marks-reads.Learnt,
@@ -1917,7 +1917,7 @@ items-moved-requires : (t : ℕ) → items-lts.Need-moved-requires (
 ) (items-at t) items.Post items-Inv-loop items-μ-loop
 items-moved-requires t c κs = search needs
 
--- src/lib.rt:427:5
+-- src/lib.rt:431:5
 items-loop-less : (t : ℕ) → items-lts.Need-loop-less (
   no-marks-reads.Asked,
   no-marks-reads.Learnt,
@@ -1928,7 +1928,7 @@ items-loop-less : (t : ℕ) → items-lts.Need-loop-less (
 ) (items-at t) items.Post items-Inv-loop items-μ-loop
 items-loop-less t c = let t = (iteming-turn (c .before .before .before .before .before .before .before .before .before .loop .inv) _ _ (c .before .before .before .before .before .before .item .result) (c .before .before .before .before .before .before .item .ensures) _ _ (c .before .before .v .given .1)) in rw (c .moved .ensures) (omega (arith, t))
 
--- src/lib.rt:427:5
+-- src/lib.rt:431:5
 items-loop-again : (t : ℕ) → items-lts.Need-loop-again (
   no-marks-reads.Asked,
   no-marks-reads.Learnt,
@@ -1939,7 +1939,7 @@ items-loop-again : (t : ℕ) → items-lts.Need-loop-again (
 ) (items-at t) items.Post items-Inv-loop items-μ-loop
 items-loop-again t c = iteming-on (c .before .before .before .before .before .before .before .before .before .loop .inv) _ _ (c .before .before .before .before .before .before .item .result) (c .before .before .before .before .before .before .item .ensures) _ _ _ (c .before .before .v .given .1) (c .moved .ensures)
 
--- src/lib.rt:432:23
+-- src/lib.rt:436:23
 items-enum-known-o : (t : ℕ) → items-lts.Need-enum-known-o (
   no-marks-reads.Asked,
   no-marks-reads.Learnt,
@@ -1950,7 +1950,7 @@ items-enum-known-o : (t : ℕ) → items-lts.Need-enum-known-o (
 ) (items-at t) items.Post items-Inv-loop items-μ-loop
 items-enum-known-o t c = search needs
 
--- src/lib.rt:433:17
+-- src/lib.rt:437:17
 items-same-length : (t : ℕ) → items-lts.Need-same-length (
   no-marks-reads.Asked,
   no-marks-reads.Learnt,
@@ -1961,7 +1961,7 @@ items-same-length : (t : ℕ) → items-lts.Need-same-length (
 ) (items-at t) items.Post items-Inv-loop items-μ-loop
 items-same-length t c = search needs
 
--- src/lib.rt:433:17
+-- src/lib.rt:437:17
 items-returns : (t : ℕ) → items-lts.Need-returns (
   no-marks-reads.Asked,
   no-marks-reads.Learnt,
@@ -1978,7 +1978,7 @@ list-Inv-loop table offs n s rows₀ e g₀ c₀ rows g c = Listing (schemaAt ta
 abbrev list-μ-loop : list-lts.MeasureT-loop
 list-μ-loop table offs n s rows₀ e g₀ c₀ rows g c = length s - g .at
 
--- src/lib.rt:352:9
+-- src/lib.rt:353:9
 list-ints-of-requires : (t : ℕ) → list-lts.Need-ints-of-requires (
   ints-of-reads.Asked,
   ints-of-reads.Learnt,
@@ -1989,7 +1989,7 @@ list-ints-of-requires : (t : ℕ) → list-lts.Need-ints-of-requires (
 ) (list-at t) list.Post list-Inv-loop list-μ-loop
 list-ints-of-requires t c κs = search needs
 
--- src/lib.rt:355:5
+-- src/lib.rt:356:5
 list-loop-holds : (t : ℕ) → list-lts.Need-loop-holds (
   ints-of-reads.Asked,
   ints-of-reads.Learnt,
@@ -2000,7 +2000,7 @@ list-loop-holds : (t : ℕ) → list-lts.Need-loop-holds (
 ) (list-at t) list.Post list-Inv-loop list-μ-loop
 list-loop-holds t c = listing-start _ _ _ _ (c .before .before .before .before .before .pre .1 .0 .here)
 
--- src/lib.rt:356:15
+-- src/lib.rt:357:15
 list-element-requires : (t : ℕ) → list-lts.Need-element-requires (
   ints-of-reads.Asked,
   ints-of-reads.Learnt,
@@ -2011,7 +2011,7 @@ list-element-requires : (t : ℕ) → list-lts.Need-element-requires (
 ) (list-at t) list.Post list-Inv-loop list-μ-loop
 list-element-requires t c κs = let r = (listing-room (c .before .loop .inv) _ (c .before .before .before .before .before .before .before .pre .1 .0)) in let d = listing-depth (c .before .loop .inv) in let k = listing-named (c .before .loop .inv) in let i = listing-ints (c .before .loop .inv) _ (c .before .before .ints-of .ensures) in let w = c .before .loop .inv .few in let p = c .before .before .before .before .before .before .before .pre .1 .1 in (omega (arith, d), (r, (omega (arith, k, w, p, r), i)))
 
--- src/lib.rt:357:22
+-- src/lib.rt:358:23
 list-enum-known-v : (t : ℕ) → list-lts.Need-enum-known-v (
   ints-of-reads.Asked,
   ints-of-reads.Learnt,
@@ -2022,7 +2022,7 @@ list-enum-known-v : (t : ℕ) → list-lts.Need-enum-known-v (
 ) (list-at t) list.Post list-Inv-loop list-μ-loop
 list-enum-known-v t c = search needs
 
--- src/lib.rt:358:17
+-- src/lib.rt:359:17
 list-next-value-requires : (t : ℕ) → list-lts.Need-next-value-requires (
   ints-of-reads.Asked,
   ints-of-reads.Learnt,
@@ -2033,7 +2033,7 @@ list-next-value-requires : (t : ℕ) → list-lts.Need-next-value-requires (
 ) (list-at t) list.Post list-Inv-loop list-μ-loop
 list-next-value-requires t c κs = search needs
 
--- src/lib.rt:359:17
+-- src/lib.rt:360:17
 list-add-c : (t : ℕ) → list-lts.Need-add-c (
   ints-of-reads.Asked,
   ints-of-reads.Learnt,
@@ -2044,7 +2044,7 @@ list-add-c : (t : ℕ) → list-lts.Need-add-c (
 ) (list-at t) list.Post list-Inv-loop list-μ-loop
 list-add-c t c = let r = (listing-room (c .before .before .before .before .before .before .before .before .loop .inv) _ (c .before .before .before .before .before .before .before .before .before .before .before .before .before .before .pre .1 .0)) in omega (arith, r, c .before .before .before .before .before .before .before .before .loop .inv .few)
 
--- src/lib.rt:355:5
+-- src/lib.rt:356:5
 list-loop-less : (t : ℕ) → list-lts.Need-loop-less (
   ints-of-reads.Asked,
   ints-of-reads.Learnt,
@@ -2055,7 +2055,7 @@ list-loop-less : (t : ℕ) → list-lts.Need-loop-less (
 ) (list-at t) list.Post list-Inv-loop list-μ-loop
 list-loop-less t c = let t = (listing-turn (c .before .before .before .before .before .before .before .before .loop .inv) _ (c .before .before .before .before .before .before .element .result) _ _ (c .before .before .before .before .before .before .element .ensures) (c .before .before .v .given .1)) in rw (c .next-value .ensures) (omega (arith, t))
 
--- src/lib.rt:355:5
+-- src/lib.rt:356:5
 list-loop-again : (t : ℕ) → list-lts.Need-loop-again (
   ints-of-reads.Asked,
   ints-of-reads.Learnt,
@@ -2066,8 +2066,8 @@ list-loop-again : (t : ℕ) → list-lts.Need-loop-again (
 ) (list-at t) list.Post list-Inv-loop list-μ-loop
 list-loop-again t c = listing-on (c .before .before .before .before .before .before .before .before .loop .inv) _ (c .before .before .before .before .before .before .element .result) _ _ _ (c .before .before .before .before .before .before .element .ensures) (c .before .before .v .given .1) (c .next-value .ensures)
 
--- src/lib.rt:361:23
-list-enum-known-o : (t : ℕ) → list-lts.Need-enum-known-o (
+-- src/lib.rt:362:25
+list-enum-known-v-2 : (t : ℕ) → list-lts.Need-enum-known-v-2 (
   ints-of-reads.Asked,
   ints-of-reads.Learnt,
   element-below t,
@@ -2075,9 +2075,9 @@ list-enum-known-o : (t : ℕ) → list-lts.Need-enum-known-o (
   next-value-reads.Asked,
   next-value-reads.Learnt,
 ) (list-at t) list.Post list-Inv-loop list-μ-loop
-list-enum-known-o t c = search needs
+list-enum-known-v-2 t c = search needs
 
--- src/lib.rt:362:17
+-- src/lib.rt:363:17
 list-same-length : (t : ℕ) → list-lts.Need-same-length (
   ints-of-reads.Asked,
   ints-of-reads.Learnt,
@@ -2088,7 +2088,7 @@ list-same-length : (t : ℕ) → list-lts.Need-same-length (
 ) (list-at t) list.Post list-Inv-loop list-μ-loop
 list-same-length t c = search needs
 
--- src/lib.rt:362:17
+-- src/lib.rt:363:17
 list-returns : (t : ℕ) → list-lts.Need-returns (
   ints-of-reads.Asked,
   ints-of-reads.Learnt,
@@ -2097,9 +2097,42 @@ list-returns : (t : ℕ) → list-lts.Need-returns (
   next-value-reads.Asked,
   next-value-reads.Learnt,
 ) (list-at t) list.Post list-Inv-loop list-μ-loop
-list-returns t c = listing-out (c .before .before .before .before .before .before .before .loop .inv) _ (c .before .before .before .before .before .element .result) _ (c .before .before .before .before .before .element .ensures) (c .before .o .given .1)
+list-returns t c = listing-done (c .before .before .before .before .before .before .before .loop .inv) _ (c .before .before .before .before .before .element .result) _ _ (c .before .before .before .before .before .element .ensures) (c .before .v2 .given .1)
 
--- src/lib.rt:301:11
+-- src/lib.rt:365:28
+list-enum-known-k : (t : ℕ) → list-lts.Need-enum-known-k (
+  ints-of-reads.Asked,
+  ints-of-reads.Learnt,
+  element-below t,
+  element.Post,
+  next-value-reads.Asked,
+  next-value-reads.Learnt,
+) (list-at t) list.Post list-Inv-loop list-μ-loop
+list-enum-known-k t c = search needs
+
+-- src/lib.rt:366:17
+list-same-length-2 : (t : ℕ) → list-lts.Need-same-length-2 (
+  ints-of-reads.Asked,
+  ints-of-reads.Learnt,
+  element-below t,
+  element.Post,
+  next-value-reads.Asked,
+  next-value-reads.Learnt,
+) (list-at t) list.Post list-Inv-loop list-μ-loop
+list-same-length-2 t c = search needs
+
+-- src/lib.rt:366:17
+list-returns-2 : (t : ℕ) → list-lts.Need-returns-2 (
+  ints-of-reads.Asked,
+  ints-of-reads.Learnt,
+  element-below t,
+  element.Post,
+  next-value-reads.Asked,
+  next-value-reads.Learnt,
+) (list-at t) list.Post list-Inv-loop list-μ-loop
+list-returns-2 t c = listing-refused (c .before .before .before .before .before .before .before .loop .inv) _ (c .before .before .before .before .before .element .result) _ _ (c .before .before .before .before .before .element .ensures) (c .before .k .given .1)
+
+-- src/lib.rt:302:11
 list-value-quick-int-requires : (t : ℕ) → list-value-lts.Need-quick-int-requires (
   quick-int-reads.Asked,
   quick-int-reads.Learnt,
@@ -2108,7 +2141,7 @@ list-value-quick-int-requires : (t : ℕ) → list-value-lts.Need-quick-int-requ
 ) (list-value-at t) list-value.Post
 list-value-quick-int-requires t c κs = c .before .before .before .before .before .pre .1
 
--- src/lib.rt:302:19
+-- src/lib.rt:303:19
 list-value-enum-known-v : (t : ℕ) → list-value-lts.Need-enum-known-v (
   quick-int-reads.Asked,
   quick-int-reads.Learnt,
@@ -2117,7 +2150,7 @@ list-value-enum-known-v : (t : ℕ) → list-value-lts.Need-enum-known-v (
 ) (list-value-at t) list-value.Post
 list-value-enum-known-v t c = search needs
 
--- src/lib.rt:303:22
+-- src/lib.rt:304:22
 list-value-enum-known-v-2 : (t : ℕ) → list-value-lts.Need-enum-known-v-2 (
   quick-int-reads.Asked,
   quick-int-reads.Learnt,
@@ -2126,7 +2159,7 @@ list-value-enum-known-v-2 : (t : ℕ) → list-value-lts.Need-enum-known-v-2 (
 ) (list-value-at t) list-value.Post
 list-value-enum-known-v-2 t c = search needs
 
--- src/lib.rt:304:56
+-- src/lib.rt:305:56
 list-value-enum-told : (t : ℕ) → list-value-lts.Need-enum-told (
   quick-int-reads.Asked,
   quick-int-reads.Learnt,
@@ -2135,7 +2168,7 @@ list-value-enum-told : (t : ℕ) → list-value-lts.Need-enum-told (
 ) (list-value-at t) list-value.Post
 list-value-enum-told t c = search needs
 
--- src/lib.rt:304:30
+-- src/lib.rt:305:30
 list-value-choice-requires : (t : ℕ) → list-value-lts.Need-choice-requires (
   quick-int-reads.Asked,
   quick-int-reads.Learnt,
@@ -2144,7 +2177,7 @@ list-value-choice-requires : (t : ℕ) → list-value-lts.Need-choice-requires (
 ) (list-value-at t) list-value.Post
 list-value-choice-requires t c κs = omega (arith, c .before .before .before .before .before .before .before .before .before .before .before .pre .1 .0, c .before .before .before .before .before .before .before .before .before .before .before .pre .1 .1 .0)
 
--- src/lib.rt:305:23
+-- src/lib.rt:306:23
 list-value-enum-known-v-3 : (t : ℕ) → list-value-lts.Need-enum-known-v-3 (
   quick-int-reads.Asked,
   quick-int-reads.Learnt,
@@ -2153,7 +2186,7 @@ list-value-enum-known-v-3 : (t : ℕ) → list-value-lts.Need-enum-known-v-3 (
 ) (list-value-at t) list-value.Post
 list-value-enum-known-v-3 t c = search needs
 
--- src/lib.rt:306:26
+-- src/lib.rt:307:26
 list-value-enum-known-k : (t : ℕ) → list-value-lts.Need-enum-known-k (
   quick-int-reads.Asked,
   quick-int-reads.Learnt,
@@ -2162,7 +2195,7 @@ list-value-enum-known-k : (t : ℕ) → list-value-lts.Need-enum-known-k (
 ) (list-value-at t) list-value.Post
 list-value-enum-known-k t c = search needs
 
--- src/lib.rt:286:1
+-- src/lib.rt:287:1
 list-value-same-length : (t : ℕ) → list-value-lts.Need-same-length (
   quick-int-reads.Asked,
   quick-int-reads.Learnt,
@@ -2171,7 +2204,7 @@ list-value-same-length : (t : ℕ) → list-value-lts.Need-same-length (
 ) (list-value-at t) list-value.Post
 list-value-same-length t c = search needs
 
--- src/lib.rt:286:1
+-- src/lib.rt:287:1
 list-value-returns : (t : ℕ) → list-value-lts.Need-returns (
   quick-int-reads.Asked,
   quick-int-reads.Learnt,
@@ -2180,7 +2213,7 @@ list-value-returns : (t : ℕ) → list-value-lts.Need-returns (
 ) (list-value-at t) list-value.Post
 list-value-returns t c = quick-element _ _ (c .before .before .before .before .before .before .before .before .before .before .before .args .f) _ _ _ _ _ (rw (c .before .v .given .1) at (c .before .before .before .before .before .quick-int .ensures))
 
--- src/lib.rt:286:1
+-- src/lib.rt:287:1
 list-value-same-length-2 : (t : ℕ) → list-value-lts.Need-same-length-2 (
   quick-int-reads.Asked,
   quick-int-reads.Learnt,
@@ -2189,7 +2222,7 @@ list-value-same-length-2 : (t : ℕ) → list-value-lts.Need-same-length-2 (
 ) (list-value-at t) list-value.Post
 list-value-same-length-2 t c = search needs
 
--- src/lib.rt:286:1
+-- src/lib.rt:287:1
 list-value-returns-2 : (t : ℕ) → list-value-lts.Need-returns-2 (
   quick-int-reads.Asked,
   quick-int-reads.Learnt,
@@ -2198,7 +2231,7 @@ list-value-returns-2 : (t : ℕ) → list-value-lts.Need-returns-2 (
 ) (list-value-at t) list-value.Post
 list-value-returns-2 t c = quick-ended _ _ (c .before .before .before .before .before .before .before .before .before .before .before .args .f) _ _ _ _ (rw (c .before .v2 .given .1) at (c .before .before .before .before .before .quick-int .ensures))
 
--- src/lib.rt:286:1
+-- src/lib.rt:287:1
 list-value-same-length-3 : (t : ℕ) → list-value-lts.Need-same-length-3 (
   quick-int-reads.Asked,
   quick-int-reads.Learnt,
@@ -2207,7 +2240,7 @@ list-value-same-length-3 : (t : ℕ) → list-value-lts.Need-same-length-3 (
 ) (list-value-at t) list-value.Post
 list-value-same-length-3 t c = search needs
 
--- src/lib.rt:286:1
+-- src/lib.rt:287:1
 list-value-returns-3 : (t : ℕ) → list-value-lts.Need-returns-3 (
   quick-int-reads.Asked,
   quick-int-reads.Learnt,
@@ -2216,7 +2249,7 @@ list-value-returns-3 : (t : ℕ) → list-value-lts.Need-returns-3 (
 ) (list-value-at t) list-value.Post
 list-value-returns-3 t c = rw ((rw (c .before .before .before .before .before .before .before .enum-told .given .1) at (c .before .before .before .before .before .before .before .before .before .before .before .quick-int .ensures)), c .before .v3 .given .1) at (c .before .before .before .before .before .choice .ensures)
 
--- src/lib.rt:286:1
+-- src/lib.rt:287:1
 list-value-same-length-4 : (t : ℕ) → list-value-lts.Need-same-length-4 (
   quick-int-reads.Asked,
   quick-int-reads.Learnt,
@@ -2225,7 +2258,7 @@ list-value-same-length-4 : (t : ℕ) → list-value-lts.Need-same-length-4 (
 ) (list-value-at t) list-value.Post
 list-value-same-length-4 t c = search needs
 
--- src/lib.rt:286:1
+-- src/lib.rt:287:1
 list-value-returns-4 : (t : ℕ) → list-value-lts.Need-returns-4 (
   quick-int-reads.Asked,
   quick-int-reads.Learnt,
@@ -2784,9 +2817,12 @@ pub +body+braced+choice+element+field+fields+item+items+list+list-value+value-sp
     (list-add-c t)
     (list-loop-less t)
     (list-loop-again t)
-    (list-enum-known-o t)
+    (list-enum-known-v-2 t)
     (list-same-length t)
-    (list-returns t))
+    (list-returns t)
+    (list-enum-known-k t)
+    (list-same-length-2 t)
+    (list-returns-2 t))
     (λ t. list-value-lts.spec (
       quick-int-reads.Asked,
       quick-int-reads.Learnt,
