@@ -55,68 +55,68 @@ no-checks = refl
 
 -- ---- the records' checks, as they are judged on a table's bytes
 
-module _ (text cs t offs : List ℕ) (n : ℕ) where
+module _ (text cs t unpacked : List ℕ) (n : ℕ) where
   abbrev rs : List Record
-  rs = recordsAt t offs n
+  rs = recordsAt t unpacked n
 
   abbrev ns : List Noted
   ns = notedFrom text cs n 0
 
-  seven : (have : List Bool) → leastFrom (faultAt cs t offs have n 7) n 0 ≡ leastPlace (faults7 rs ns)
+  seven : (have : List Bool) → leastFrom (faultAt cs t unpacked have n 7) n 0 ≡ leastPlace (faults7 rs ns)
   unfolding faultAt pick
-  seven have = sym (spots-from (rule7Broken rs) (λ s. s .nameAt) text cs t offs n 0)
+  seven have = sym (spots-from (rule7Broken rs) (λ s. s .nameAt) text cs t unpacked n 0)
 
-  eight : (have : List Bool) → leastFrom (faultAt cs t offs have n 8) n 0 ≡ leastPlace (recordSpots (tagRepeated rs) (λ s. s .tagAt) 0 rs ns)
+  eight : (have : List Bool) → leastFrom (faultAt cs t unpacked have n 8) n 0 ≡ leastPlace (recordSpots (tagRepeated rs) (λ s. s .tagAt) 0 rs ns)
   unfolding faultAt pick
-  eight have = sym (spots-from (tagRepeated rs) (λ s. s .tagAt) text cs t offs n 0)
+  eight have = sym (spots-from (tagRepeated rs) (λ s. s .tagAt) text cs t unpacked n 0)
 
-  nine : (have : List Bool) → leastFrom (faultAt cs t offs have n 9) n 0 ≡ leastPlace (recordSpots rootNoStruct (λ s. s .nameAt) 0 rs ns)
+  nine : (have : List Bool) → leastFrom (faultAt cs t unpacked have n 9) n 0 ≡ leastPlace (recordSpots rootNoStruct (λ s. s .nameAt) 0 rs ns)
   unfolding faultAt pick
-  nine have = sym (spots-from rootNoStruct (λ s. s .nameAt) text cs t offs n 0)
+  nine have = sym (spots-from rootNoStruct (λ s. s .nameAt) text cs t unpacked n 0)
 
-  ten : (have : List Bool) → Found rs have → leastFrom (faultAt cs t offs have n 10) n 0 ≡ leastPlace (faults10 rs ns)
+  ten : (have : List Bool) → Found rs have → leastFrom (faultAt cs t unpacked have n 10) n 0 ≡ leastPlace (faults10 rs ns)
   unfolding faultAt pick
   ten have h =
-      from-same (λ j. atIf (isEndless have j (recordIn t offs j)) (cellAt cs j 4)) (λ j. atIf (isEndless (finites rs) j (recordIn t offs j)) (cellAt cs j 4)) (λ j. ap (λ b. atIf b (cellAt cs j 4)) (same j)) n 0
-      ∙ sym (spots-from (isEndless (finites rs)) (λ s. s .nameAt) text cs t offs n 0)
+      from-same (λ j. atIf (isEndless have j (recordIn t unpacked j)) (cellAt cs j 4)) (λ j. atIf (isEndless (finites rs) j (recordIn t unpacked j)) (cellAt cs j 4)) (λ j. ap (λ b. atIf b (cellAt cs j 4)) (same j)) n 0
+      ∙ sym (spots-from (isEndless (finites rs)) (λ s. s .nameAt) text cs t unpacked n 0)
     where
-      same : (j : ℕ) → isEndless have j (recordIn t offs j) ≡ isEndless (finites rs) j (recordIn t offs j)
+      same : (j : ℕ) → isEndless have j (recordIn t unpacked j) ≡ isEndless (finites rs) j (recordIn t unpacked j)
       same j = unfold isEndless in (rw (h j))
 
   -- what is found at each
-  pub at-seven : (have : List Bool) (p : ℕ) → At p ≡ leastFrom (faultAt cs t offs have n 7) n 0 → fault 7 p ≡ firstFault (recordChecks rs ns)
+  pub at-seven : (have : List Bool) (p : ℕ) → At p ≡ leastFrom (faultAt cs t unpacked have n 7) n 0 → fault 7 p ≡ firstFault (recordChecks rs ns)
   unfolding recordChecks
   at-seven have p e = sym (hit 7 (faults7 rs ns) _ p (sym (e ∙ seven have)))
 
-  pub past-seven : (have : List Bool) → Nowhere ≡ leastFrom (faultAt cs t offs have n 7) n 0 → leastPlace (faults7 rs ns) ≡ Nowhere
+  pub past-seven : (have : List Bool) → Nowhere ≡ leastFrom (faultAt cs t unpacked have n 7) n 0 → leastPlace (faults7 rs ns) ≡ Nowhere
   past-seven have e = sym (e ∙ seven have)
 
-  join-eight : (have : List Bool) (a b : Place) → a ≡ leastPlace (repeatedNames [] ns) → b ≡ leastFrom (faultAt cs t offs have n 8) n 0 → lesser a b ≡ leastPlace (faults8 rs ns)
+  join-eight : (have : List Bool) (a b : Place) → a ≡ leastPlace (repeatedNames [] ns) → b ≡ leastFrom (faultAt cs t unpacked have n 8) n 0 → lesser a b ≡ leastPlace (faults8 rs ns)
   join-eight have a b x y = rw (x, y, eight have) (sym (least-append (repeatedNames [] ns) (recordSpots (tagRepeated rs) (λ s. s .tagAt) 0 rs ns)))
 
-  join-nine : (have : List Bool) (a b : Place) → a ≡ leastFrom (faultAt cs t offs have n 9) n 0 → b ≡ leastPlace (spotsWhere (dangling (topNames (declarationsOf ns))) (λ s. s .typeAt) ns) → lesser a b ≡ leastPlace (faults9 rs ns)
+  join-nine : (have : List Bool) (a b : Place) → a ≡ leastFrom (faultAt cs t unpacked have n 9) n 0 → b ≡ leastPlace (spotsWhere (dangling (topNames (declarationsOf ns))) (λ s. s .typeAt) ns) → lesser a b ≡ leastPlace (faults9 rs ns)
   join-nine have a b x y = rw (x, y, nine have) (sym (least-append (recordSpots rootNoStruct (λ s. s .nameAt) 0 rs ns) (spotsWhere (dangling (topNames (declarationsOf ns))) (λ s. s .typeAt) ns)))
 
-  pub at-eight : (have : List Bool) (a b : Place) (p : ℕ) → leastPlace (faults7 rs ns) ≡ Nowhere → a ≡ leastPlace (repeatedNames [] ns) → b ≡ leastFrom (faultAt cs t offs have n 8) n 0 → At p ≡ lesser a b → fault 8 p ≡ firstFault (recordChecks rs ns)
+  pub at-eight : (have : List Bool) (a b : Place) (p : ℕ) → leastPlace (faults7 rs ns) ≡ Nowhere → a ≡ leastPlace (repeatedNames [] ns) → b ≡ leastFrom (faultAt cs t unpacked have n 8) n 0 → At p ≡ lesser a b → fault 8 p ≡ firstFault (recordChecks rs ns)
   unfolding recordChecks
   at-eight have a b p s x y e = sym (pass 7 (faults7 rs ns) _ s ∙ hit 8 (faults8 rs ns) _ p (sym (e ∙ join-eight have a b x y)))
 
-  pub past-eight : (have : List Bool) (a b : Place) → a ≡ leastPlace (repeatedNames [] ns) → b ≡ leastFrom (faultAt cs t offs have n 8) n 0 → Nowhere ≡ lesser a b → leastPlace (faults8 rs ns) ≡ Nowhere
+  pub past-eight : (have : List Bool) (a b : Place) → a ≡ leastPlace (repeatedNames [] ns) → b ≡ leastFrom (faultAt cs t unpacked have n 8) n 0 → Nowhere ≡ lesser a b → leastPlace (faults8 rs ns) ≡ Nowhere
   past-eight have a b x y e = sym (e ∙ join-eight have a b x y)
 
-  pub at-nine : (have : List Bool) (a b : Place) (p : ℕ) → leastPlace (faults7 rs ns) ≡ Nowhere → leastPlace (faults8 rs ns) ≡ Nowhere → a ≡ leastFrom (faultAt cs t offs have n 9) n 0 → b ≡ leastPlace (spotsWhere (dangling (topNames (declarationsOf ns))) (λ s. s .typeAt) ns) → At p ≡ lesser a b → fault 9 p ≡ firstFault (recordChecks rs ns)
+  pub at-nine : (have : List Bool) (a b : Place) (p : ℕ) → leastPlace (faults7 rs ns) ≡ Nowhere → leastPlace (faults8 rs ns) ≡ Nowhere → a ≡ leastFrom (faultAt cs t unpacked have n 9) n 0 → b ≡ leastPlace (spotsWhere (dangling (topNames (declarationsOf ns))) (λ s. s .typeAt) ns) → At p ≡ lesser a b → fault 9 p ≡ firstFault (recordChecks rs ns)
   unfolding recordChecks
   at-nine have a b p s u x y e = sym (pass 7 (faults7 rs ns) _ s ∙ (pass 8 (faults8 rs ns) _ u ∙ hit 9 (faults9 rs ns) _ p (sym (e ∙ join-nine have a b x y))))
 
-  pub past-nine : (have : List Bool) (a b : Place) → a ≡ leastFrom (faultAt cs t offs have n 9) n 0 → b ≡ leastPlace (spotsWhere (dangling (topNames (declarationsOf ns))) (λ s. s .typeAt) ns) → Nowhere ≡ lesser a b → leastPlace (faults9 rs ns) ≡ Nowhere
+  pub past-nine : (have : List Bool) (a b : Place) → a ≡ leastFrom (faultAt cs t unpacked have n 9) n 0 → b ≡ leastPlace (spotsWhere (dangling (topNames (declarationsOf ns))) (λ s. s .typeAt) ns) → Nowhere ≡ lesser a b → leastPlace (faults9 rs ns) ≡ Nowhere
   past-nine have a b x y e = sym (e ∙ join-nine have a b x y)
 
   module _ (s : leastPlace (faults7 rs ns) ≡ Nowhere) (u : leastPlace (faults8 rs ns) ≡ Nowhere) (v : leastPlace (faults9 rs ns) ≡ Nowhere) (have : List Bool) (h : Found rs have) where
-    pub at-ten : (p : ℕ) → At p ≡ leastFrom (faultAt cs t offs have n 10) n 0 → fault 10 p ≡ firstFault (recordChecks rs ns)
+    pub at-ten : (p : ℕ) → At p ≡ leastFrom (faultAt cs t unpacked have n 10) n 0 → fault 10 p ≡ firstFault (recordChecks rs ns)
     unfolding recordChecks
     at-ten p e = sym (pass 7 (faults7 rs ns) _ s ∙ (pass 8 (faults8 rs ns) _ u ∙ (pass 9 (faults9 rs ns) _ v ∙ hit 10 (faults10 rs ns) [] p (sym (e ∙ ten have h)))))
 
-    pub past-ten : Nowhere ≡ leastFrom (faultAt cs t offs have n 10) n 0 → clean ≡ firstFault (recordChecks rs ns)
+    pub past-ten : Nowhere ≡ leastFrom (faultAt cs t unpacked have n 10) n 0 → clean ≡ firstFault (recordChecks rs ns)
     unfolding recordChecks
     past-ten e = sym (pass 7 (faults7 rs ns) _ s ∙ (pass 8 (faults8 rs ns) _ u ∙ (pass 9 (faults9 rs ns) _ v ∙ (pass 10 (faults10 rs ns) [] (sym (e ∙ ten have h)) ∙ no-checks))))
 
@@ -159,19 +159,19 @@ module _ (text cs : List ℕ) (n : ℕ) where
 pub front : (p s : List ℕ) (len : ℕ) → p ≡ part s 0 len → p ≡ take len s
 front p s len e = let q : len - 0 ≡ len = omega arith in e ∙ rw q
 
--- ---- the records of a table, unpacked
+-- ---- the records of a table, unpacked and in their lists
 
-module _ (t offs : List ℕ) (n : ℕ) (rs : List Record) (d : decode t ≡ just rs) (l : length rs ≡ n) where
-  pub unpacked-all : (w : Walk) (m : ℕ) → Walked t offs w → w ≡ Count m → recordsAt t offs n ≡ rs
+module _ (t unpacked : List ℕ) (n : ℕ) (rs : List Record) (d : decode t ≡ just rs) (l : length rs ≡ n) where
+  pub unpacked-all : (w : Walk) (m : ℕ) → Walked t unpacked w → w ≡ Count m → recordsAt t unpacked n ≡ rs
   unfolding Walked
   unpacked-all w m h e =
-      let c : Counted t offs m = (rw e at h) in
-      let q : just (recordsAt t offs m) ≡ just rs = sym (c .these) ∙ d in
-      let r : recordsAt t offs m ≡ rs = cc in
-      let k : m ≡ n = sym (length-records t offs m 0) ∙ (ap length r ∙ l) in
-      ap (recordsAt t offs) (sym k) ∙ r
+      let c : Counted t unpacked m = (rw e at h) in
+      let q : just (recordsAt t unpacked m) ≡ just rs = sym (c .these) ∙ d in
+      let r : recordsAt t unpacked m ≡ rs = cc in
+      let k : m ≡ n = sym (length-records t unpacked m 0) ∙ (ap length r ∙ l) in
+      ap (recordsAt t unpacked) (sym k) ∙ r
 
-  pub unpacked-some : {X : Type 0} (w : Walk) → n ≤ parameterLimit → Walked t offs w → w ≡ Bad → X
+  pub unpacked-some : {X : Type 0} (w : Walk) → n ≤ parameterLimit → Walked t unpacked w → w ≡ Bad → X
   unfolding Walked
   unpacked-some w f h e = let u : Uncounted t = (rw e at h) in absurd (omega (arith, u rs d, l, f))
 

@@ -13,6 +13,7 @@ ghost use Rattle.definition_rules.specs.Compile.{firstFault, answerOf, lentAfte
 ghost use Rattle.table_rules.specs.Endless.{EndlessPromise};
 ghost use Rattle.declared.specs.Cells.{cellAt, notedFrom};
 ghost use Rattle.records.specs.Stored.{recordsAt};
+ghost use Rattle.tags.specs.Lists.{Linked};
 ghost use Rattle.definition.specs.Answers.{answer, found, recordChecks, verdictFrom};
 
 // Success with the table's length, or a refusal with its number and place.
@@ -56,26 +57,26 @@ fn blank_marks() -> [bool; 256]
 // ---- the checks on records
 
 // Numbers 7 to 10, over the declarations and the records that were written for them.
-fn record_fault(text: &[u8], cells: &[u32], table: &[u8], offs: &[u32], n: usize) -> Stop
-    requires { ⌜ n ≤ parameterLimit ⌝ }
-    ensures { λ r. ⌜ found r ≡ firstFault (recordChecks (recordsAt (now (table .entry)) (now (offs .entry)) n) (notedFrom (now (text .entry)) (now (cells .entry)) n 0)) ⌝ }
+fn record_fault(text: &[u8], cells: &[u32], table: &[u8], unpacked: &[u32], n: usize) -> Stop
+    requires { ⌜ (n ≤ parameterLimit) × Linked (now table) (now unpacked) n 0 ⌝ }
+    ensures { λ r. ⌜ found r ≡ firstFault (recordChecks (recordsAt (now (table .entry)) (now (unpacked .entry)) n) (notedFrom (now (text .entry)) (now (cells .entry)) n 0)) ⌝ }
 {
     let mut have = blank_marks();
-    match record_faults::least_fault(cells, table, offs, &have, n, 7) {
+    match record_faults::least_fault(cells, table, unpacked, &have, n, 7) {
         Place::At(p) => {
             return Stop::Fault(7, p);
         }
         Place::Nowhere => {}
     }
     let names = declaration_checks::repeated_name(text, cells, n);
-    let tags = record_faults::least_fault(cells, table, offs, &have, n, 8);
+    let tags = record_faults::least_fault(cells, table, unpacked, &have, n, 8);
     match declared::lesser(names, tags) {
         Place::At(p) => {
             return Stop::Fault(8, p);
         }
         Place::Nowhere => {}
     }
-    let root = record_faults::least_fault(cells, table, offs, &have, n, 9);
+    let root = record_faults::least_fault(cells, table, unpacked, &have, n, 9);
     let lost = declaration_checks::dangling(text, cells, n);
     match declared::lesser(root, lost) {
         Place::At(p) => {
@@ -84,8 +85,8 @@ fn record_fault(text: &[u8], cells: &[u32], table: &[u8], offs: &[u32], n: usize
         Place::Nowhere => {}
     }
     let mut next = blank_marks();
-    record_checks::finites(table, offs, n, &mut have, &mut next);
-    match record_faults::least_fault(cells, table, offs, &have, n, 10) {
+    record_checks::finites(table, unpacked, n, &mut have, &mut next);
+    match record_faults::least_fault(cells, table, unpacked, &have, n, 10) {
         Place::At(p) => Stop::Fault(10, p),
         Place::Nowhere => Stop::Clear,
     }
@@ -96,9 +97,12 @@ fn written_fault(text: &[u8], cells: &[u32], table: &[u8], n: usize) -> Stop
     requires { ⌜ n ≤ parameterLimit ⌝ }
     ensures { λ r. ⌜ ((rs : List Record) → decode (now (table .entry)) ≡ just rs → length rs ≡ n → found r ≡ firstFault (recordChecks rs (notedFrom (now (text .entry)) (now (cells .entry)) n 0))) ⌝ }
 {
-    let mut offs = blank_records();
-    match walk::unpack(table, &mut offs) {
-        Walk::Count(_) => record_fault(text, cells, table, &offs, n),
+    let mut unpacked = blank_records();
+    match walk::unpack(table, &mut unpacked) {
+        Walk::Count(_) => {
+            tags::link(table, &mut unpacked, n);
+            record_fault(text, cells, table, &unpacked, n)
+        }
         Walk::Bad => Stop::Clear,
     }
 }

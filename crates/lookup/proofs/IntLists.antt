@@ -15,7 +15,7 @@ use Rattle.schema.specs.Schema.{Schema, schemaOf, kindOf, simple}
 use Rattle.schema.specs.Value.{formThenRange, valueNumber}
 use Rattle.schema.proofs.CountLaws.{clash-bool}
 use Rattle.records.specs.Stored.{recordIn}
-use Rattle.lookup.specs.Questions.{schemaAt, nth, intLies}
+use Rattle.lookup.specs.Questions.{withFind, schemaAt, nth, intLies}
 use Rattle.lookup.specs.IntList.{IntsOf}
 use Rattle.lookup.specs.declared.Ints.{Ints}
 use Rattle.lookup.proofs.Steps.{here, kind-simple}
@@ -30,16 +30,16 @@ natural-int r w k e a b =
 pub ints-none : (S : Schema) (p hi : ℕ) → hi ≡ S .hi p → IntsOf S p (record { on = false; least = 0; most = 0; hi = hi })
 ints-none S p hi h = record { plain = λ e. clash-bool e; judged = λ e. clash-bool e; most = h }
 
-module _ (t offs : List ℕ) (n p u : ℕ) (c : u ≡ schemaAt t offs n .core p) (l : u < n) where
-  plain-kind : recordIn t offs u .kind ≡ 3 → schemaAt t offs n .kind u ≡ simple
-  unfolding schemaOf kindOf
-  plain-kind k = sym (here (λ (r : Record). kindOf (r .kind)) t offs n u l (sym (ap kindOf k)))
+module _ (t unpacked : List ℕ) (n p u : ℕ) (c : u ≡ schemaAt t unpacked n .core p) (l : u < n) where
+  plain-kind : recordIn t unpacked u .kind ≡ 3 → schemaAt t unpacked n .kind u ≡ simple
+  unfolding schemaOf withFind kindOf
+  plain-kind k = sym (here (λ (r : Record). kindOf (r .kind)) t unpacked n u l (sym (ap kindOf k)))
 
-  word-judged : recordIn t offs u .kind ≡ 3 → (w : List ℕ) → isNatural w ≡ true → recordIn t offs u .least ≤ bias + numberOf w → bias + numberOf w ≤ recordIn t offs u .most → schemaAt t offs n .judge u (word w) ≡ 0
-  unfolding schemaOf
-  word-judged k w e a b = sym (here (λ (r : Record). valueNumber r (word w)) t offs n u l (natural-int (recordIn t offs u) w k e a b))
+  word-judged : recordIn t unpacked u .kind ≡ 3 → (w : List ℕ) → isNatural w ≡ true → recordIn t unpacked u .least ≤ bias + numberOf w → bias + numberOf w ≤ recordIn t unpacked u .most → schemaAt t unpacked n .judge u (word w) ≡ 0
+  unfolding schemaOf withFind
+  word-judged k w e a b = sym (here (λ (r : Record). valueNumber r (word w)) t unpacked n u l (natural-int (recordIn t unpacked u) w k e a b))
 
-  pub ints-some : (on : Bool) (least most hi : ℕ) → on ≡ eqb (recordIn t offs u .kind) 3 → least ≡ recordIn t offs u .least → most ≡ recordIn t offs u .most → hi ≡ schemaAt t offs n .hi p → IntsOf (schemaAt t offs n) p (record { on = on; least = least; most = most; hi = hi })
+  pub ints-some : (on : Bool) (least most hi : ℕ) → on ≡ eqb (recordIn t unpacked u .kind) 3 → least ≡ recordIn t unpacked u .least → most ≡ recordIn t unpacked u .most → hi ≡ schemaAt t unpacked n .hi p → IntsOf (schemaAt t unpacked n) p (record { on = on; least = least; most = most; hi = hi })
   ints-some on least most hi k a b h = rw (a, b) record {
     plain = λ e. rw (← c) (plain-kind (eqb-true _ 3 (sym k ∙ e)));
     judged = λ e. rw (← c) (word-judged (eqb-true _ 3 (sym k ∙ e)));

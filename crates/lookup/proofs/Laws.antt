@@ -1,18 +1,19 @@
 -- What a reader needs of the answers: walking the untagged fields, and where a found parameter lies.
-use mathlib.Core.Path.{_≡_, refl, ap, sym, _∙_, subst}
+use mathlib.Core.Path.{_≡_, refl, ap, sym, _∙_, subst, fun-ext}
 use mathlib.Core.Bool.{Bool, true, false}
 use mathlib.Core.List.{List, [], _∷_}
 use Prim.Native.Nat.{ℕ, suc, _+_, _-_, _≤_, _<_}
 use native.Mathlib.Omega.{arith}
 use native.Mathlib.Numerals.{add-one}
-use lib.ListN.{length, drop, length-drop}
+use lib.ListN.{length, getD, drop, length-drop}
 use lib.Seq.{drop-drop}
 use Rattle.schema.specs.Record.{Record}
-use Rattle.schema.specs.Schema.{nowhere, found, schemaOf, first, numbersWhere, isUntaggedOf, isTaggedAs, kindOf}
-use Rattle.schema.proofs.Rules.{where-is}
+use Rattle.schema.specs.Schema.{nowhere, found, schemaOf, first, numbersWhere, isUntaggedOf, kindOf}
 use Rattle.records.specs.Stored.{recordsAt}
 use Rattle.records.proofs.Laws.{length-records}
-use Rattle.lookup.specs.Questions.{schemaAt, nth, untaggedFrom}
+use Rattle.tags.specs.Lists.{keyOf, Linked}
+use Rattle.tags.proofs.Searching.{search-below, search-first}
+use Rattle.lookup.specs.Questions.{withFind, schemaAt, nth, untaggedFrom}
 use Rattle.lookup.proofs.Steps.{where-true, where-false}
 
 -- ---- numbers of records for which a test holds
@@ -68,19 +69,19 @@ none-in f i rs = go (numbersWhere f i rs)
 
 -- ---- the untagged fields, one after the other
 
-pub untagged-all : (t offs : List ℕ) (n p : ℕ) → schemaAt t offs n .untagged p ≡ untaggedFrom t offs n p 0
-unfolding schemaOf
-untagged-all t offs n p = refl
+pub untagged-all : (t unpacked : List ℕ) (n p : ℕ) → schemaAt t unpacked n .untagged p ≡ untaggedFrom t unpacked n p 0
+unfolding schemaOf withFind
+untagged-all t unpacked n p = refl
 
-module _ (t offs : List ℕ) (n p i q : ℕ) (e : first (untaggedFrom t offs n p i) ≡ found q) where
-  next : Next (isUntaggedOf p) i (drop i (recordsAt t offs n)) q
-  next = next-in (isUntaggedOf p) i (drop i (recordsAt t offs n)) q e
+module _ (t unpacked : List ℕ) (n p i q : ℕ) (e : first (untaggedFrom t unpacked n p i) ≡ found q) where
+  next : Next (isUntaggedOf p) i (drop i (recordsAt t unpacked n)) q
+  next = next-in (isUntaggedOf p) i (drop i (recordsAt t unpacked n)) q e
 
-  pub untagged-next : untaggedFrom t offs n p i ≡ q ∷ untaggedFrom t offs n p (q + 1)
+  pub untagged-next : untaggedFrom t unpacked n p i ≡ q ∷ untaggedFrom t unpacked n p (q + 1)
   untagged-next =
       next .rest ∙
       ap (λ (l : List Record). q ∷ numbersWhere (isUntaggedOf p) (q + 1) l)
-      (drop-drop (q + 1 - i) i (recordsAt t offs n) ∙ ap (λ (m : ℕ). drop m (recordsAt t offs n)) g)
+      (drop-drop (q + 1 - i) i (recordsAt t unpacked n) ∙ ap (λ (m : ℕ). drop m (recordsAt t unpacked n)) g)
     where
       g : i + (q + 1 - i) ≡ q + 1
       g = omega (arith, next .from)
@@ -88,19 +89,22 @@ module _ (t offs : List ℕ) (n p i q : ℕ) (e : first (untaggedFrom t offs n p
   pub untagged-below : q < n
   untagged-below = omega (arith, next .from, simp (length-drop, length-records) at (next .below))
 
-pub untagged-none : (t offs : List ℕ) (n p i : ℕ) → first (untaggedFrom t offs n p i) ≡ nowhere → untaggedFrom t offs n p i ≡ []
-untagged-none t offs n p i e = none-in (isUntaggedOf p) i (drop i (recordsAt t offs n)) e
+pub untagged-none : (t unpacked : List ℕ) (n p i : ℕ) → first (untaggedFrom t unpacked n p i) ≡ nowhere → untaggedFrom t unpacked n p i ≡ []
+untagged-none t unpacked n p i e = none-in (isUntaggedOf p) i (drop i (recordsAt t unpacked n)) e
 
 -- ---- a tag that was found
 
-pub find-below : (t offs : List ℕ) (n p : ℕ) (w : List ℕ) (q : ℕ) → schemaAt t offs n .find p w ≡ found q → q < n
-unfolding schemaOf
-find-below t offs n p w q e =
-    let h = where-is (isTaggedAs p w) 0 (recordsAt t offs n) q e in
-    omega (arith, h .1, h .2, length-records t offs n 0)
+pub find-below : (t unpacked : List ℕ) (n p : ℕ) (w : List ℕ) (q : ℕ) → schemaAt t unpacked n .find p w ≡ found q → q < n
+unfolding withFind
+find-below t unpacked n p w q e = search-below t unpacked n p w n (getD unpacked (keyOf p w) 0) q e
+
+-- where the lists are made, the answers are the records'
+pub schema-is : (t unpacked : List ℕ) (n : ℕ) → Linked t unpacked n 0 → schemaAt t unpacked n ≡ schemaOf (recordsAt t unpacked n)
+unfolding schemaOf withFind
+schema-is t unpacked n l = ap (withFind (schemaOf (recordsAt t unpacked n))) (fun-ext (λ p. fun-ext (λ w. search-first t unpacked n p w l)))
 
 -- ---- one parameter
 
-pub kind-answer : (t offs : List ℕ) (n p : ℕ) → schemaAt t offs n .kind p ≡ kindOf (nth t offs n p .kind)
-unfolding schemaOf
-kind-answer t offs n p = refl
+pub kind-answer : (t unpacked : List ℕ) (n p : ℕ) → schemaAt t unpacked n .kind p ≡ kindOf (nth t unpacked n p .kind)
+unfolding schemaOf withFind
+kind-answer t unpacked n p = refl

@@ -9,7 +9,8 @@ use lib.ListN.{length, getD, set, replicate, length-set, length-replicate}
 use lib.Seq.{getD-set-same, getD-set-other}
 use Rattle.numbers.specs.Limits.{parameterLimit}
 use Rattle.schema.specs.Record.{Record, blank, recordAt}
-use Rattle.schema.specs.Schema.{Schema, schemaOf, numbersWhere, isTaggedOf}
+use Rattle.schema.specs.Schema.{Schema, Found, schemaOf, numbersWhere, isTaggedOf}
+use Rattle.lookup.specs.Questions.{withFind}
 use Rattle.schema.specs.Count.{same, times, has, allIn}
 use Rattle.schema.proofs.CountLaws.{same-self, same-case, in-has, out-hasnt, in-head}
 use Rattle.schema.specs.Parse.{requiredOf}
@@ -67,26 +68,29 @@ not-not false = refl
 abbrev canBeAbsent : Record → Bool
 canBeAbsent r = (r .extension || r .plugin) || eqb (r .loCount) 0
 
-module _ (table : List Record) (p : ℕ) (seen : List Bool) (ks : List ℕ) (m : Marks seen ks) where
+module _ (table : List Record) (find : ℕ → List ℕ → Found) (p : ℕ) (seen : List Bool) (ks : List ℕ) (m : Marks seen ks) where
+  abbrev S : Schema
+  S = withFind (schemaOf table) find
+
   -- what the fields from i on ask
   abbrev asked : ℕ → List Record → Bool
-  asked i rs = allIn (requiredOf (schemaOf table) (numbersWhere (isTaggedOf p) i rs)) ks
+  asked i rs = allIn (requiredOf S (numbersWhere (isTaggedOf p) i rs)) ks
 
   module _ (i : ℕ) (r : Record) (rs : List Record) (same : recordAt table i ≡ r) where
-    absent : schemaOf table .optional i || eqb (schemaOf table .lo i) 0 ≡ canBeAbsent r
-    unfolding schemaOf
+    absent : S .optional i || eqb (S .lo i) 0 ≡ canBeAbsent r
+    unfolding schemaOf withFind
     absent = ap canBeAbsent same
 
     other : isTaggedOf p r ≡ false → asked i (r ∷ rs) ≡ asked (suc i) rs
     other e = rw (where-false (isTaggedOf p) i r rs e)
 
     unasked : isTaggedOf p r ≡ true → canBeAbsent r ≡ true → asked i (r ∷ rs) ≡ asked (suc i) rs
-    unasked e o = rw (where-true (isTaggedOf p) i r rs e, required-not (schemaOf table) i (numbersWhere (isTaggedOf p) (suc i) rs) (absent ∙ o))
+    unasked e o = rw (where-true (isTaggedOf p) i r rs e, required-not S i (numbersWhere (isTaggedOf p) (suc i) rs) (absent ∙ o))
 
     askedFor : isTaggedOf p r ≡ true → canBeAbsent r ≡ false → asked i (r ∷ rs) ≡ getD seen i false && asked (suc i) rs
     unfolding allIn
     askedFor e o =
-        rw (where-true (isTaggedOf p) i r rs e, required-too (schemaOf table) i (numbersWhere (isTaggedOf p) (suc i) rs) (absent ∙ o), m .marked i)
+        rw (where-true (isTaggedOf p) i r rs e, required-too S i (numbersWhere (isTaggedOf p) (suc i) rs) (absent ∙ o), m .marked i)
 
     one : (t o : Bool) → isTaggedOf p r ≡ t → canBeAbsent r ≡ o
         → completeFrom p seen i (r ∷ rs) ≡ not ((t && not o) && not (getD seen i false)) && completeFrom p seen (suc i) rs
@@ -111,6 +115,6 @@ module _ (table : List Record) (p : ℕ) (seen : List Bool) (ks : List ℕ) (m :
       at a b e = ap (recordAt table) e
 
   -- what the code asks of the marks is what a reading asks of the fields
-  pub complete-marks : completeFrom p seen 0 table ≡ allIn (requiredOf (schemaOf table) (schemaOf table .tagged p)) ks
-  unfolding recordAt schemaOf
+  pub complete-marks : completeFrom p seen 0 table ≡ allIn (requiredOf S (S .tagged p)) ks
+  unfolding recordAt schemaOf withFind
   complete-marks = complete-from 0 table (λ k h. ap (recordAt table) (omega arith))

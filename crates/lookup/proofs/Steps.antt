@@ -12,17 +12,17 @@ use Rattle.schema.specs.Schema.{Kind, void, simple, struct, union, reference, F
 use Rattle.schema.proofs.CountLaws.{clash-bool}
 use Rattle.records.specs.Stored.{recordIn, recordsFrom, recordsAt}
 use Rattle.records.proofs.Laws.{record-at, record-past, records-left, records-more, records-end, records-all}
-use Rattle.lookup.specs.Questions.{schemaAt, nth}
+use Rattle.lookup.specs.Questions.{nth}
 use Rattle.lookup.specs.Seen.{isMissing, completeFrom}
 
 -- ---- one record
 
-module _ {A : Type 0} (f : Record → A) (t offs : List ℕ) (n p : ℕ) where
-  pub past : n ≤ p → f blank ≡ f (nth t offs n p)
-  past h = rw (record-past t offs n p h)
+module _ {A : Type 0} (f : Record → A) (t unpacked : List ℕ) (n p : ℕ) where
+  pub past : n ≤ p → f blank ≡ f (nth t unpacked n p)
+  past h = rw (record-past t unpacked n p h)
 
-  pub here : {a : A} → p < n → a ≡ f (recordIn t offs p) → a ≡ f (nth t offs n p)
-  here h e = rw (record-at t offs n p h) e
+  pub here : {a : A} → p < n → a ≡ f (recordIn t unpacked p) → a ≡ f (nth t unpacked n p)
+  here h e = rw (record-at t unpacked n p h) e
 
 -- the kind by the four tests of its number
 abbrev kindBy : Bool → Bool → Bool → Bool → Kind
@@ -84,50 +84,46 @@ first-where f i (r ∷ rs) = go (first-where f (suc i) rs) (f r)
 
 -- the first from the k-th record on
 abbrev pub firstFrom : List ℕ → List ℕ → ℕ → (Record → Bool) → ℕ → Found
-firstFrom t offs n f k = first (numbersWhere f k (recordsFrom t offs (n - k) k))
+firstFrom t unpacked n f k = first (numbersWhere f k (recordsFrom t unpacked (n - k) k))
 
-module _ (t offs : List ℕ) (n : ℕ) (f : Record → Bool) (k : ℕ) where
-  pub search-hit : k < n → f (recordIn t offs k) ≡ true → firstFrom t offs n f k ≡ found k
+module _ (t unpacked : List ℕ) (n : ℕ) (f : Record → Bool) (k : ℕ) where
+  pub search-hit : k < n → f (recordIn t unpacked k) ≡ true → firstFrom t unpacked n f k ≡ found k
   unfolding first
-  search-hit h e = rw (records-more t offs n k h, where-true f k (recordIn t offs k) (recordsFrom t offs (n - (k + 1)) (k + 1)) e)
+  search-hit h e = rw (records-more t unpacked n k h, where-true f k (recordIn t unpacked k) (recordsFrom t unpacked (n - (k + 1)) (k + 1)) e)
 
-  pub search-more : k < n → f (recordIn t offs k) ≡ false → firstFrom t offs n f k ≡ firstFrom t offs n f (k + 1)
+  pub search-more : k < n → f (recordIn t unpacked k) ≡ false → firstFrom t unpacked n f k ≡ firstFrom t unpacked n f (k + 1)
   search-more h e =
       ap first
-      (ap (numbersWhere f k) (records-more t offs n k h) ∙
-      where-false f k (recordIn t offs k) (recordsFrom t offs (n - (k + 1)) (k + 1)) e ∙
-      ap (λ (m : ℕ). numbersWhere f m (recordsFrom t offs (n - (k + 1)) (k + 1))) (sym (add-one k)))
+      (ap (numbersWhere f k) (records-more t unpacked n k h) ∙
+      where-false f k (recordIn t unpacked k) (recordsFrom t unpacked (n - (k + 1)) (k + 1)) e ∙
+      ap (λ (m : ℕ). numbersWhere f m (recordsFrom t unpacked (n - (k + 1)) (k + 1))) (sym (add-one k)))
 
-  pub search-end : n ≤ k → firstFrom t offs n f k ≡ nowhere
+  pub search-end : n ≤ k → firstFrom t unpacked n f k ≡ nowhere
   unfolding first numbersWhere
-  search-end h = rw (records-end t offs n k h)
+  search-end h = rw (records-end t unpacked n k h)
 
-  pub search-starts : firstFrom t offs n f k ≡ first (numbersWhere f k (drop k (recordsAt t offs n)))
-  search-starts = rw (records-left t offs n k)
-
-pub find-starts : (t offs : List ℕ) (n p : ℕ) (w : List ℕ) → firstFrom t offs n (isTaggedAs p w) 0 ≡ schemaAt t offs n .find p w
-unfolding schemaOf
-find-starts t offs n p w = rw (records-all t offs n) (first-where (isTaggedAs p w) 0 (recordsAt t offs n))
+  pub search-starts : firstFrom t unpacked n f k ≡ first (numbersWhere f k (drop k (recordsAt t unpacked n)))
+  search-starts = rw (records-left t unpacked n k)
 
 -- ---- what is missing
 
 abbrev pub completeOn : List ℕ → List ℕ → ℕ → ℕ → List Bool → ℕ → Bool
-completeOn t offs n p seen k = completeFrom p seen k (recordsFrom t offs (n - k) k)
+completeOn t unpacked n p seen k = completeFrom p seen k (recordsFrom t unpacked (n - k) k)
 
-module _ (t offs : List ℕ) (n p : ℕ) (seen : List Bool) (k : ℕ) where
-  one-more : (b : Bool) → k < n → isMissing p seen k (recordIn t offs k) ≡ b → completeOn t offs n p seen k ≡ not b && completeOn t offs n p seen (k + 1)
+module _ (t unpacked : List ℕ) (n p : ℕ) (seen : List Bool) (k : ℕ) where
+  one-more : (b : Bool) → k < n → isMissing p seen k (recordIn t unpacked k) ≡ b → completeOn t unpacked n p seen k ≡ not b && completeOn t unpacked n p seen (k + 1)
   unfolding completeFrom
-  one-more b h e = rw (records-more t offs n k h, ← e, add-one)
+  one-more b h e = rw (records-more t unpacked n k h, ← e, add-one)
 
-  pub complete-more : k < n → isMissing p seen k (recordIn t offs k) ≡ false → completeOn t offs n p seen k ≡ completeOn t offs n p seen (k + 1)
+  pub complete-more : k < n → isMissing p seen k (recordIn t unpacked k) ≡ false → completeOn t unpacked n p seen k ≡ completeOn t unpacked n p seen (k + 1)
   complete-more h e = one-more false h e
 
-  pub complete-stop : k < n → isMissing p seen k (recordIn t offs k) ≡ true → completeOn t offs n p seen k ≡ false
+  pub complete-stop : k < n → isMissing p seen k (recordIn t unpacked k) ≡ true → completeOn t unpacked n p seen k ≡ false
   complete-stop h e = one-more true h e
 
-  pub complete-end : n ≤ k → completeOn t offs n p seen k ≡ true
+  pub complete-end : n ≤ k → completeOn t unpacked n p seen k ≡ true
   unfolding completeFrom
-  complete-end h = rw (records-end t offs n k h)
+  complete-end h = rw (records-end t unpacked n k h)
 
-pub complete-starts : (t offs : List ℕ) (n p : ℕ) (seen : List Bool) → completeOn t offs n p seen 0 ≡ completeFrom p seen 0 (recordsAt t offs n)
-complete-starts t offs n p seen = rw (records-all t offs n)
+pub complete-starts : (t unpacked : List ℕ) (n p : ℕ) (seen : List Bool) → completeOn t unpacked n p seen 0 ≡ completeFrom p seen 0 (recordsAt t unpacked n)
+complete-starts t unpacked n p seen = rw (records-all t unpacked n)

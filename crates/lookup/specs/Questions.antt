@@ -11,18 +11,35 @@ use Rattle.schema.specs.Record.{Record, recordAt}
 use Rattle.schema.specs.Schema as schema
 use Rattle.schema.specs.Schema.{Schema, schemaOf, numbersWhere, isUntaggedOf}
 use Rattle.records.specs.Stored.{recordsAt}
+use Rattle.tags.specs.Lists.{searched}
 use Rattle.lookup.specs.declared.Found.{Found}
 use Rattle.lookup.specs.declared.Found.the-variants.{Nowhere, At}
 use Rattle.lookup.specs.declared.Shape.{Shape}
 use Rattle.lookup.specs.declared.Shape.the-variants.{Void, Simple, Struct, Union, Reference}
 
--- the answers of a table of n records
+-- the same answers, with another search for tags
+unfoldable pub withFind : Schema → (ℕ → List ℕ → schema.Found) → Schema
+withFind S find =
+    record {
+      kind = S .kind;
+      core = S .core;
+      untagged = S .untagged;
+      tagged = S .tagged;
+      bare = S .bare;
+      find = find;
+      lo = S .lo;
+      hi = S .hi;
+      optional = S .optional;
+      judge = S .judge;
+    }
+
+-- the answers of a table of n records; a tag is searched along its list
 abbrev pub schemaAt : List ℕ → List ℕ → ℕ → Schema
-schemaAt t offs n = schemaOf (recordsAt t offs n)
+schemaAt t unpacked n = withFind (schemaOf (recordsAt t unpacked n)) (searched t unpacked n)
 
 -- the p-th of n records, or the blank one
 abbrev pub nth : List ℕ → List ℕ → ℕ → ℕ → Record
-nth t offs n p = recordAt (recordsAt t offs n) p
+nth t unpacked n p = recordAt (recordsAt t unpacked n) p
 
 -- what the code's answer to a search means
 abbrev pub foundOf : Found → schema.Found
@@ -39,7 +56,7 @@ shapeOf Reference = schema.reference
 
 -- the untagged fields of p from the i-th record on
 abbrev pub untaggedFrom : List ℕ → List ℕ → ℕ → ℕ → ℕ → List ℕ
-untaggedFrom t offs n p i = numbersWhere (isUntaggedOf p) i (drop i (recordsAt t offs n))
+untaggedFrom t unpacked n p i = numbersWhere (isUntaggedOf p) i (drop i (recordsAt t unpacked n))
 
 -- a text with quotes or without
 abbrev pub textToken : Bool → List ℕ → Token

@@ -1,5 +1,5 @@
-// The questions that a reading asks of a table: each is answered from the table's bytes.
-// offs has the offset of each of the n records; a number past them is the blank record's.
+// The questions that a reading asks of a table: each is answered from its n unpacked records; a number past them is the
+// blank record's.
 ghost use mathlib.Core.Path.{_≡_};
 ghost use mathlib.Core.Bool.{true, false};
 ghost use Prim.Native.Nat.{_+_};
@@ -32,19 +32,19 @@ pub enum Shape {
 // ---- one parameter
 
 // The kind's number.
-pub fn kind_number(table: &[u8], offs: &[u32], n: usize, p: usize) -> u32
-    ensures { λ r. ⌜ r ≡ nth (now (table .entry)) (now (offs .entry)) n p .kind ⌝ }
+pub fn kind_number(table: &[u8], unpacked: &[u32], n: usize, p: usize) -> u32
+    ensures { λ r. ⌜ r ≡ nth (now (table .entry)) (now (unpacked .entry)) n p .kind ⌝ }
 {
     if n <= p {
         return 1;
     }
-    records::kind_at(table, offs, p)
+    records::kind_at(table, unpacked, p)
 }
 
-pub fn kind(table: &[u8], offs: &[u32], n: usize, p: usize) -> Shape
-    ensures { λ r. ⌜ shapeOf r ≡ schemaAt (now (table .entry)) (now (offs .entry)) n .kind p ⌝ }
+pub fn kind(table: &[u8], unpacked: &[u32], n: usize, p: usize) -> Shape
+    ensures { λ r. ⌜ shapeOf r ≡ schemaAt (now (table .entry)) (now (unpacked .entry)) n .kind p ⌝ }
 {
-    let number = kind_number(table, offs, n, p);
+    let number = kind_number(table, unpacked, n, p);
     match number {
         1 => Shape::Void,
         8 => Shape::Struct,
@@ -54,42 +54,42 @@ pub fn kind(table: &[u8], offs: &[u32], n: usize, p: usize) -> Shape
     }
 }
 
-pub fn is_void(table: &[u8], offs: &[u32], n: usize, p: usize) -> bool
-    ensures { λ r. ⌜ r ≡ isVoid (schemaAt (now (table .entry)) (now (offs .entry)) n .kind p) ⌝ }
+pub fn is_void(table: &[u8], unpacked: &[u32], n: usize, p: usize) -> bool
+    ensures { λ r. ⌜ r ≡ isVoid (schemaAt (now (table .entry)) (now (unpacked .entry)) n .kind p) ⌝ }
 {
-    kind_number(table, offs, n, p) == 1
+    kind_number(table, unpacked, n, p) == 1
 }
 
 // A reference's target, else the parameter itself.
-pub fn core(table: &[u8], offs: &[u32], n: usize, p: usize) -> usize
-    ensures { λ r. ⌜ r ≡ schemaAt (now (table .entry)) (now (offs .entry)) n .core p ⌝ }
+pub fn core(table: &[u8], unpacked: &[u32], n: usize, p: usize) -> usize
+    ensures { λ r. ⌜ r ≡ schemaAt (now (table .entry)) (now (unpacked .entry)) n .core p ⌝ }
 {
     if n <= p {
         return p;
     }
-    if records::kind_at(table, offs, p) == 10 {
-        return records::target_at(table, offs, p);
+    if records::kind_at(table, unpacked, p) == 10 {
+        return records::target_at(table, unpacked, p);
     }
     p
 }
 
-pub fn lo(table: &[u8], offs: &[u32], n: usize, p: usize) -> usize
-    ensures { λ r. ⌜ r ≡ schemaAt (now (table .entry)) (now (offs .entry)) n .lo p ⌝ }
+pub fn lo(table: &[u8], unpacked: &[u32], n: usize, p: usize) -> usize
+    ensures { λ r. ⌜ r ≡ schemaAt (now (table .entry)) (now (unpacked .entry)) n .lo p ⌝ }
 {
     if n <= p {
         return 1;
     }
-    records::lo_count_at(table, offs, p)
+    records::lo_count_at(table, unpacked, p)
 }
 
 // 65,535 is no limit.
-pub fn hi(table: &[u8], offs: &[u32], n: usize, p: usize) -> usize
-    ensures { λ r. ⌜ r ≡ schemaAt (now (table .entry)) (now (offs .entry)) n .hi p ⌝ }
+pub fn hi(table: &[u8], unpacked: &[u32], n: usize, p: usize) -> usize
+    ensures { λ r. ⌜ r ≡ schemaAt (now (table .entry)) (now (unpacked .entry)) n .hi p ⌝ }
 {
     if n <= p {
         return 1;
     }
-    records::hi_count_at(table, offs, p)
+    records::hi_count_at(table, unpacked, p)
 }
 
 // A list of c values may have one more.
@@ -100,13 +100,13 @@ pub fn may_grow(hi: usize, c: usize) -> bool
 }
 
 // Directly in an extension, or plugin.
-pub fn optional(table: &[u8], offs: &[u32], n: usize, p: usize) -> bool
-    ensures { λ r. ⌜ r ≡ schemaAt (now (table .entry)) (now (offs .entry)) n .optional p ⌝ }
+pub fn optional(table: &[u8], unpacked: &[u32], n: usize, p: usize) -> bool
+    ensures { λ r. ⌜ r ≡ schemaAt (now (table .entry)) (now (unpacked .entry)) n .optional p ⌝ }
 {
     if n <= p {
         return false;
     }
-    records::extension_at(table, offs, p) | records::plugin_at(table, offs, p)
+    records::extension_at(table, unpacked, p) | records::plugin_at(table, unpacked, p)
 }
 
 // What a list of ints takes: the range, counted from the least i32, and how many. Without on it is another list.
@@ -118,11 +118,11 @@ pub struct Ints {
 }
 
 // What the list of p takes.
-pub fn ints_of(table: &[u8], offs: &[u32], n: usize, p: usize) -> Ints
-    ensures { λ r. ⌜ IntsOf (schemaAt (now (table .entry)) (now (offs .entry)) n) p r ⌝ }
+pub fn ints_of(table: &[u8], unpacked: &[u32], n: usize, p: usize) -> Ints
+    ensures { λ r. ⌜ IntsOf (schemaAt (now (table .entry)) (now (unpacked .entry)) n) p r ⌝ }
 {
-    let u = core(table, offs, n, p);
-    let most_values = hi(table, offs, n, p);
+    let u = core(table, unpacked, n, p);
+    let most_values = hi(table, unpacked, n, p);
     if n <= u {
         return Ints {
             on: false,
@@ -132,49 +132,40 @@ pub fn ints_of(table: &[u8], offs: &[u32], n: usize, p: usize) -> Ints
         };
     }
     Ints {
-        on: records::kind_at(table, offs, u) == 3,
-        least: records::least_at(table, offs, u),
-        most: records::most_at(table, offs, u),
+        on: records::kind_at(table, unpacked, u) == 3,
+        least: records::least_at(table, unpacked, u),
+        most: records::most_at(table, unpacked, u),
         hi: most_values,
     }
 }
 
 // ---- the fields of p
 
-fn is_untagged_of(table: &[u8], offs: &[u32], p: usize, i: usize) -> bool
-    ensures { λ r. ⌜ r ≡ isUntaggedOf p (recordIn (now (table .entry)) (now (offs .entry)) i) ⌝ }
+fn is_untagged_of(table: &[u8], unpacked: &[u32], p: usize, i: usize) -> bool
+    ensures { λ r. ⌜ r ≡ isUntaggedOf p (recordIn (now (table .entry)) (now (unpacked .entry)) i) ⌝ }
 {
-    if records::is_under(table, offs, i, p) {
-        return records::untagged_at(table, offs, i);
+    if records::is_under(table, unpacked, i, p) {
+        return records::untagged_at(table, unpacked, i);
     }
     false
 }
 
-fn is_tagged_of(table: &[u8], offs: &[u32], p: usize, i: usize) -> bool
-    ensures { λ r. ⌜ r ≡ isTaggedOf p (recordIn (now (table .entry)) (now (offs .entry)) i) ⌝ }
+fn is_tagged_of(table: &[u8], unpacked: &[u32], p: usize, i: usize) -> bool
+    ensures { λ r. ⌜ r ≡ isTaggedOf p (recordIn (now (table .entry)) (now (unpacked .entry)) i) ⌝ }
 {
-    if records::is_under(table, offs, i, p) {
-        return !records::untagged_at(table, offs, i);
-    }
-    false
-}
-
-fn is_tagged_as(table: &[u8], offs: &[u32], p: usize, word: &[u8], i: usize) -> bool
-    ensures { λ r. ⌜ r ≡ isTaggedAs p (now (word .entry)) (recordIn (now (table .entry)) (now (offs .entry)) i) ⌝ }
-{
-    if classes::same_bytes(records::label_at(table, offs, i), word) {
-        return is_tagged_of(table, offs, p, i);
+    if records::is_under(table, unpacked, i, p) {
+        return !records::untagged_at(table, unpacked, i);
     }
     false
 }
 
 // The first untagged field from record i on.
-pub fn next_untagged(table: &[u8], offs: &[u32], n: usize, p: usize, i: usize) -> Found
-    ensures { λ r. ⌜ foundOf r ≡ first (untaggedFrom (now (table .entry)) (now (offs .entry)) n p i) ⌝ }
+pub fn next_untagged(table: &[u8], unpacked: &[u32], n: usize, p: usize, i: usize) -> Found
+    ensures { λ r. ⌜ foundOf r ≡ first (untaggedFrom (now (table .entry)) (now (unpacked .entry)) n p i) ⌝ }
 {
     let mut at = i;
     while at < n {
-        if is_untagged_of(table, offs, p, at) {
+        if is_untagged_of(table, unpacked, p, at) {
             return Found::At(at);
         }
         at += 1;
@@ -183,24 +174,20 @@ pub fn next_untagged(table: &[u8], offs: &[u32], n: usize, p: usize, i: usize) -
 }
 
 // The untagged int of a union.
-pub fn bare(table: &[u8], offs: &[u32], n: usize, p: usize) -> Found
-    ensures { λ r. ⌜ foundOf r ≡ schemaAt (now (table .entry)) (now (offs .entry)) n .bare p ⌝ }
+pub fn bare(table: &[u8], unpacked: &[u32], n: usize, p: usize) -> Found
+    ensures { λ r. ⌜ foundOf r ≡ schemaAt (now (table .entry)) (now (unpacked .entry)) n .bare p ⌝ }
 {
-    next_untagged(table, offs, n, p, 0)
+    next_untagged(table, unpacked, n, p, 0)
 }
 
 // The tag search: the field or alternative of p with this wire tag.
-pub fn find(table: &[u8], offs: &[u32], n: usize, p: usize, word: &[u8]) -> Found
-    ensures { λ r. ⌜ foundOf r ≡ schemaAt (now (table .entry)) (now (offs .entry)) n .find p (now (word .entry)) ⌝ }
+pub fn find(table: &[u8], unpacked: &[u32], n: usize, p: usize, word: &[u8]) -> Found
+    ensures { λ r. ⌜ foundOf r ≡ schemaAt (now (table .entry)) (now (unpacked .entry)) n .find p (now (word .entry)) ⌝ }
 {
-    let mut at = 0;
-    while at < n {
-        if is_tagged_as(table, offs, p, word, at) {
-            return Found::At(at);
-        }
-        at += 1;
+    match tags::find(table, unpacked, n, p, word) {
+        tags::Found::Nowhere => Found::Nowhere,
+        tags::Found::At(q) => Found::At(q),
     }
-    Found::Nowhere
 }
 
 // ---- the fields that have appeared
@@ -229,33 +216,33 @@ pub fn mark(seen: &mut [bool], k: usize)
     seen[k] = true;
 }
 
-fn is_required_of(table: &[u8], offs: &[u32], p: usize, i: usize) -> bool
-    ensures { λ r. ⌜ r ≡ isRequiredOf p (recordIn (now (table .entry)) (now (offs .entry)) i) ⌝ }
+fn is_required_of(table: &[u8], unpacked: &[u32], p: usize, i: usize) -> bool
+    ensures { λ r. ⌜ r ≡ isRequiredOf p (recordIn (now (table .entry)) (now (unpacked .entry)) i) ⌝ }
 {
-    if is_tagged_of(table, offs, p, i) {
-        return !(records::extension_at(table, offs, i)
-            | records::plugin_at(table, offs, i)
-            | (records::lo_count_at(table, offs, i) == 0));
+    if is_tagged_of(table, unpacked, p, i) {
+        return !(records::extension_at(table, unpacked, i)
+            | records::plugin_at(table, unpacked, i)
+            | (records::lo_count_at(table, unpacked, i) == 0));
     }
     false
 }
 
-fn is_missing(table: &[u8], offs: &[u32], p: usize, seen: &[bool], i: usize) -> bool
-    ensures { λ r. ⌜ r ≡ isMissing p (now (seen .entry)) i (recordIn (now (table .entry)) (now (offs .entry)) i) ⌝ }
+fn is_missing(table: &[u8], unpacked: &[u32], p: usize, seen: &[bool], i: usize) -> bool
+    ensures { λ r. ⌜ r ≡ isMissing p (now (seen .entry)) i (recordIn (now (table .entry)) (now (unpacked .entry)) i) ⌝ }
 {
     if is_marked(seen, i) {
         return false;
     }
-    is_required_of(table, offs, p, i)
+    is_required_of(table, unpacked, p, i)
 }
 
 // Every required tagged field of p has a mark.
-pub fn complete(table: &[u8], offs: &[u32], n: usize, p: usize, seen: &[bool]) -> bool
-    ensures { λ r. ⌜ r ≡ completeFrom p (now (seen .entry)) 0 (recordsAt (now (table .entry)) (now (offs .entry)) n) ⌝ }
+pub fn complete(table: &[u8], unpacked: &[u32], n: usize, p: usize, seen: &[bool]) -> bool
+    ensures { λ r. ⌜ r ≡ completeFrom p (now (seen .entry)) 0 (recordsAt (now (table .entry)) (now (unpacked .entry)) n) ⌝ }
 {
     let mut i = 0;
     while i < n {
-        if is_missing(table, offs, p, seen, i) {
+        if is_missing(table, unpacked, p, seen, i) {
             return false;
         }
         i += 1;
@@ -292,42 +279,42 @@ fn length_within(text: &[u8], least: u32, most: u32) -> bool
     (least as usize <= 0x8000_0000 + n) & (0x8000_0000 + n <= most as usize)
 }
 
-fn length_in_range(table: &[u8], offs: &[u32], q: usize, text: &[u8]) -> bool
-    ensures { λ r. ⌜ r ≡ lengthLies (recordIn (now (table .entry)) (now (offs .entry)) q) (now (text .entry)) ⌝ }
+fn length_in_range(table: &[u8], unpacked: &[u32], q: usize, text: &[u8]) -> bool
+    ensures { λ r. ⌜ r ≡ lengthLies (recordIn (now (table .entry)) (now (unpacked .entry)) q) (now (text .entry)) ⌝ }
 {
     length_within(
         text,
-        records::least_at(table, offs, q),
-        records::most_at(table, offs, q),
+        records::least_at(table, unpacked, q),
+        records::most_at(table, unpacked, q),
     )
 }
 
-fn int_in_range(table: &[u8], offs: &[u32], q: usize, text: &[u8]) -> bool
-    ensures { λ r. ⌜ r ≡ intLies (recordIn (now (table .entry)) (now (offs .entry)) q) (now (text .entry)) ⌝ }
+fn int_in_range(table: &[u8], unpacked: &[u32], q: usize, text: &[u8]) -> bool
+    ensures { λ r. ⌜ r ≡ intLies (recordIn (now (table .entry)) (now (unpacked .entry)) q) (now (text .entry)) ⌝ }
 {
     numbers::int_within(
         text,
-        records::least_at(table, offs, q),
-        records::most_at(table, offs, q),
+        records::least_at(table, unpacked, q),
+        records::most_at(table, unpacked, q),
     )
 }
 
 // The value rule of each kind, for a word or for a string without its quotes.
-pub fn judge(table: &[u8], offs: &[u32], n: usize, q: usize, text: &[u8], quoted: bool) -> u32
-    ensures { λ r. ⌜ r ≡ schemaAt (now (table .entry)) (now (offs .entry)) n .judge q (textToken quoted (now (text .entry))) ⌝ }
+pub fn judge(table: &[u8], unpacked: &[u32], n: usize, q: usize, text: &[u8], quoted: bool) -> u32
+    ensures { λ r. ⌜ r ≡ schemaAt (now (table .entry)) (now (unpacked .entry)) n .judge q (textToken quoted (now (text .entry))) ⌝ }
 {
     if n <= q {
         return 24;
     }
-    let kind = records::kind_at(table, offs, q);
+    let kind = records::kind_at(table, unpacked, q);
     match kind {
         2 => form_then_range(!quoted & is_bool(text), true),
         3 => form_then_range(
             !quoted & numbers::is_int(text),
-            int_in_range(table, offs, q, text),
+            int_in_range(table, unpacked, q, text),
         ),
-        4 => form_then_range(quoted, length_in_range(table, offs, q, text)),
-        5 => form_then_range(!quoted, length_in_range(table, offs, q, text)),
+        4 => form_then_range(quoted, length_in_range(table, unpacked, q, text)),
+        5 => form_then_range(!quoted, length_in_range(table, unpacked, q, text)),
         6 => form_then_range(!quoted & calendar::is_date(text), true),
         7 => form_then_range(!quoted & calendar::is_time(text), true),
         _ => 24,

@@ -27,21 +27,21 @@ fn print_numbers(rows: &[u32], count: usize, out: &mut [u8]) -> u8 {
 
 fn print_rows(
     table: &[u8],
-    offs: &[u32],
+    unpacked: &[u32],
     message: &[u8],
     rows: &[u32],
     count: usize,
     out: &mut [u8],
 ) -> Page {
     let mut widths = [0usize; 8];
-    report::row_widths(table, offs, rows, count, &mut widths);
-    let head = report::put_row_line(out, 0, table, offs, rows, 0, &widths, message);
+    report::row_widths(table, unpacked, rows, count, &mut widths);
+    let head = report::put_row_line(out, 0, table, unpacked, rows, 0, &widths, message);
     let mut page = started(head);
     let mut row = 0;
     while row < count && page.ok {
         let line = row + 1;
         let bytes = message::row_bytes(message, rows, row);
-        let at = report::put_row_line(out, page.at, table, offs, rows, line, &widths, bytes);
+        let at = report::put_row_line(out, page.at, table, unpacked, rows, line, &widths, bytes);
         page = flushed(out, started(at), MANY);
         row = line;
     }
@@ -56,9 +56,9 @@ fn accept(
     count: usize,
     out: &mut [u8],
 ) -> u8 {
-    let mut offs = [0u32; 2880];
-    records_of(table, &mut offs);
-    let page = print_rows(table, &offs, message, rows, count, out);
+    let mut unpacked = [0u32; 2880];
+    records_of(table, &mut unpacked);
+    let page = print_rows(table, &unpacked, message, rows, count, out);
     let at = wording::put_accepted(out, page.at, path, count);
     ended(
         out,

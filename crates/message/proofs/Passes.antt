@@ -29,7 +29,9 @@ use Rattle.tokens.proofs.CutAt.{cut-start}
 use Rattle.unknown.specs.Along.{Stopped}
 use Rattle.unknown.proofs.AlongLaws.{place-left}
 use Rattle.rows.proofs.Stores.{rows-append}
+use Rattle.tags.specs.Lists.{Linked}
 use Rattle.lookup.specs.Questions.{schemaAt}
+use Rattle.lookup.proofs.Laws.{schema-is}
 use Rattle.turns.specs.declared.Frame.{Frame}
 use Rattle.turns.specs.declared.Got.{Got}
 use Rattle.turns.specs.declared.Got.the-variants as got
@@ -73,8 +75,8 @@ module _ (t o : List ℕ) (n : ℕ) (m : List ℕ) (before after : List ℕ) whe
   start : cut m .lexemes ≡ lexemesAt 0 m 0
   start = ap (λ c. c .lexemes) (cut-start m)
 
-  reading-is : reading t o n m ≡ outcome m (lexemesAt 0 m 0) (bodyAt (schemaOf (recordsAt t o n)) 17 false 0 (tokensOf (lexemesAt 0 m 0)))
-  reading-is = ap (λ x. outcome m x (bodyAt (schemaOf (recordsAt t o n)) 17 false 0 (tokensOf x))) start
+  reading-is : reading t o n m ≡ outcome m (lexemesAt 0 m 0) (bodyAt (schemaAt t o n) 17 false 0 (tokensOf (lexemesAt 0 m 0)))
+  reading-is = ap (λ x. outcome m x (bodyAt (schemaAt t o n) 17 false 0 (tokensOf x))) start
 
   pub counted : (r : Got) → Ends (bodyAt (schemaAt t o n) 17 false 0 (tokensOf (lexemesAt 0 m 0))) m rootFrame before after 0 r → Counted (reading t o n m) r
   unfolding outcome
@@ -146,9 +148,11 @@ module _ (table : List ℕ) (o : List ℕ) (n : ℕ) (m : List ℕ) where
   unfolding afterScan
   bad-byte r at h e q = scanned h ∙ ap (afterScan (schemaOf (recordsAt table o n)) m (cut m .lexemes)) (sym e ∙ ap foundOf q)
 
-  pub no-bad : (r : Scanned) → length m ≤ messageLimit → foundOf r ≡ scanFault (cut m) → r ≡ Clean → roomFree (recordsAt table o n) m ≡ reading table o n m
+  pub no-bad : (r : Scanned) → Linked table o n 0 → length m ≤ messageLimit → foundOf r ≡ scanFault (cut m) → r ≡ Clean → roomFree (recordsAt table o n) m ≡ reading table o n m
   unfolding afterScan
-  no-bad r h e q = scanned h ∙ ap (afterScan (schemaOf (recordsAt table o n)) m (cut m .lexemes)) (sym e ∙ ap foundOf q)
+  no-bad r l h e q =
+      scanned h ∙ (ap (afterScan (schemaOf (recordsAt table o n)) m (cut m .lexemes)) (sym e ∙ ap foundOf q)
+      ∙ ap (λ S. outcome m (cut m .lexemes) (parse S openLimit (tokensOf (cut m .lexemes)))) (sym (schema-is table o n l)))
 
 -- nothing was lent
 pub none-more : (ys e : List ℕ) → length ys ≡ 0 → ys ++ e ≡ e

@@ -29,14 +29,14 @@ unfolding readAnswer rowsAfter
 bad-table table message lent e = (rw (← e, readAnswer), rw (← e, rowsAfter))
 
 -- the records that were walked are the table's
-records-are : (table offs : List ℕ) (n : ℕ) → Counted table offs n → recordsIn table ≡ recordsAt table offs n
+records-are : (table unpacked : List ℕ) (n : ℕ) → Counted table unpacked n → recordsIn table ≡ recordsAt table unpacked n
 unfolding recordsIn orEmpty
-records-are table offs n c = ap orEmpty (c .these)
+records-are table unpacked n c = ap orEmpty (c .these)
 
-pub good-table : (table message lent after offs : List ℕ) (n : ℕ) (a : Answer) → true ≡ tableRules parameterLimit table → Counted table offs n → a ≡ withRoom (length lent) (roomFree (recordsAt table offs n) message) → after ≡ written lent (roomFree (recordsAt table offs n) message) → (a ≡ readAnswer table message (length lent)) × (after ≡ rowsAfter table message lent)
+pub good-table : (table message lent after unpacked : List ℕ) (n : ℕ) (a : Answer) → true ≡ tableRules parameterLimit table → Counted table unpacked n → a ≡ withRoom (length lent) (roomFree (recordsAt table unpacked n) message) → after ≡ written lent (roomFree (recordsAt table unpacked n) message) → (a ≡ readAnswer table message (length lent)) × (after ≡ rowsAfter table message lent)
 unfolding readAnswer rowsAfter readWith rowsWith
-good-table table message lent after offs n a e c x y =
-    let q = records-are table offs n c in
+good-table table message lent after unpacked n a e c x y =
+    let q = records-are table unpacked n c in
     (x ∙ rw (← e, readAnswer, q), y ∙ rw (← e, rowsAfter, q))
 
 -- ---- the promise

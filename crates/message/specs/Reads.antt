@@ -5,8 +5,7 @@ use Prim.Native.Nat.{ℕ}
 use lib.ListN.{length}
 use lib.Seq.{sets}
 use Rattle.numbers.specs.Limits.{openLimit}
-use Rattle.schema.specs.Schema.{schemaOf}
-use Rattle.records.specs.Stored.{recordsAt}
+use Rattle.lookup.specs.Questions.{schemaAt}
 use Rattle.message_rules.specs.Scan.{cut, tokensOf}
 use Rattle.schema.specs.Parse.{parse}
 use Rattle.message_rules.specs.Rows.{Row, cells}
@@ -27,7 +26,7 @@ rootFrame = record { base = 0; at = 0; row = 1; parameter = 0; parent = 0; depth
 
 -- what the tokens of a message without number 22 make
 abbrev pub reading : List ℕ → List ℕ → ℕ → List ℕ → RoomFree
-reading t o n message = outcome message (cut message .lexemes) (parse (schemaOf (recordsAt t o n)) openLimit (tokensOf (cut message .lexemes)))
+reading t o n message = outcome message (cut message .lexemes) (parse (schemaAt t o n) openLimit (tokensOf (cut message .lexemes)))
 
 -- the rows of a reading, counted
 pub record Rows (o : RoomFree) (m : ℕ) : Type 0 where

@@ -6,6 +6,7 @@ ghost use lib.ListN.{length};
 ghost use lib.Seq.{sets};
 ghost use Rattle.numbers.specs.Limits.{messageLimit, parameterLimit};
 ghost use Rattle.records.specs.Stored.{recordsAt};
+ghost use Rattle.tags.specs.Lists.{Linked};
 ghost use Rattle.walk.specs.Walked.{Enough};
 ghost use Rattle.message_rules.specs.RowBytes.{rowBytes};
 ghost use Rattle.message_rules.specs.Rows.{Row, cells};
@@ -69,18 +70,18 @@ fn root() -> Frame
 }
 
 // The first pass, over no rows: how many there are, or the refusal. The records are at most 256, as a table's are.
-fn count(table: &[u8], offs: &[u32], n: usize, message: &[u8], rows: &mut [u32]) -> Got
+fn count(table: &[u8], unpacked: &[u32], n: usize, message: &[u8], rows: &mut [u32]) -> Got
     requires { ⌜ (length (now message) ≤ messageLimit) × (n ≤ parameterLimit) ⌝ }
-    ensures { λ r. ⌜ Counted (reading (now (table .entry)) (now (offs .entry)) n (now (message .entry))) r ⌝ }
+    ensures { λ r. ⌜ Counted (reading (now (table .entry)) (now (unpacked .entry)) n (now (message .entry))) r ⌝ }
     ensures { λ _. ⌜ now (rows .exit) ≡ now (rows .entry) ⌝ }
 {
-    reader::body(table, offs, n, message, &mut rows[0..0], root(), false)
+    reader::body(table, unpacked, n, message, &mut rows[0..0], root(), false)
 }
 
 // The second pass, which fills the rows.
-fn fill(table: &[u8], offs: &[u32], n: usize, message: &[u8], rows: &mut [u32])
+fn fill(table: &[u8], unpacked: &[u32], n: usize, message: &[u8], rows: &mut [u32])
     requires { ⌜ (length (now message) ≤ messageLimit) × (n ≤ parameterLimit) ⌝ }
-    ensures { λ _. ⌜ Fills (reading (now (table .entry)) (now (offs .entry)) n (now (message .entry))) (now (rows .entry)) (now (rows .exit)) ⌝ }
+    ensures { λ _. ⌜ Fills (reading (now (table .entry)) (now (unpacked .entry)) n (now (message .entry))) (now (rows .entry)) (now (rows .exit)) ⌝ }
 {
     rows::put_row(
         rows,
@@ -92,15 +93,21 @@ fn fill(table: &[u8], offs: &[u32], n: usize, message: &[u8], rows: &mut [u32])
             end: message.len(),
         },
     );
-    reader::body(table, offs, n, message, rows, root(), false);
+    reader::body(table, unpacked, n, message, rows, root(), false);
 }
 
-// A message read by the n records at these offsets of the table: 21, 22, then the leftmost of 23 to 28, then 29.
+// A message read by the n unpacked records of the table: 21, 22, then the leftmost of 23 to 28, then 29.
 // The records are at most 256, as a table's are.
-fn read_records(table: &[u8], offs: &[u32], n: usize, message: &[u8], rows: &mut [u32]) -> Verdict
-    requires { ⌜ n ≤ parameterLimit ⌝ }
-    ensures { λ r. ⌜ answerOf r ≡ withRoom (length (now (rows .entry))) (roomFree (recordsAt (now (table .entry)) (now (offs .entry)) n) (now (message .entry))) ⌝ }
-    ensures { λ _. ⌜ now (rows .exit) ≡ written (now (rows .entry)) (roomFree (recordsAt (now (table .entry)) (now (offs .entry)) n) (now (message .entry))) ⌝ }
+fn read_records(
+    table: &[u8],
+    unpacked: &[u32],
+    n: usize,
+    message: &[u8],
+    rows: &mut [u32],
+) -> Verdict
+    requires { ⌜ (n ≤ parameterLimit) × Linked (now table) (now unpacked) n 0 ⌝ }
+    ensures { λ r. ⌜ answerOf r ≡ withRoom (length (now (rows .entry))) (roomFree (recordsAt (now (table .entry)) (now (unpacked .entry)) n) (now (message .entry))) ⌝ }
+    ensures { λ _. ⌜ now (rows .exit) ≡ written (now (rows .entry)) (roomFree (recordsAt (now (table .entry)) (now (unpacked .entry)) n) (now (message .entry))) ⌝ }
 {
     if MESSAGE_LIMIT < message.len() {
         return Verdict::Refused(21, MESSAGE_LIMIT);
@@ -110,23 +117,29 @@ fn read_records(table: &[u8], offs: &[u32], n: usize, message: &[u8], rows: &mut
             return Verdict::Refused(22, at);
         }
         Scanned::Clean => {
-            return read_tokens(table, offs, n, message, rows);
+            return read_tokens(table, unpacked, n, message, rows);
         }
     }
 }
 
 // The same for a message that has no number 22.
-fn read_tokens(table: &[u8], offs: &[u32], n: usize, message: &[u8], rows: &mut [u32]) -> Verdict
+fn read_tokens(
+    table: &[u8],
+    unpacked: &[u32],
+    n: usize,
+    message: &[u8],
+    rows: &mut [u32],
+) -> Verdict
     requires { ⌜ (length (now message) ≤ messageLimit) × (n ≤ parameterLimit) ⌝ }
-    ensures { λ r. ⌜ answerOf r ≡ withRoom (length (now (rows .entry))) (reading (now (table .entry)) (now (offs .entry)) n (now (message .entry))) ⌝ }
-    ensures { λ _. ⌜ now (rows .exit) ≡ written (now (rows .entry)) (reading (now (table .entry)) (now (offs .entry)) n (now (message .entry))) ⌝ }
+    ensures { λ r. ⌜ answerOf r ≡ withRoom (length (now (rows .entry))) (reading (now (table .entry)) (now (unpacked .entry)) n (now (message .entry))) ⌝ }
+    ensures { λ _. ⌜ now (rows .exit) ≡ written (now (rows .entry)) (reading (now (table .entry)) (now (unpacked .entry)) n (now (message .entry))) ⌝ }
 {
-    match count(table, offs, n, message, rows) {
+    match count(table, unpacked, n, message, rows) {
         Got::Done(_, m) => {
             if rows.len() / ROW_WIDTH < m {
                 return Verdict::Refused(29, m);
             }
-            fill(table, offs, n, message, rows);
+            fill(table, unpacked, n, message, rows);
             return Verdict::Accepted(m);
         }
         Got::Refused(k, q) => {
@@ -136,13 +149,13 @@ fn read_tokens(table: &[u8], offs: &[u32], n: usize, message: &[u8], rows: &mut 
 }
 
 // The same with cells lent, which are enough for the table's records: number 20 first.
-fn read_with(table: &[u8], offs: &mut [u32], message: &[u8], rows: &mut [u32]) -> Verdict
-    requires { ⌜ Enough (length (now table)) (length (now offs)) ⌝ }
+fn read_with(table: &[u8], unpacked: &mut [u32], message: &[u8], rows: &mut [u32]) -> Verdict
+    requires { ⌜ Enough (length (now table)) (length (now unpacked)) ⌝ }
     ensures { λ r. ⌜ answerOf r ≡ readAnswer (now (table .entry)) (now (message .entry)) (length (now (rows .entry))) ⌝ }
     ensures { λ _. ⌜ now (rows .exit) ≡ rowsAfter (now (table .entry)) (now (message .entry)) (now (rows .entry)) ⌝ }
 {
-    match table::checked(table, offs) {
-        Walk::Count(n) => read_records(table, offs, n, message, rows),
+    match table::checked(table, unpacked) {
+        Walk::Count(n) => read_records(table, unpacked, n, message, rows),
         Walk::Bad => Verdict::Refused(20, 0),
     }
 }

@@ -44,23 +44,23 @@ module _ (σ : List Frame) (r : Record) where
 
 -- ---- the loop
 
-module _ (t offs : List ℕ) (n : ℕ) where
-  pub order-start : ordered [] 0 (recordsAt t offs n) ≡ ordered [] 0 (recordsFrom t offs (n - 0) 0)
-  order-start = rw (records-all t offs n)
+module _ (t unpacked : List ℕ) (n : ℕ) where
+  pub order-start : ordered [] 0 (recordsAt t unpacked n) ≡ ordered [] 0 (recordsFrom t unpacked (n - 0) 0)
+  order-start = rw (records-all t unpacked n)
 
   module _ (i : ℕ) (σ : List Frame) where
-    pub order-end : n ≤ i → ordered σ i (recordsFrom t offs (n - i) i) ≡ true
+    pub order-end : n ≤ i → ordered σ i (recordsFrom t unpacked (n - i) i) ≡ true
     unfolding ordered
-    order-end h = rw (records-end t offs n i h)
+    order-end h = rw (records-end t unpacked n i h)
 
-    module _ (τ : List Frame) (u : Up) (e : u ≡ recordIn t offs i .parent) (c : τ ≡ closedTo u σ) (h : i < n) where
-      closed : closedTo (recordIn t offs i .parent) σ ≡ τ
+    module _ (τ : List Frame) (u : Up) (e : u ≡ recordIn t unpacked i .parent) (c : τ ≡ closedTo u σ) (h : i < n) where
+      closed : closedTo (recordIn t unpacked i .parent) σ ≡ τ
       closed = ap (λ (v : Up). closedTo v σ) (sym e) ∙ sym c
 
-      pub order-stop : standsIn τ (recordIn t offs i) ≡ false → ordered σ i (recordsFrom t offs (n - i) i) ≡ false
+      pub order-stop : standsIn τ (recordIn t unpacked i) ≡ false → ordered σ i (recordsFrom t unpacked (n - i) i) ≡ false
       unfolding ordered
-      order-stop s = rw (records-more t offs n i h, closed, s)
+      order-stop s = rw (records-more t unpacked n i h, closed, s)
 
-      pub order-more : (υ : List Frame) → standsIn τ (recordIn t offs i) ≡ true → υ ≡ pushIf (kindIsCompound (recordIn t offs i .kind)) i (inExtension (recordIn t offs i .extension) τ) → ordered σ i (recordsFrom t offs (n - i) i) ≡ ordered υ (i + 1) (recordsFrom t offs (n - (i + 1)) (i + 1))
+      pub order-more : (υ : List Frame) → standsIn τ (recordIn t unpacked i) ≡ true → υ ≡ pushIf (kindIsCompound (recordIn t unpacked i .kind)) i (inExtension (recordIn t unpacked i .extension) τ) → ordered σ i (recordsFrom t unpacked (n - i) i) ≡ ordered υ (i + 1) (recordsFrom t unpacked (n - (i + 1)) (i + 1))
       unfolding ordered
-      order-more υ s p = rw (records-more t offs n i h, closed, s, ← p, ← add-one i)
+      order-more υ s p = rw (records-more t unpacked n i h, closed, s, ← p, ← add-one i)

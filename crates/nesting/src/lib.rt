@@ -85,16 +85,16 @@ fn may_stand(bodies: &[u32], depth: usize, extension: bool) -> bool
     true
 }
 
-fn stands_in(table: &[u8], offs: &[u32], i: usize, bodies: &[u32], depth: usize) -> bool
-    ensures { λ r. ⌜ r ≡ standsIn (framesOf (now (bodies .entry)) depth) (recordIn (now (table .entry)) (now (offs .entry)) i) ⌝ }
+fn stands_in(table: &[u8], unpacked: &[u32], i: usize, bodies: &[u32], depth: usize) -> bool
+    ensures { λ r. ⌜ r ≡ standsIn (framesOf (now (bodies .entry)) depth) (recordIn (now (table .entry)) (now (unpacked .entry)) i) ⌝ }
 {
-    if !is_parent(bodies, depth, records::parent_at(table, offs, i)) {
+    if !is_parent(bodies, depth, records::parent_at(table, unpacked, i)) {
         return false;
     }
-    if !may_stand(bodies, depth, records::extension_at(table, offs, i)) {
+    if !may_stand(bodies, depth, records::extension_at(table, unpacked, i)) {
         return false;
     }
-    !is_compound(records::kind_at(table, offs, i)) | (depth < 8)
+    !is_compound(records::kind_at(table, unpacked, i)) | (depth < 8)
 }
 
 // A field in an extension: from here on the body has only such fields.
@@ -112,12 +112,12 @@ fn note_extension(bodies: &mut [u32], depth: usize, extension: bool)
 }
 
 // How many bodies are open after record i, which opens one where it is a struct or a union.
-fn opened(table: &[u8], offs: &[u32], i: usize, bodies: &mut [u32], depth: usize) -> usize
-    requires { ⌜ (i < 256) × (depth ≤ length (now bodies)) × (kindIsCompound (recordIn (now table) (now offs) i .kind) ≡ true → depth < length (now bodies)) ⌝ }
-    ensures { λ r. ⌜ (framesOf (now (bodies .exit)) r ≡ pushIf (kindIsCompound (recordIn (now (table .entry)) (now (offs .entry)) i .kind)) i (inExtension (recordIn (now (table .entry)) (now (offs .entry)) i .extension) (framesOf (now (bodies .entry)) depth))) × (r ≤ length (now (bodies .entry))) ⌝ }
+fn opened(table: &[u8], unpacked: &[u32], i: usize, bodies: &mut [u32], depth: usize) -> usize
+    requires { ⌜ (i < 256) × (depth ≤ length (now bodies)) × (kindIsCompound (recordIn (now table) (now unpacked) i .kind) ≡ true → depth < length (now bodies)) ⌝ }
+    ensures { λ r. ⌜ (framesOf (now (bodies .exit)) r ≡ pushIf (kindIsCompound (recordIn (now (table .entry)) (now (unpacked .entry)) i .kind)) i (inExtension (recordIn (now (table .entry)) (now (unpacked .entry)) i .extension) (framesOf (now (bodies .entry)) depth))) × (r ≤ length (now (bodies .entry))) ⌝ }
 {
-    note_extension(bodies, depth, records::extension_at(table, offs, i));
-    if is_compound(records::kind_at(table, offs, i)) {
+    note_extension(bodies, depth, records::extension_at(table, unpacked, i));
+    if is_compound(records::kind_at(table, unpacked, i)) {
         put(bodies, depth, 2 * (i as u32));
         return depth + 1;
     }
@@ -131,19 +131,19 @@ fn no_bodies() -> [u32; 8]
 }
 
 // The bound keeps a record's number in a u32.
-pub fn ordered(table: &[u8], offs: &[u32], n: usize) -> bool
+pub fn ordered(table: &[u8], unpacked: &[u32], n: usize) -> bool
     requires { ⌜ n ≤ 256 ⌝ }
-    ensures { λ r. ⌜ r ≡ isOrdered [] 0 (recordsAt (now (table .entry)) (now (offs .entry)) n) ⌝ }
+    ensures { λ r. ⌜ r ≡ isOrdered [] 0 (recordsAt (now (table .entry)) (now (unpacked .entry)) n) ⌝ }
 {
     let mut bodies = no_bodies();
     let mut depth: usize = 0;
     let mut i: usize = 0;
     while i < n {
-        depth = closed_to(&bodies, depth, records::parent_at(table, offs, i));
-        if !stands_in(table, offs, i, &bodies, depth) {
+        depth = closed_to(&bodies, depth, records::parent_at(table, unpacked, i));
+        if !stands_in(table, unpacked, i, &bodies, depth) {
             return false;
         }
-        depth = opened(table, offs, i, &mut bodies, depth);
+        depth = opened(table, unpacked, i, &mut bodies, depth);
         i += 1;
     }
     true

@@ -124,10 +124,10 @@ fn deeper(f: Frame) -> Frame
 
 // ---- unions
 
-fn is_union(table: &[u8], offs: &[u32], n: usize, u: usize) -> bool
-    ensures { λ r. ⌜ r ≡ isUnion (schemaAt (now (table .entry)) (now (offs .entry)) n .kind u) ⌝ }
+fn is_union(table: &[u8], unpacked: &[u32], n: usize, u: usize) -> bool
+    ensures { λ r. ⌜ r ≡ isUnion (schemaAt (now (table .entry)) (now (unpacked .entry)) n .kind u) ⌝ }
 {
-    match lookup::kind(table, offs, n, u) {
+    match lookup::kind(table, unpacked, n, u) {
         Shape::Void => false,
         Shape::Simple => false,
         Shape::Struct => false,
@@ -201,19 +201,19 @@ fn open_row(rows: &mut [u32], f: Frame, start: usize)
 }
 
 // A value: a loop down a chain of choices, whose rows are neighbours with one end, then a value that is no choice.
-fn choice(table: &[u8], offs: &[u32], n: usize, s: &[u8], rows: &mut [u32], f: Frame) -> Got
+fn choice(table: &[u8], unpacked: &[u32], n: usize, s: &[u8], rows: &mut [u32], f: Frame) -> Got
     requires { ⌜ Room f (length (now s)) n ⌝ }
     requires { ⌜ f .parameter < n ⌝ }
-    ensures { λ r. ⌜ EndsValue (valuesOf (schemaAt (now (table .entry)) (now (offs .entry)) n) (f .depth) (f .parameter) (here (now (s .entry)) f)) (now (s .entry)) f (now (rows .entry)) (now (rows .exit)) r ⌝ }
+    ensures { λ r. ⌜ EndsValue (valuesOf (schemaAt (now (table .entry)) (now (unpacked .entry)) n) (f .depth) (f .parameter) (here (now (s .entry)) f)) (now (s .entry)) f (now (rows .entry)) (now (rows .exit)) r ⌝ }
 {
     let mut g = f;
     loop {
-        let u = lookup::core(table, offs, n, g.parameter);
-        if !is_union(table, offs, n, u) {
-            let got = value(table, offs, n, s, rows, g);
+        let u = lookup::core(table, unpacked, n, g.parameter);
+        if !is_union(table, unpacked, n, u) {
+            let got = value(table, unpacked, n, s, rows, g);
             return close_chain(rows, f.base, f.row, g.row, got);
         }
-        match turns::choose(table, offs, n, s, g, u) {
+        match turns::choose(table, unpacked, n, s, g, u) {
             Choice::Deeper(q, a, v) => {
                 open_row(rows, g, a);
                 g = under(g, v.at, q);
@@ -234,7 +234,7 @@ fn choice(table: &[u8], offs: &[u32], n: usize, s: &[u8], rows: &mut [u32], f: F
 // A struct's value: the part after its brace is handed on to the reader of its body.
 fn braced(
     table: &[u8],
-    offs: &[u32],
+    unpacked: &[u32],
     n: usize,
     s: &[u8],
     rows: &mut [u32],
@@ -243,12 +243,12 @@ fn braced(
 ) -> Got
     requires { ⌜ Room f (length (now s)) n ⌝ }
     requires { ⌜ f .parameter < n ⌝ }
-    ensures { λ r. ⌜ EndsValue (structAt (bodyAt (schemaAt (now (table .entry)) (now (offs .entry)) n) (f .depth) true) u (here (now (s .entry)) f)) (now (s .entry)) f (now (rows .entry)) (now (rows .exit)) r ⌝ }
+    ensures { λ r. ⌜ EndsValue (structAt (bodyAt (schemaAt (now (table .entry)) (now (unpacked .entry)) n) (f .depth) true) u (here (now (s .entry)) f)) (now (s .entry)) f (now (rows .entry)) (now (rows .exit)) r ⌝ }
 {
     match turns::open_brace(s, f) {
         Opened::In(a, v) => {
             let e = v.at;
-            match body(table, offs, n, &s[e..], rows, inner(f, e, u), true) {
+            match body(table, unpacked, n, &s[e..], rows, inner(f, e, u), true) {
                 Got::Done(w, m) => turns::shut(s, rows, f, a, e + w.at, m),
                 Got::Refused(k, p) => Got::Refused(k, p),
             }
@@ -258,16 +258,16 @@ fn braced(
 }
 
 // A value of what is no union.
-fn value(table: &[u8], offs: &[u32], n: usize, s: &[u8], rows: &mut [u32], f: Frame) -> Got
+fn value(table: &[u8], unpacked: &[u32], n: usize, s: &[u8], rows: &mut [u32], f: Frame) -> Got
     requires { ⌜ Room f (length (now s)) n ⌝ }
     requires { ⌜ f .parameter < n ⌝ }
-    ensures { λ r. ⌜ PlainAt (schemaAt (now (table .entry)) (now (offs .entry)) n) (now (s .entry)) f (now (rows .entry)) (now (rows .exit)) r ⌝ }
+    ensures { λ r. ⌜ PlainAt (schemaAt (now (table .entry)) (now (unpacked .entry)) n) (now (s .entry)) f (now (rows .entry)) (now (rows .exit)) r ⌝ }
 {
-    let u = lookup::core(table, offs, n, f.parameter);
-    match lookup::kind(table, offs, n, u) {
+    let u = lookup::core(table, unpacked, n, f.parameter);
+    match lookup::kind(table, unpacked, n, u) {
         Shape::Void => turns::no_value(s, f),
-        Shape::Simple => turns::simple(table, offs, n, s, rows, f, u),
-        Shape::Struct => braced(table, offs, n, s, rows, f, u),
+        Shape::Simple => turns::simple(table, unpacked, n, s, rows, f, u),
+        Shape::Struct => braced(table, unpacked, n, s, rows, f, u),
         Shape::Union => turns::no_value(s, f),
         Shape::Reference => turns::no_value(s, f),
     }
@@ -286,7 +286,7 @@ enum Taken {
 // The value of a list after c others, quickly where it is plain digits of a list of ints.
 fn list_value(
     table: &[u8],
-    offs: &[u32],
+    unpacked: &[u32],
     n: usize,
     s: &[u8],
     rows: &mut [u32],
@@ -296,13 +296,13 @@ fn list_value(
 ) -> Taken
     requires { ⌜ Room f (length (now s)) n ⌝ }
     requires { ⌜ (f .parameter < n) × (c < 4294967296) ⌝ }
-    requires { ⌜ IntsOf (schemaAt (now table) (now offs) n) (f .parameter) e ⌝ }
-    ensures { λ r. ⌜ TakenAt (schemaAt (now (table .entry)) (now (offs .entry)) n) (now (s .entry)) f c (now (rows .entry)) (now (rows .exit)) r ⌝ }
+    requires { ⌜ IntsOf (schemaAt (now table) (now unpacked) n) (f .parameter) e ⌝ }
+    ensures { λ r. ⌜ TakenAt (schemaAt (now (table .entry)) (now (unpacked .entry)) n) (now (s .entry)) f c (now (rows .entry)) (now (rows .exit)) r ⌝ }
 {
-    match turns::quick_int(table, offs, n, s, rows, f, c, e) {
+    match turns::quick_int(table, unpacked, n, s, rows, f, c, e) {
         Quick::On(v, m) => Taken::On(v, m),
         Quick::Value(v, m) => Taken::Done(v, m),
-        Quick::Slow => match choice(table, offs, n, s, rows, f) {
+        Quick::Slow => match choice(table, unpacked, n, s, rows, f) {
             Got::Done(v, m) => Taken::Done(v, m),
             Got::Refused(k, p) => Taken::Refused(k, p),
         },
@@ -312,7 +312,7 @@ fn list_value(
 // The value of a list after c others, and what follows it.
 fn element(
     table: &[u8],
-    offs: &[u32],
+    unpacked: &[u32],
     n: usize,
     s: &[u8],
     rows: &mut [u32],
@@ -322,14 +322,14 @@ fn element(
 ) -> Taken
     requires { ⌜ Room f (length (now s)) n ⌝ }
     requires { ⌜ (f .parameter < n) × (c < 4294967296) ⌝ }
-    requires { ⌜ IntsOf (schemaAt (now table) (now offs) n) (f .parameter) e ⌝ }
-    ensures { λ r. ⌜ ElementAt (schemaAt (now (table .entry)) (now (offs .entry)) n) (now (s .entry)) f c (now (rows .entry)) (now (rows .exit)) r ⌝ }
+    requires { ⌜ IntsOf (schemaAt (now table) (now unpacked) n) (f .parameter) e ⌝ }
+    ensures { λ r. ⌜ ElementAt (schemaAt (now (table .entry)) (now (unpacked .entry)) n) (now (s .entry)) f c (now (rows .entry)) (now (rows .exit)) r ⌝ }
 {
-    match list_value(table, offs, n, s, rows, f, c, e) {
+    match list_value(table, unpacked, n, s, rows, f, c, e) {
         Taken::On(v, m) => Taken::On(v, m),
         Taken::Done(v, m) => match turns::after_value(
             table,
-            offs,
+            unpacked,
             n,
             s,
             f.base,
@@ -345,16 +345,16 @@ fn element(
     }
 }
 
-fn list(table: &[u8], offs: &[u32], n: usize, s: &[u8], rows: &mut [u32], f: Frame) -> Got
+fn list(table: &[u8], unpacked: &[u32], n: usize, s: &[u8], rows: &mut [u32], f: Frame) -> Got
     requires { ⌜ Room f (length (now s)) n ⌝ }
     requires { ⌜ f .parameter < n ⌝ }
-    ensures { λ r. ⌜ Ends (wholeList (schemaAt (now (table .entry)) (now (offs .entry)) n) (valuesOf (schemaAt (now (table .entry)) (now (offs .entry)) n) (f .depth)) (f .parameter) (here (now (s .entry)) f)) (now (s .entry)) f (now (rows .entry)) (now (rows .exit)) 1 r ⌝ }
+    ensures { λ r. ⌜ Ends (wholeList (schemaAt (now (table .entry)) (now (unpacked .entry)) n) (valuesOf (schemaAt (now (table .entry)) (now (unpacked .entry)) n) (f .depth)) (f .parameter) (here (now (s .entry)) f)) (now (s .entry)) f (now (rows .entry)) (now (rows .exit)) 1 r ⌝ }
 {
-    let e = lookup::ints_of(table, offs, n, f.parameter);
+    let e = lookup::ints_of(table, unpacked, n, f.parameter);
     let mut g = f;
     let mut c: usize = 0;
     loop {
-        match element(table, offs, n, s, rows, g, c, e) {
+        match element(table, unpacked, n, s, rows, g, c, e) {
             Taken::On(v, next) => {
                 g = next_value(g, v.at, next, g.parent);
                 c += 1;
@@ -374,7 +374,7 @@ fn list(table: &[u8], offs: &[u32], n: usize, s: &[u8], rows: &mut [u32], f: Fra
 // One item, whose field is marked.
 fn item(
     table: &[u8],
-    offs: &[u32],
+    unpacked: &[u32],
     n: usize,
     s: &[u8],
     rows: &mut [u32],
@@ -384,9 +384,9 @@ fn item(
 ) -> Turn
     requires { ⌜ Room f (length (now s)) n ⌝ }
     requires { ⌜ Marked (now seen) ⌝ }
-    ensures { λ r. ⌜ ((ks : List ℕ) → Marks (now (seen .entry)) ks → ItemTurn (schemaAt (now (table .entry)) (now (offs .entry)) n) (now (s .entry)) f inside ks (now (seen .exit)) (now (rows .entry)) (now (rows .exit)) r) ⌝ }
+    ensures { λ r. ⌜ ((ks : List ℕ) → Marks (now (seen .entry)) ks → ItemTurn (schemaAt (now (table .entry)) (now (unpacked .entry)) n) (now (s .entry)) f inside ks (now (seen .exit)) (now (rows .entry)) (now (rows .exit)) r) ⌝ }
 {
-    match turns::item_at(table, offs, n, s, f, inside, seen) {
+    match turns::item_at(table, unpacked, n, s, f, inside, seen) {
         Item::End => Turn::Out(Got::Done(Cursor { at: f.at }, f.row)),
         Item::Void(q, a, v) => {
             lookup::mark(seen, q);
@@ -404,7 +404,7 @@ fn item(
         }
         Item::List(q, v) => {
             lookup::mark(seen, q);
-            match list(table, offs, n, s, rows, for_field(f, v.at, q)) {
+            match list(table, unpacked, n, s, rows, for_field(f, v.at, q)) {
                 Got::Done(w, m) => Turn::On(w, m),
                 Got::Refused(k, p) => Turn::Out(Got::Refused(k, p)),
             }
@@ -416,7 +416,7 @@ fn item(
 
 fn items(
     table: &[u8],
-    offs: &[u32],
+    unpacked: &[u32],
     n: usize,
     s: &[u8],
     rows: &mut [u32],
@@ -424,12 +424,12 @@ fn items(
     inside: bool,
 ) -> Got
     requires { ⌜ Room f (length (now s)) n ⌝ }
-    ensures { λ r. ⌜ Ends (itemsAt (schemaAt (now (table .entry)) (now (offs .entry)) n) (valuesOf (schemaAt (now (table .entry)) (now (offs .entry)) n) (f .depth)) inside (f .parameter) (suc (length (here (now (s .entry)) f))) [] (here (now (s .entry)) f)) (now (s .entry)) f (now (rows .entry)) (now (rows .exit)) 0 r ⌝ }
+    ensures { λ r. ⌜ Ends (itemsAt (schemaAt (now (table .entry)) (now (unpacked .entry)) n) (valuesOf (schemaAt (now (table .entry)) (now (unpacked .entry)) n) (f .depth)) inside (f .parameter) (suc (length (here (now (s .entry)) f))) [] (here (now (s .entry)) f)) (now (s .entry)) f (now (rows .entry)) (now (rows .exit)) 0 r ⌝ }
 {
     let mut seen = lookup::no_marks();
     let mut g = f;
     loop {
-        match item(table, offs, n, s, rows, g, inside, &mut seen) {
+        match item(table, unpacked, n, s, rows, g, inside, &mut seen) {
             Turn::On(v, m) => {
                 g = moved(g, v.at, m);
             }
@@ -443,7 +443,7 @@ fn items(
 // The list of the untagged field f.parameter, or the body's end in its place.
 fn field(
     table: &[u8],
-    offs: &[u32],
+    unpacked: &[u32],
     n: usize,
     s: &[u8],
     rows: &mut [u32],
@@ -452,10 +452,10 @@ fn field(
 ) -> Turn
     requires { ⌜ Room f (length (now s)) n ⌝ }
     requires { ⌜ f .parameter < n ⌝ }
-    ensures { λ r. ⌜ FieldAt (schemaAt (now (table .entry)) (now (offs .entry)) n) (now (s .entry)) f inside (now (rows .entry)) (now (rows .exit)) r ⌝ }
+    ensures { λ r. ⌜ FieldAt (schemaAt (now (table .entry)) (now (unpacked .entry)) n) (now (s .entry)) f inside (now (rows .entry)) (now (rows .exit)) r ⌝ }
 {
-    match turns::field_at(table, offs, n, s, f, inside) {
-        Start::List => match list(table, offs, n, s, rows, f) {
+    match turns::field_at(table, unpacked, n, s, f, inside) {
+        Start::List => match list(table, unpacked, n, s, rows, f) {
             Got::Done(v, m) => Turn::On(v, m),
             Got::Refused(k, p) => Turn::Out(Got::Refused(k, p)),
         },
@@ -467,7 +467,7 @@ fn field(
 // The untagged fields' lists in order, then the items.
 fn fields(
     table: &[u8],
-    offs: &[u32],
+    unpacked: &[u32],
     n: usize,
     s: &[u8],
     rows: &mut [u32],
@@ -475,16 +475,24 @@ fn fields(
     inside: bool,
 ) -> Got
     requires { ⌜ Room f (length (now s)) n ⌝ }
-    ensures { λ r. ⌜ Ends (listsAt (schemaAt (now (table .entry)) (now (offs .entry)) n) (valuesOf (schemaAt (now (table .entry)) (now (offs .entry)) n) (f .depth)) inside (f .parameter) (schemaAt (now (table .entry)) (now (offs .entry)) n .untagged (f .parameter)) (here (now (s .entry)) f)) (now (s .entry)) f (now (rows .entry)) (now (rows .exit)) 0 r ⌝ }
+    ensures { λ r. ⌜ Ends (listsAt (schemaAt (now (table .entry)) (now (unpacked .entry)) n) (valuesOf (schemaAt (now (table .entry)) (now (unpacked .entry)) n) (f .depth)) inside (f .parameter) (schemaAt (now (table .entry)) (now (unpacked .entry)) n .untagged (f .parameter)) (here (now (s .entry)) f)) (now (s .entry)) f (now (rows .entry)) (now (rows .exit)) 0 r ⌝ }
 {
     let mut g = f;
     let mut i: usize = 0;
     loop {
-        match lookup::next_untagged(table, offs, n, g.parameter, i) {
+        match lookup::next_untagged(table, unpacked, n, g.parameter, i) {
             Found::Nowhere => {
-                return items(table, offs, n, s, rows, g, inside);
+                return items(table, unpacked, n, s, rows, g, inside);
             }
-            Found::At(q) => match field(table, offs, n, s, rows, for_field(g, g.at, q), inside) {
+            Found::At(q) => match field(
+                table,
+                unpacked,
+                n,
+                s,
+                rows,
+                for_field(g, g.at, q),
+                inside,
+            ) {
                 Turn::On(v, m) => {
                     g = moved(g, v.at, m);
                     i = q + 1;
@@ -500,7 +508,7 @@ fn fields(
 // The body of f.parameter, inside braces or the root's. Number 0 never shows where the braces are at most as deep as f.depth says.
 pub fn body(
     table: &[u8],
-    offs: &[u32],
+    unpacked: &[u32],
     n: usize,
     s: &[u8],
     rows: &mut [u32],
@@ -508,12 +516,12 @@ pub fn body(
     inside: bool,
 ) -> Got
     requires { ⌜ Room f (length (now s)) n ⌝ }
-    ensures { λ r. ⌜ Ends (bodyAt (schemaAt (now (table .entry)) (now (offs .entry)) n) (f .depth) inside (f .parameter) (here (now (s .entry)) f)) (now (s .entry)) f (now (rows .entry)) (now (rows .exit)) 0 r ⌝ }
+    ensures { λ r. ⌜ Ends (bodyAt (schemaAt (now (table .entry)) (now (unpacked .entry)) n) (f .depth) inside (f .parameter) (here (now (s .entry)) f)) (now (s .entry)) f (now (rows .entry)) (now (rows .exit)) 0 r ⌝ }
 {
     if f.depth == 0 {
         let u = Cursor { at: f.at };
         let h = u.head(s);
         return Got::Refused(0, f.base + h.start);
     }
-    fields(table, offs, n, s, rows, deeper(f), inside)
+    fields(table, unpacked, n, s, rows, deeper(f), inside)
 }

@@ -23,29 +23,29 @@ unfolding anyBefore anyOf
 any-in-all f [] = refl
 any-in-all f (r ∷ rs) = rw (any-in-all f rs)
 
-module _ (f : Record → Bool) (t offs : List ℕ) (n : ℕ) where
+module _ (f : Record → Bool) (t unpacked : List ℕ) (n : ℕ) where
   -- among all
-  pub any-of : anyBefore n f (recordsAt t offs n) ≡ anyOf f (recordsAt t offs n)
-  any-of = ap (λ (m : ℕ). anyBefore m f (recordsAt t offs n)) (sym (length-records t offs n 0)) ∙ any-in-all f (recordsAt t offs n)
+  pub any-of : anyBefore n f (recordsAt t unpacked n) ≡ anyOf f (recordsAt t unpacked n)
+  any-of = ap (λ (m : ℕ). anyBefore m f (recordsAt t unpacked n)) (sym (length-records t unpacked n 0)) ∙ any-in-all f (recordsAt t unpacked n)
 
-  pub any-start : (m : ℕ) → anyBefore m f (recordsAt t offs n) ≡ anyBefore (m - 0) f (recordsFrom t offs (n - 0) 0)
-  any-start m = let e : m ≡ m - 0 = omega arith in rw (records-all t offs n, ← e)
+  pub any-start : (m : ℕ) → anyBefore m f (recordsAt t unpacked n) ≡ anyBefore (m - 0) f (recordsFrom t unpacked (n - 0) 0)
+  any-start m = let e : m ≡ m - 0 = omega arith in rw (records-all t unpacked n, ← e)
 
   module _ (m j : ℕ) where
-    pub any-stop : m ≤ j → anyBefore (m - j) f (recordsFrom t offs (n - j) j) ≡ false
+    pub any-stop : m ≤ j → anyBefore (m - j) f (recordsFrom t unpacked (n - j) j) ≡ false
     unfolding anyBefore
     any-stop h = let e : m - j ≡ 0 = omega arith in rw e
 
-    pub any-end : n ≤ j → anyBefore (m - j) f (recordsFrom t offs (n - j) j) ≡ false
-    any-end h = rw (records-end t offs n j h) (any-none f (m - j))
+    pub any-end : n ≤ j → anyBefore (m - j) f (recordsFrom t unpacked (n - j) j) ≡ false
+    any-end h = rw (records-end t unpacked n j h) (any-none f (m - j))
 
-    pub any-yes : j < n → j < m → f (recordIn t offs j) ≡ true → anyBefore (m - j) f (recordsFrom t offs (n - j) j) ≡ true
+    pub any-yes : j < n → j < m → f (recordIn t unpacked j) ≡ true → anyBefore (m - j) f (recordsFrom t unpacked (n - j) j) ≡ true
     unfolding anyBefore
-    any-yes h k e = let s : m - j ≡ suc (m - (j + 1)) = omega arith in rw (s, records-more t offs n j h, e)
+    any-yes h k e = let s : m - j ≡ suc (m - (j + 1)) = omega arith in rw (s, records-more t unpacked n j h, e)
 
-    pub any-more : j < n → j < m → f (recordIn t offs j) ≡ false → anyBefore (m - j) f (recordsFrom t offs (n - j) j) ≡ anyBefore (m - (j + 1)) f (recordsFrom t offs (n - (j + 1)) (j + 1))
+    pub any-more : j < n → j < m → f (recordIn t unpacked j) ≡ false → anyBefore (m - j) f (recordsFrom t unpacked (n - j) j) ≡ anyBefore (m - (j + 1)) f (recordsFrom t unpacked (n - (j + 1)) (j + 1))
     unfolding anyBefore
-    any-more h k e = let s : m - j ≡ suc (m - (j + 1)) = omega arith in rw (s, records-more t offs n j h, e)
+    any-more h k e = let s : m - j ≡ suc (m - (j + 1)) = omega arith in rw (s, records-more t unpacked n j h, e)
 
 -- ---- an untagged record, by its parent's kind
 
@@ -64,17 +64,3 @@ module _ (rs : List Record) (i : ℕ) (r : Record) (k : ℕ) (u : r .untagged �
   pub untagged-field : (k ≡ 9 → ⊥) → misplacedUntagged rs i r ≡ misplacedField rs i r
   unfolding pick
   untagged-field z = untagged-by false (ne-eqb k 9 z)
-
--- three parts, the last one known first
-pub three-last : {x y a b s t : Bool} → x ≡ a → y ≡ b → t ≡ s → t ≡ true → x && y ≡ a && (b && s)
-three-last {x} {y} {a} {b} {s} {t} e f g h = rw (e, f) (go a b s (sym g ∙ h))
-  where
-    go : (a b s : Bool) → s ≡ true → a && b ≡ a && (b && s)
-    go true true s z = sym z
-    go true false s z = refl
-    go false b s z = refl
-
-pub three-stop : {s t : Bool} (a b : Bool) → t ≡ s → t ≡ false → false ≡ a && (b && s)
-three-stop true true g h = sym h ∙ g
-three-stop true false g h = refl
-three-stop false b g h = refl

@@ -67,30 +67,30 @@ module _ (have : List Bool) (k : ℕ) (r : Record) where
   unfolding stepOver structStep unionStep
   step-none i j = refl
 
-module _ (t offs : List ℕ) (n : ℕ) (have : List Bool) where
-  pub over-start : (i : ℕ) (next : List Bool) → n ≤ i → ((k : ℕ) → k < i → getD next k false ≡ stepOver have k (recordIn t offs k) k []) → Over t offs n have n next
-  over-start i next h below k l = below k (omega arith) ∙ (step-none have k (recordIn t offs k) k n ∙ rw (records-end t offs n n (omega arith)))
+module _ (t unpacked : List ℕ) (n : ℕ) (have : List Bool) where
+  pub over-start : (i : ℕ) (next : List Bool) → n ≤ i → ((k : ℕ) → k < i → getD next k false ≡ stepOver have k (recordIn t unpacked k) k []) → Over t unpacked n have n next
+  over-start i next h below k l = below k (omega arith) ∙ (step-none have k (recordIn t unpacked k) k n ∙ rw (records-end t unpacked n n (omega arith)))
 
-  gathered-at : (i : ℕ) (next : List Bool) (u : Up) (k : ℕ) → k < length next → getD (gathered t offs have i u next) k false ≡ pick (isUnder k u) (stepWith have (recordIn t offs k .kind) i (recordIn t offs i) (getD next k false)) (getD next k false)
+  gathered-at : (i : ℕ) (next : List Bool) (u : Up) (k : ℕ) → k < length next → getD (gathered t unpacked have i u next) k false ≡ pick (isUnder k u) (stepWith have (recordIn t unpacked k .kind) i (recordIn t unpacked i) (getD next k false)) (getD next k false)
   unfolding gathered isUnder
   gathered-at i next top k h = unfold pick in refl
   gathered-at i next (under p) k h = go (eqb p k) refl
     where
-      go : (b : Bool) → eqb p k ≡ b → getD (set next p (stepWith have (recordIn t offs p .kind) i (recordIn t offs i) (getD next p false))) k false ≡ pick b (stepWith have (recordIn t offs k .kind) i (recordIn t offs i) (getD next k false)) (getD next k false)
+      go : (b : Bool) → eqb p k ≡ b → getD (set next p (stepWith have (recordIn t unpacked p .kind) i (recordIn t unpacked i) (getD next p false))) k false ≡ pick b (stepWith have (recordIn t unpacked k .kind) i (recordIn t unpacked i) (getD next k false)) (getD next k false)
       go true z = unfold pick in (rw (eqb-true p k z) (getD-set-same next k _ false h))
       go false z = unfold pick in (getD-set-other next p k _ false (λ e. eqb-false p k z (sym e)))
 
-  over-by : (j : ℕ) (next : List Bool) → j < n → n ≤ length next → Over t offs n have (j + 1) next → Over t offs n have j (gathered t offs have j (recordIn t offs j .parent) next)
+  over-by : (j : ℕ) (next : List Bool) → j < n → n ≤ length next → Over t unpacked n have (j + 1) next → Over t unpacked n have j (gathered t unpacked have j (recordIn t unpacked j .parent) next)
   over-by j next h l o k m =
       gathered-at j next _ k (omega arith) ∙
-      rw (o k m, records-more t offs n j h, add-one j) (sym (step-cons have k (recordIn t offs k) j (recordIn t offs j) _))
+      rw (o k m, records-more t unpacked n j h, add-one j) (sym (step-cons have k (recordIn t unpacked k) j (recordIn t unpacked j) _))
 
-  pub over-more : (i : ℕ) (next after : List Bool) → 0 < i → i ≤ n → n ≤ length next → after ≡ gathered t offs have (i - 1) (recordIn t offs (i - 1) .parent) next → Over t offs n have i next → Over t offs n have (i - 1) after
+  pub over-more : (i : ℕ) (next after : List Bool) → 0 < i → i ≤ n → n ≤ length next → after ≡ gathered t unpacked have (i - 1) (recordIn t unpacked (i - 1) .parent) next → Over t unpacked n have i next → Over t unpacked n have (i - 1) after
   over-more i next after p h l e o =
       let s : i ≡ i - 1 + 1 = omega arith in
-      rw e (over-by (i - 1) next (omega arith) l (subst (λ (j : ℕ). Over t offs n have j next) s o))
+      rw e (over-by (i - 1) next (omega arith) l (subst (λ (j : ℕ). Over t unpacked n have j next) s o))
 
-  pub over-end : (i : ℕ) (next : List Bool) → i ≤ 0 → Over t offs n have i next → Over t offs n have 0 next
+  pub over-end : (i : ℕ) (next : List Bool) → i ≤ 0 → Over t unpacked n have i next → Over t unpacked n have 0 next
   over-end i next h o = let z : i ≡ 0 = omega arith in rw z at o
 
 -- ---- marks that are kept
@@ -167,13 +167,13 @@ none-at zero k = refl
 none-at (suc n) zero = refl
 none-at (suc n) (suc k) = none-at n k
 
-module _ (t offs : List ℕ) (n : ℕ) where
+module _ (t unpacked : List ℕ) (n : ℕ) where
   abbrev rs : List Record
-  rs = recordsAt t offs n
+  rs = recordsAt t unpacked n
 
-  over-all : (have next : List Bool) → Over t offs n have 0 next → (k : ℕ) → k < n → getD next k false ≡ getD (round rs have 0 rs) k false
+  over-all : (have next : List Bool) → Over t unpacked n have 0 next → (k : ℕ) → k < n → getD next k false ≡ getD (round rs have 0 rs) k false
   unfolding stepOver finiteStep recordAt
-  over-all have next o k h = o k h ∙ (rw (records-all t offs n, ← record-at t offs n k h) (ap (λ (j : ℕ). finiteStep rs have j (recordAt rs k)) (omega arith)) ∙ sym (round-at rs have 0 rs k (rw (length-records t offs n 0) h)))
+  over-all have next o k h = o k h ∙ (rw (records-all t unpacked n, ← record-at t unpacked n k h) (ap (λ (j : ℕ). finiteStep rs have j (recordAt rs k)) (omega arith)) ∙ sym (round-at rs have 0 rs k (rw (length-records t unpacked n 0) h)))
 
   -- ---- the rounds
 
@@ -185,16 +185,16 @@ module _ (t offs : List ℕ) (n : ℕ) where
   pub going-start : (have : List Bool) → Empty have → Going 0 have
   unfolding finites
   going-start have e =
-      let z : n - 0 ≡ length rs = omega (arith, length-records t offs n 0) in
+      let z : n - 0 ≡ length rs = omega (arith, length-records t unpacked n 0) in
       record { past = λ i h. e i; left = rw z (rounds-same have (replicate (length rs) false) (λ i. e i ∙ sym (none-at (length rs) i)) rs (length rs)) }
 
-  module _ (k : ℕ) (have next after : List Bool) (more : Bool) (o : Over t offs n have 0 next) (w : Kept n next have after more) (g : Going k have) where
+  module _ (k : ℕ) (have next after : List Bool) (more : Bool) (o : Over t unpacked n have 0 next) (w : Kept n next have after more) (g : Going k have) where
     kept-round : Same after (round rs have 0 rs)
     kept-round i = go (ltb i n) refl
       where
         go : (b : Bool) → ltb i n ≡ b → getD after i false ≡ getD (round rs have 0 rs) i false
         go true z = let h = ltb-true i n z in w .below i h ∙ over-all have next o i h
-        go false z = let h = ltb-false i n z in w .past i h ∙ (g .past i h ∙ sym (round-past rs have 0 rs i (rw (length-records t offs n 0) h)))
+        go false z = let h = ltb-false i n z in w .past i h ∙ (g .past i h ∙ sym (round-past rs have 0 rs i (rw (length-records t unpacked n 0) h)))
 
     pub going-more : k < n → Going (k + 1) after
     unfolding rounds

@@ -47,31 +47,31 @@ read-same (some h) (some k) = refl
 
 -- ---- the parents of records
 
-parent-read : (t offs : List ℕ) (i p : ℕ) → p ≡ upNumber (recordIn t offs i .parent) → Read p (recordIn t offs i .parent)
+parent-read : (t unpacked : List ℕ) (i p : ℕ) → p ≡ upNumber (recordIn t unpacked i .parent) → Read p (recordIn t unpacked i .parent)
 unfolding recordIn
-parent-read t offs i p e = let r = read _ in rw (e ∙ number-of r) r
+parent-read t unpacked i p e = let r = read _ in rw (e ∙ number-of r) r
 
-module _ (t offs : List ℕ) where
-  pub top-is : (i p : ℕ) → p ≡ upNumber (recordIn t offs i .parent) → eqb p none16 ≡ isTop (recordIn t offs i .parent)
-  top-is i p e = read-top (parent-read t offs i p e)
+module _ (t unpacked : List ℕ) where
+  pub top-is : (i p : ℕ) → p ≡ upNumber (recordIn t unpacked i .parent) → eqb p none16 ≡ isTop (recordIn t unpacked i .parent)
+  top-is i p e = read-top (parent-read t unpacked i p e)
 
-  pub beside-is : (i j p q : ℕ) → p ≡ upNumber (recordIn t offs j .parent) → q ≡ upNumber (recordIn t offs i .parent) → eqb p q ≡ beside (recordIn t offs i) (recordIn t offs j)
-  beside-is i j p q e f = read-same (parent-read t offs j p e) (parent-read t offs i q f)
+  pub beside-is : (i j p q : ℕ) → p ≡ upNumber (recordIn t unpacked j .parent) → q ≡ upNumber (recordIn t unpacked i .parent) → eqb p q ≡ beside (recordIn t unpacked i) (recordIn t unpacked j)
+  beside-is i j p q e f = read-same (parent-read t unpacked j p e) (parent-read t unpacked i q f)
 
   -- a record's parent by its number
-  pub parent-number : (i p : ℕ) → p ≡ upNumber (recordIn t offs i .parent) → numberUp p ≡ recordIn t offs i .parent
+  pub parent-number : (i p : ℕ) → p ≡ upNumber (recordIn t unpacked i .parent) → numberUp p ≡ recordIn t unpacked i .parent
   unfolding recordIn
   parent-number i p e = ap numberUp (e ∙ number-of (read _))
 
-  pub parent-top : (i p : ℕ) → p ≡ upNumber (recordIn t offs i .parent) → p ≡ none16 → recordIn t offs i .parent ≡ top
-  parent-top i p e z = go (parent-read t offs i p e) z
+  pub parent-top : (i p : ℕ) → p ≡ upNumber (recordIn t unpacked i .parent) → p ≡ none16 → recordIn t unpacked i .parent ≡ top
+  parent-top i p e z = go (parent-read t unpacked i p e) z
     where
       go : {x : ℕ} {u : Up} → Read x u → x ≡ none16 → u ≡ top
       go none z = refl
       go (some h) z = absurd (h z)
 
-  pub parent-under : (i p : ℕ) → p ≡ upNumber (recordIn t offs i .parent) → (p ≡ none16 → ⊥) → recordIn t offs i .parent ≡ under p
-  parent-under i p e z = go (parent-read t offs i p e) z
+  pub parent-under : (i p : ℕ) → p ≡ upNumber (recordIn t unpacked i .parent) → (p ≡ none16 → ⊥) → recordIn t unpacked i .parent ≡ under p
+  parent-under i p e z = go (parent-read t unpacked i p e) z
     where
       go : {x : ℕ} {u : Up} → Read x u → (x ≡ none16 → ⊥) → u ≡ under x
       go none z = absurd (z refl)
@@ -79,15 +79,15 @@ module _ (t offs : List ℕ) where
 
   -- ---- the parent's kind
 
-  module _ (n i p : ℕ) (e : p ≡ upNumber (recordIn t offs i .parent)) where
-    pub kind-top : p ≡ none16 → parentKind (recordsAt t offs n) (recordIn t offs i .parent) ≡ 0
+  module _ (n i p : ℕ) (e : p ≡ upNumber (recordIn t unpacked i .parent)) where
+    pub kind-top : p ≡ none16 → parentKind (recordsAt t unpacked n) (recordIn t unpacked i .parent) ≡ 0
     unfolding parentKind
     kind-top z = rw (parent-top i p e z)
 
-    pub kind-past : (p ≡ none16 → ⊥) → n ≤ p → parentKind (recordsAt t offs n) (recordIn t offs i .parent) ≡ 1
+    pub kind-past : (p ≡ none16 → ⊥) → n ≤ p → parentKind (recordsAt t unpacked n) (recordIn t unpacked i .parent) ≡ 1
     unfolding parentKind blank
-    kind-past z h = rw (parent-under i p e z) (ap (λ (r : Record). r .kind) (record-past t offs n p h))
+    kind-past z h = rw (parent-under i p e z) (ap (λ (r : Record). r .kind) (record-past t unpacked n p h))
 
-    pub kind-of : (p ≡ none16 → ⊥) → p < n → parentKind (recordsAt t offs n) (recordIn t offs i .parent) ≡ recordIn t offs p .kind
+    pub kind-of : (p ≡ none16 → ⊥) → p < n → parentKind (recordsAt t unpacked n) (recordIn t unpacked i .parent) ≡ recordIn t unpacked p .kind
     unfolding parentKind
-    kind-of z h = rw (parent-under i p e z) (ap (λ (r : Record). r .kind) (record-at t offs n p h))
+    kind-of z h = rw (parent-under i p e z) (ap (λ (r : Record). r .kind) (record-at t unpacked n p h))

@@ -1,14 +1,12 @@
 -- What a loop over records asks of each, by name.
 use mathlib.Core.Bool.{Bool, not, _&&_}
-use Rattle.classes.specs.Lists.{sameBytes}
 use Rattle.schema.specs.Record.{Record}
-use Rattle.definition_rules.specs.Faults.{beside, hasWireTag}
+use Rattle.definition_rules.specs.Faults.{beside}
 use Rattle.record_checks.specs.declared.Such.{Such}
-use Rattle.record_checks.specs.declared.Such.the-variants.{Any, Tagged, Untagged, SameTag}
+use Rattle.record_checks.specs.declared.Such.the-variants.{Any, Tagged, Untagged}
 
--- q stands in r's body (or both are tops), and is tagged, untagged, or has r's wire tag
+-- q stands in r's body (or both are tops), and is tagged or untagged
 unfoldable pub isSuch : Such → Record → Record → Bool
 isSuch Any r q = beside r q
 isSuch Tagged r q = beside r q && not (q .untagged)
 isSuch Untagged r q = beside r q && q .untagged
-isSuch SameTag r q = hasWireTag q && (beside r q && sameBytes (q .label) (r .label))

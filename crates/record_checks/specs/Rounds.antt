@@ -25,12 +25,12 @@ stepWith have kind i q rest =
 
 -- the i-th record, which stands in that one, is joined to it
 unfoldable pub gathered : List ℕ → List ℕ → List Bool → ℕ → Up → List Bool → List Bool
-gathered t offs have i top next = next
-gathered t offs have i (under p) next = set next p (stepWith have (recordIn t offs p .kind) i (recordIn t offs i) (getD next p false))
+gathered t unpacked have i top next = next
+gathered t unpacked have i (under p) next = set next p (stepWith have (recordIn t unpacked p .kind) i (recordIn t unpacked i) (getD next p false))
 
 -- next has each record's step over those from the i-th on
 abbrev pub Over : List ℕ → List ℕ → ℕ → List Bool → ℕ → List Bool → Type 0
-Over t offs n have i next = (k : ℕ) → k < n → getD next k false ≡ stepOver have k (recordIn t offs k) i (recordsFrom t offs (n - i) i)
+Over t unpacked n have i next = (k : ℕ) → k < n → getD next k false ≡ stepOver have k (recordIn t unpacked k) i (recordsFrom t unpacked (n - i) i)
 
 -- the first n of next stand in the place of the old ones, and more says whether any is another
 pub record Kept (n : ℕ) (next before after : List Bool) (more : Bool) : Type 0 where

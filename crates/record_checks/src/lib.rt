@@ -1,5 +1,5 @@
-// The checks of a definition that read only records, over a table's bytes. In all of them offs holds
-// the records' offsets, n is how many there are, and i is the number of the record that is judged.
+// The checks of a definition that read only records. In all of them unpacked holds the table's records, n is how many
+// there are, and i is the number of the record that is judged.
 ghost use mathlib.Core.Path.{_≡_};
 ghost use mathlib.Core.Bool.{false};
 ghost use mathlib.Core.List.{[]};
@@ -7,7 +7,7 @@ ghost use Prim.Native.Nat.{_≤_};
 ghost use lib.ListN.{length, getD, set};
 ghost use Rattle.schema.specs.Record.{isTop};
 ghost use Rattle.definition_rules.specs.Finite.{canDoWithout, endsNeeds, isEndless};
-ghost use Rattle.definition_rules.specs.Faults.{voidMany, anyBefore, parentKind, beside as isBeside, misplacedField, misplacedAlternative, misplacedUntagged, numberTag, voidTop, pluginUndotted, rule7Broken, hasWireTag, tagRepeated, rootNoStruct};
+ghost use Rattle.definition_rules.specs.Faults.{voidMany, anyBefore, parentKind, beside as isBeside, misplacedField, misplacedAlternative, misplacedUntagged, numberTag, voidTop, pluginUndotted, rule7Broken, rootNoStruct};
 ghost use Rattle.records.specs.Stored.{recordIn, recordsAt};
 ghost use Rattle.record_checks.specs.Besides.{isSuch};
 ghost use Rattle.record_checks.specs.Rounds.{stepOver, stepWith, gathered, Over, Kept, Empty, Found};
@@ -17,80 +17,59 @@ enum Such {
     Any,
     Tagged,
     Untagged,
-    SameTag,
 }
 
 // ---- parents
 
-pub fn is_top(table: &[u8], offs: &[u32], i: usize) -> bool
-    ensures { λ r. ⌜ r ≡ isTop (recordIn (now (table .entry)) (now (offs .entry)) i .parent) ⌝ }
+pub fn is_top(table: &[u8], unpacked: &[u32], i: usize) -> bool
+    ensures { λ r. ⌜ r ≡ isTop (recordIn (now (table .entry)) (now (unpacked .entry)) i .parent) ⌝ }
 {
-    records::parent_at(table, offs, i) == 65_535
+    records::parent_at(table, unpacked, i) == 65_535
 }
 
 // j stands in i's body, or both are tops.
-pub fn beside(table: &[u8], offs: &[u32], i: usize, j: usize) -> bool
-    ensures { λ r. ⌜ r ≡ isBeside (recordIn (now (table .entry)) (now (offs .entry)) i) (recordIn (now (table .entry)) (now (offs .entry)) j) ⌝ }
+pub fn beside(table: &[u8], unpacked: &[u32], i: usize, j: usize) -> bool
+    ensures { λ r. ⌜ r ≡ isBeside (recordIn (now (table .entry)) (now (unpacked .entry)) i) (recordIn (now (table .entry)) (now (unpacked .entry)) j) ⌝ }
 {
-    records::parent_at(table, offs, j) == records::parent_at(table, offs, i)
+    records::parent_at(table, unpacked, j) == records::parent_at(table, unpacked, i)
 }
 
 // The enclosing record's kind; 0 for a top.
-fn parent_kind(table: &[u8], offs: &[u32], n: usize, i: usize) -> u32
-    ensures { λ r. ⌜ r ≡ parentKind (recordsAt (now (table .entry)) (now (offs .entry)) n) (recordIn (now (table .entry)) (now (offs .entry)) i .parent) ⌝ }
+fn parent_kind(table: &[u8], unpacked: &[u32], n: usize, i: usize) -> u32
+    ensures { λ r. ⌜ r ≡ parentKind (recordsAt (now (table .entry)) (now (unpacked .entry)) n) (recordIn (now (table .entry)) (now (unpacked .entry)) i .parent) ⌝ }
 {
-    let p = records::parent_at(table, offs, i);
+    let p = records::parent_at(table, unpacked, i);
     if p == 65_535 {
         return 0;
     }
     if n <= p {
         return 1;
     }
-    records::kind_at(table, offs, p)
+    records::kind_at(table, unpacked, p)
 }
 
 // ---- loops over other records
 
-// An untagged field and a top have no wire tag.
-fn has_wire_tag(table: &[u8], offs: &[u32], i: usize) -> bool
-    ensures { λ r. ⌜ r ≡ hasWireTag (recordIn (now (table .entry)) (now (offs .entry)) i) ⌝ }
-{
-    !is_top(table, offs, i) & !records::untagged_at(table, offs, i)
-}
-
-fn same_tag(table: &[u8], offs: &[u32], i: usize, j: usize) -> bool
-    ensures { λ r. ⌜ r ≡ isSuch Such.SameTag (recordIn (now (table .entry)) (now (offs .entry)) i) (recordIn (now (table .entry)) (now (offs .entry)) j) ⌝ }
-{
-    if classes::same_bytes(
-        records::label_at(table, offs, j),
-        records::label_at(table, offs, i),
-    ) {
-        return has_wire_tag(table, offs, j) & beside(table, offs, i, j);
-    }
-    false
-}
-
-fn is_such(table: &[u8], offs: &[u32], i: usize, j: usize, such: Such) -> bool
-    ensures { λ r. ⌜ r ≡ isSuch such (recordIn (now (table .entry)) (now (offs .entry)) i) (recordIn (now (table .entry)) (now (offs .entry)) j) ⌝ }
+fn is_such(table: &[u8], unpacked: &[u32], i: usize, j: usize, such: Such) -> bool
+    ensures { λ r. ⌜ r ≡ isSuch such (recordIn (now (table .entry)) (now (unpacked .entry)) i) (recordIn (now (table .entry)) (now (unpacked .entry)) j) ⌝ }
 {
     match such {
-        Such::Any => beside(table, offs, i, j),
-        Such::Tagged => beside(table, offs, i, j) & !records::untagged_at(table, offs, j),
-        Such::Untagged => beside(table, offs, i, j) & records::untagged_at(table, offs, j),
-        Such::SameTag => same_tag(table, offs, i, j),
+        Such::Any => beside(table, unpacked, i, j),
+        Such::Tagged => beside(table, unpacked, i, j) & !records::untagged_at(table, unpacked, j),
+        Such::Untagged => beside(table, unpacked, i, j) & records::untagged_at(table, unpacked, j),
     }
 }
 
 // Some record among the first m is such a one beside i.
-fn any_such(table: &[u8], offs: &[u32], n: usize, m: usize, i: usize, such: Such) -> bool
-    ensures { λ r. ⌜ r ≡ anyBefore m (isSuch such (recordIn (now (table .entry)) (now (offs .entry)) i)) (recordsAt (now (table .entry)) (now (offs .entry)) n) ⌝ }
+fn any_such(table: &[u8], unpacked: &[u32], n: usize, m: usize, i: usize, such: Such) -> bool
+    ensures { λ r. ⌜ r ≡ anyBefore m (isSuch such (recordIn (now (table .entry)) (now (unpacked .entry)) i)) (recordsAt (now (table .entry)) (now (unpacked .entry)) n) ⌝ }
 {
     let mut j: usize = 0;
     while j < n {
         if m <= j {
             return false;
         }
-        if is_such(table, offs, i, j, such) {
+        if is_such(table, unpacked, i, j, such) {
             return true;
         }
         j += 1;
@@ -101,118 +80,106 @@ fn any_such(table: &[u8], offs: &[u32], n: usize, m: usize, i: usize, such: Such
 // ---- number 6
 
 // A void that may stand more than once.
-pub fn void_many(table: &[u8], offs: &[u32], i: usize) -> bool
-    ensures { λ r. ⌜ r ≡ voidMany i (recordIn (now (table .entry)) (now (offs .entry)) i) ⌝ }
+pub fn void_many(table: &[u8], unpacked: &[u32], i: usize) -> bool
+    ensures { λ r. ⌜ r ≡ voidMany i (recordIn (now (table .entry)) (now (unpacked .entry)) i) ⌝ }
 {
-    (records::kind_at(table, offs, i) == 1) & (1 < records::hi_count_at(table, offs, i))
+    (records::kind_at(table, unpacked, i) == 1) & (1 < records::hi_count_at(table, unpacked, i))
 }
 
 // ---- number 7
 
 // An untagged field of a struct that can't stand there.
-fn misplaced_field(table: &[u8], offs: &[u32], n: usize, i: usize) -> bool
-    ensures { λ r. ⌜ r ≡ misplacedField (recordsAt (now (table .entry)) (now (offs .entry)) n) i (recordIn (now (table .entry)) (now (offs .entry)) i) ⌝ }
+fn misplaced_field(table: &[u8], unpacked: &[u32], n: usize, i: usize) -> bool
+    ensures { λ r. ⌜ r ≡ misplacedField (recordsAt (now (table .entry)) (now (unpacked .entry)) n) i (recordIn (now (table .entry)) (now (unpacked .entry)) i) ⌝ }
 {
-    if records::extension_at(table, offs, i) {
+    if records::extension_at(table, unpacked, i) {
         return true;
     }
-    if records::kind_at(table, offs, i) == 1 {
+    if records::kind_at(table, unpacked, i) == 1 {
         return true;
     }
-    any_such(table, offs, n, i, i, Such::Tagged)
+    any_such(table, unpacked, n, i, i, Such::Tagged)
 }
 
 // An untagged alternative that can't stand there.
-fn misplaced_alternative(table: &[u8], offs: &[u32], n: usize, i: usize) -> bool
-    ensures { λ r. ⌜ r ≡ misplacedAlternative (recordsAt (now (table .entry)) (now (offs .entry)) n) i (recordIn (now (table .entry)) (now (offs .entry)) i) ⌝ }
+fn misplaced_alternative(table: &[u8], unpacked: &[u32], n: usize, i: usize) -> bool
+    ensures { λ r. ⌜ r ≡ misplacedAlternative (recordsAt (now (table .entry)) (now (unpacked .entry)) n) i (recordIn (now (table .entry)) (now (unpacked .entry)) i) ⌝ }
 {
-    if records::extension_at(table, offs, i) {
+    if records::extension_at(table, unpacked, i) {
         return true;
     }
-    if records::kind_at(table, offs, i) != 3 {
+    if records::kind_at(table, unpacked, i) != 3 {
         return true;
     }
-    any_such(table, offs, n, i, i, Such::Any)
+    any_such(table, unpacked, n, i, i, Such::Any)
 }
 
-fn misplaced_untagged(table: &[u8], offs: &[u32], n: usize, i: usize) -> bool
-    ensures { λ r. ⌜ r ≡ misplacedUntagged (recordsAt (now (table .entry)) (now (offs .entry)) n) i (recordIn (now (table .entry)) (now (offs .entry)) i) ⌝ }
+fn misplaced_untagged(table: &[u8], unpacked: &[u32], n: usize, i: usize) -> bool
+    ensures { λ r. ⌜ r ≡ misplacedUntagged (recordsAt (now (table .entry)) (now (unpacked .entry)) n) i (recordIn (now (table .entry)) (now (unpacked .entry)) i) ⌝ }
 {
-    if !records::untagged_at(table, offs, i) {
+    if !records::untagged_at(table, unpacked, i) {
         return false;
     }
-    if parent_kind(table, offs, n, i) == 9 {
-        return misplaced_alternative(table, offs, n, i);
+    if parent_kind(table, unpacked, n, i) == 9 {
+        return misplaced_alternative(table, unpacked, n, i);
     }
-    misplaced_field(table, offs, n, i)
+    misplaced_field(table, unpacked, n, i)
 }
 
 // An alternative whose tag looks like an int, beside an untagged one.
-fn number_tag(table: &[u8], offs: &[u32], n: usize, i: usize) -> bool
-    ensures { λ r. ⌜ r ≡ numberTag (recordsAt (now (table .entry)) (now (offs .entry)) n) i (recordIn (now (table .entry)) (now (offs .entry)) i) ⌝ }
+fn number_tag(table: &[u8], unpacked: &[u32], n: usize, i: usize) -> bool
+    ensures { λ r. ⌜ r ≡ numberTag (recordsAt (now (table .entry)) (now (unpacked .entry)) n) i (recordIn (now (table .entry)) (now (unpacked .entry)) i) ⌝ }
 {
-    if parent_kind(table, offs, n, i) != 9 {
+    if parent_kind(table, unpacked, n, i) != 9 {
         return false;
     }
-    if records::untagged_at(table, offs, i) {
+    if records::untagged_at(table, unpacked, i) {
         return false;
     }
-    if !numbers::is_int_like(records::label_at(table, offs, i)) {
+    if !numbers::is_int_like(records::label_at(table, unpacked, i)) {
         return false;
     }
-    any_such(table, offs, n, n, i, Such::Untagged)
+    any_such(table, unpacked, n, n, i, Such::Untagged)
 }
 
-fn void_top(table: &[u8], offs: &[u32], i: usize) -> bool
-    ensures { λ r. ⌜ r ≡ voidTop (recordIn (now (table .entry)) (now (offs .entry)) i) ⌝ }
+fn void_top(table: &[u8], unpacked: &[u32], i: usize) -> bool
+    ensures { λ r. ⌜ r ≡ voidTop (recordIn (now (table .entry)) (now (unpacked .entry)) i) ⌝ }
 {
-    is_top(table, offs, i) & (records::kind_at(table, offs, i) == 1)
+    is_top(table, unpacked, i) & (records::kind_at(table, unpacked, i) == 1)
 }
 
 // A plugin without a tag that has a dot.
-fn plugin_undotted(table: &[u8], offs: &[u32], i: usize) -> bool
-    ensures { λ r. ⌜ r ≡ pluginUndotted (recordIn (now (table .entry)) (now (offs .entry)) i) ⌝ }
+fn plugin_undotted(table: &[u8], unpacked: &[u32], i: usize) -> bool
+    ensures { λ r. ⌜ r ≡ pluginUndotted (recordIn (now (table .entry)) (now (unpacked .entry)) i) ⌝ }
 {
-    if !records::plugin_at(table, offs, i) {
+    if !records::plugin_at(table, unpacked, i) {
         return false;
     }
-    if records::untagged_at(table, offs, i) {
+    if records::untagged_at(table, unpacked, i) {
         return true;
     }
-    !words::has_dot(records::label_at(table, offs, i))
+    !words::has_dot(records::label_at(table, unpacked, i))
 }
 
-pub fn rule7_broken(table: &[u8], offs: &[u32], n: usize, i: usize) -> bool
-    ensures { λ r. ⌜ r ≡ rule7Broken (recordsAt (now (table .entry)) (now (offs .entry)) n) i (recordIn (now (table .entry)) (now (offs .entry)) i) ⌝ }
+pub fn rule7_broken(table: &[u8], unpacked: &[u32], n: usize, i: usize) -> bool
+    ensures { λ r. ⌜ r ≡ rule7Broken (recordsAt (now (table .entry)) (now (unpacked .entry)) n) i (recordIn (now (table .entry)) (now (unpacked .entry)) i) ⌝ }
 {
-    if misplaced_untagged(table, offs, n, i) {
+    if misplaced_untagged(table, unpacked, n, i) {
         return true;
     }
-    if number_tag(table, offs, n, i) {
+    if number_tag(table, unpacked, n, i) {
         return true;
     }
-    void_top(table, offs, i) | plugin_undotted(table, offs, i)
-}
-
-// ---- number 8
-
-// The wire tag stands before in its body.
-pub fn tag_repeated(table: &[u8], offs: &[u32], n: usize, i: usize) -> bool
-    ensures { λ r. ⌜ r ≡ tagRepeated (recordsAt (now (table .entry)) (now (offs .entry)) n) i (recordIn (now (table .entry)) (now (offs .entry)) i) ⌝ }
-{
-    if !has_wire_tag(table, offs, i) {
-        return false;
-    }
-    any_such(table, offs, n, i, i, Such::SameTag)
+    void_top(table, unpacked, i) | plugin_undotted(table, unpacked, i)
 }
 
 // ---- number 9
 
-pub fn root_no_struct(table: &[u8], offs: &[u32], i: usize) -> bool
-    ensures { λ r. ⌜ r ≡ rootNoStruct i (recordIn (now (table .entry)) (now (offs .entry)) i) ⌝ }
+pub fn root_no_struct(table: &[u8], unpacked: &[u32], i: usize) -> bool
+    ensures { λ r. ⌜ r ≡ rootNoStruct i (recordIn (now (table .entry)) (now (unpacked .entry)) i) ⌝ }
 {
     if i == 0 {
-        return records::kind_at(table, offs, i) != 8;
+        return records::kind_at(table, unpacked, i) != 8;
     }
     false
 }
@@ -236,56 +203,56 @@ fn put(marks: &mut [bool], i: usize, mark: bool)
     }
 }
 
-fn can_do_without(table: &[u8], offs: &[u32], i: usize) -> bool
-    ensures { λ r. ⌜ r ≡ canDoWithout (recordIn (now (table .entry)) (now (offs .entry)) i) ⌝ }
+fn can_do_without(table: &[u8], unpacked: &[u32], i: usize) -> bool
+    ensures { λ r. ⌜ r ≡ canDoWithout (recordIn (now (table .entry)) (now (unpacked .entry)) i) ⌝ }
 {
-    (records::lo_count_at(table, offs, i) == 0)
-        | records::extension_at(table, offs, i)
-        | records::plugin_at(table, offs, i)
+    (records::lo_count_at(table, unpacked, i) == 0)
+        | records::extension_at(table, unpacked, i)
+        | records::plugin_at(table, unpacked, i)
 }
 
-fn ends_needs(table: &[u8], offs: &[u32], i: usize) -> bool
-    ensures { λ r. ⌜ r ≡ endsNeeds (recordIn (now (table .entry)) (now (offs .entry)) i) ⌝ }
+fn ends_needs(table: &[u8], unpacked: &[u32], i: usize) -> bool
+    ensures { λ r. ⌜ r ≡ endsNeeds (recordIn (now (table .entry)) (now (unpacked .entry)) i) ⌝ }
 {
-    records::untagged_at(table, offs, i) & (records::lo_count_at(table, offs, i) == 0)
+    records::untagged_at(table, unpacked, i) & (records::lo_count_at(table, unpacked, i) == 0)
 }
 
 // What a step gives the record i before any other is looked at: a struct asks for nothing yet, a union has no choice.
-fn alone(table: &[u8], offs: &[u32], have: &[bool], i: usize) -> bool
-    ensures { λ r. ⌜ r ≡ stepOver (now (have .entry)) i (recordIn (now (table .entry)) (now (offs .entry)) i) i [] ⌝ }
+fn alone(table: &[u8], unpacked: &[u32], have: &[bool], i: usize) -> bool
+    ensures { λ r. ⌜ r ≡ stepOver (now (have .entry)) i (recordIn (now (table .entry)) (now (unpacked .entry)) i) i [] ⌝ }
 {
-    let k = records::kind_at(table, offs, i);
+    let k = records::kind_at(table, unpacked, i);
     if k == 9 {
         return false;
     }
     if k == 10 {
-        let t = records::target_at(table, offs, i);
+        let t = records::target_at(table, unpacked, i);
         return has(have, t);
     }
     true
 }
 
 // The marks before any record is joined to the one it stands in.
-fn begin(table: &[u8], offs: &[u32], n: usize, have: &[bool], next: &mut [bool])
+fn begin(table: &[u8], unpacked: &[u32], n: usize, have: &[bool], next: &mut [bool])
     requires { ⌜ n ≤ length (now next) ⌝ }
-    ensures { λ _. ⌜ Over (now (table .entry)) (now (offs .entry)) n (now (have .entry)) n (now (next .exit)) ⌝ }
+    ensures { λ _. ⌜ Over (now (table .entry)) (now (unpacked .entry)) n (now (have .entry)) n (now (next .exit)) ⌝ }
 {
     let mut i: usize = 0;
     while i < n {
-        let mark = alone(table, offs, have, i);
+        let mark = alone(table, unpacked, have, i);
         next[i] = mark;
         i += 1;
     }
 }
 
 // What a step gives the record p by i, which stands in its body, and by those after i, which give it rest.
-fn joined(table: &[u8], offs: &[u32], have: &[bool], p: usize, i: usize, rest: bool) -> bool
-    ensures { λ r. ⌜ r ≡ stepWith (now (have .entry)) (recordIn (now (table .entry)) (now (offs .entry)) p .kind) i (recordIn (now (table .entry)) (now (offs .entry)) i) rest ⌝ }
+fn joined(table: &[u8], unpacked: &[u32], have: &[bool], p: usize, i: usize, rest: bool) -> bool
+    ensures { λ r. ⌜ r ≡ stepWith (now (have .entry)) (recordIn (now (table .entry)) (now (unpacked .entry)) p .kind) i (recordIn (now (table .entry)) (now (unpacked .entry)) i) rest ⌝ }
 {
-    let k = records::kind_at(table, offs, p);
+    let k = records::kind_at(table, unpacked, p);
     if k == 8 {
-        return ends_needs(table, offs, i)
-            | ((can_do_without(table, offs, i) | has(have, i)) & rest);
+        return ends_needs(table, unpacked, i)
+            | ((can_do_without(table, unpacked, i) | has(have, i)) & rest);
     }
     if k == 9 {
         return has(have, i) | rest;
@@ -294,28 +261,28 @@ fn joined(table: &[u8], offs: &[u32], have: &[bool], p: usize, i: usize, rest: b
 }
 
 // Joins i to what next has for the record that i stands in.
-fn gather_one(table: &[u8], offs: &[u32], have: &[bool], next: &mut [bool], i: usize)
-    ensures { λ _. ⌜ now (next .exit) ≡ gathered (now (table .entry)) (now (offs .entry)) (now (have .entry)) i (recordIn (now (table .entry)) (now (offs .entry)) i .parent) (now (next .entry)) ⌝ }
+fn gather_one(table: &[u8], unpacked: &[u32], have: &[bool], next: &mut [bool], i: usize)
+    ensures { λ _. ⌜ now (next .exit) ≡ gathered (now (table .entry)) (now (unpacked .entry)) (now (have .entry)) i (recordIn (now (table .entry)) (now (unpacked .entry)) i .parent) (now (next .entry)) ⌝ }
 {
-    let p = records::parent_at(table, offs, i);
+    let p = records::parent_at(table, unpacked, i);
     if p == 65_535 {
         return;
     }
     let rest = has(next, p);
-    let mark = joined(table, offs, have, p, i, rest);
+    let mark = joined(table, unpacked, have, p, i, rest);
     put(next, p, mark);
 }
 
 // What a step gives each record, gathered from the last record to the first.
-fn gather(table: &[u8], offs: &[u32], n: usize, have: &[bool], next: &mut [bool])
+fn gather(table: &[u8], unpacked: &[u32], n: usize, have: &[bool], next: &mut [bool])
     requires { ⌜ n ≤ length (now next) ⌝ }
-    ensures { λ _. ⌜ Over (now (table .entry)) (now (offs .entry)) n (now (have .entry)) 0 (now (next .exit)) ⌝ }
+    ensures { λ _. ⌜ Over (now (table .entry)) (now (unpacked .entry)) n (now (have .entry)) 0 (now (next .exit)) ⌝ }
 {
-    begin(table, offs, n, have, next);
+    begin(table, unpacked, n, have, next);
     let mut i = n;
     while 0 < i {
         i -= 1;
-        gather_one(table, offs, have, next, i);
+        gather_one(table, unpacked, have, next, i);
     }
 }
 
@@ -345,8 +312,8 @@ fn clear(have: &mut [bool])
 }
 
 // Which records have a finite value, if there is room for all: at most n rounds of steps, until one changes nothing.
-pub fn finites(table: &[u8], offs: &[u32], n: usize, have: &mut [bool], next: &mut [bool])
-    ensures { λ _. ⌜ (n ≤ length (now (have .entry)) → n ≤ length (now (next .entry)) → Found (recordsAt (now (table .entry)) (now (offs .entry)) n) (now (have .exit))) ⌝ }
+pub fn finites(table: &[u8], unpacked: &[u32], n: usize, have: &mut [bool], next: &mut [bool])
+    ensures { λ _. ⌜ (n ≤ length (now (have .entry)) → n ≤ length (now (next .entry)) → Found (recordsAt (now (table .entry)) (now (unpacked .entry)) n) (now (have .exit))) ⌝ }
 {
     if have.len() < n {
         return;
@@ -357,7 +324,7 @@ pub fn finites(table: &[u8], offs: &[u32], n: usize, have: &mut [bool], next: &m
     clear(have);
     let mut k: usize = 0;
     while k < n {
-        gather(table, offs, n, have, next);
+        gather(table, unpacked, n, have, next);
         if keep(n, next, have) {
             k += 1;
         } else {
@@ -366,9 +333,9 @@ pub fn finites(table: &[u8], offs: &[u32], n: usize, have: &mut [bool], next: &m
     }
 }
 
-pub fn is_endless(table: &[u8], offs: &[u32], have: &[bool], i: usize) -> bool
-    ensures { λ r. ⌜ r ≡ isEndless (now (have .entry)) i (recordIn (now (table .entry)) (now (offs .entry)) i) ⌝ }
+pub fn is_endless(table: &[u8], unpacked: &[u32], have: &[bool], i: usize) -> bool
+    ensures { λ r. ⌜ r ≡ isEndless (now (have .entry)) i (recordIn (now (table .entry)) (now (unpacked .entry)) i) ⌝ }
 {
-    let k = records::kind_at(table, offs, i);
+    let k = records::kind_at(table, unpacked, i);
     (8 <= k) & (k <= 9) & !has(have, i)
 }

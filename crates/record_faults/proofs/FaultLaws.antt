@@ -23,31 +23,31 @@ use Rattle.record_faults.specs.RecordFaults.{faultAt}
 
 -- ---- one parameter
 
-module _ (cs t offs : List ℕ) (have : List Bool) (n rule i : ℕ) (r : Place) (hit : Bool) (at : ℕ) (is : r ≡ atIf hit at) where
-  pub fault-seven : rule ≡ 7 → hit ≡ rule7Broken (recordsAt t offs n) i (recordIn t offs i) → at ≡ cellAt cs i 4 → r ≡ faultAt cs t offs have n rule i
+module _ (cs t unpacked : List ℕ) (have : List Bool) (n rule i : ℕ) (r : Place) (hit : Bool) (at : ℕ) (is : r ≡ atIf hit at) where
+  pub fault-seven : rule ≡ 7 → hit ≡ rule7Broken (recordsAt t unpacked n) i (recordIn t unpacked i) → at ≡ cellAt cs i 4 → r ≡ faultAt cs t unpacked have n rule i
   unfolding faultAt pick
   fault-seven e h p = is ∙ rw (e, h, p)
 
-  pub fault-eight : (rule ≡ 7 → ⊥) → rule ≡ 8 → hit ≡ tagRepeated (recordsAt t offs n) i (recordIn t offs i) → at ≡ cellAt cs i 8 → r ≡ faultAt cs t offs have n rule i
+  pub fault-eight : (rule ≡ 7 → ⊥) → rule ≡ 8 → hit ≡ tagRepeated (recordsAt t unpacked n) i (recordIn t unpacked i) → at ≡ cellAt cs i 8 → r ≡ faultAt cs t unpacked have n rule i
   unfolding faultAt pick
   fault-eight a e h p = is ∙ rw (e, h, p)
 
-  pub fault-nine : (rule ≡ 7 → ⊥) → (rule ≡ 8 → ⊥) → rule ≡ 9 → hit ≡ rootNoStruct i (recordIn t offs i) → at ≡ cellAt cs i 4 → r ≡ faultAt cs t offs have n rule i
+  pub fault-nine : (rule ≡ 7 → ⊥) → (rule ≡ 8 → ⊥) → rule ≡ 9 → hit ≡ rootNoStruct i (recordIn t unpacked i) → at ≡ cellAt cs i 4 → r ≡ faultAt cs t unpacked have n rule i
   unfolding faultAt pick
   fault-nine a b e h p = is ∙ rw (e, h, p)
 
-  pub fault-ten : (rule ≡ 7 → ⊥) → (rule ≡ 8 → ⊥) → (rule ≡ 9 → ⊥) → hit ≡ isEndless have i (recordIn t offs i) → at ≡ cellAt cs i 4 → r ≡ faultAt cs t offs have n rule i
+  pub fault-ten : (rule ≡ 7 → ⊥) → (rule ≡ 8 → ⊥) → (rule ≡ 9 → ⊥) → hit ≡ isEndless have i (recordIn t unpacked i) → at ≡ cellAt cs i 4 → r ≡ faultAt cs t unpacked have n rule i
   unfolding faultAt pick
   fault-ten a b c h p = is ∙ rw (ne-eqb rule 7 a, ne-eqb rule 8 b, ne-eqb rule 9 c, h, p)
 
 -- ---- all parameters: the spots of the records' faults, at the places that the declarations keep
 
-module _ (f : ℕ → Record → Bool) (at : Spots → ℕ) (text cs t offs : List ℕ) where
+module _ (f : ℕ → Record → Bool) (at : Spots → ℕ) (text cs t unpacked : List ℕ) where
   -- the place of the j-th declaration's spot
   abbrev placeOf : ℕ → ℕ
   placeOf j = at (record { typeAt = cellAt cs j 0; rangeAt = cellAt cs j 2; nameAt = cellAt cs j 4; cardAt = cellAt cs j 6; tagAt = cellAt cs j 8 })
 
-  pub spots-from : (n i : ℕ) → leastPlace (recordSpots f at i (recordsFrom t offs n i) (notedFrom text cs n i)) ≡ leastFrom (λ j. atIf (f j (recordIn t offs j)) (placeOf j)) n i
+  pub spots-from : (n i : ℕ) → leastPlace (recordSpots f at i (recordsFrom t unpacked n i) (notedFrom text cs n i)) ≡ leastFrom (λ j. atIf (f j (recordIn t unpacked j)) (placeOf j)) n i
   unfolding recordSpots recordsFrom notedFrom notedAt leastFrom leastPlace
   spots-from zero i = refl
-  spots-from (suc n) i = least-if (f i (recordIn t offs i)) (placeOf i) _ ∙ ap (lesser (atIf (f i (recordIn t offs i)) (placeOf i))) (spots-from n (suc i))
+  spots-from (suc n) i = least-if (f i (recordIn t unpacked i)) (placeOf i) _ ∙ ap (lesser (atIf (f i (recordIn t unpacked i)) (placeOf i))) (spots-from n (suc i))

@@ -1,34 +1,37 @@
 // The least places of the faults that records alone show: numbers 7, 8 for tags, 9 for the root, and 10.
 use declared::Place;
 ghost use mathlib.Core.Path.{_≡_};
+ghost use Prim.Native.Nat.{_<_};
 ghost use Rattle.declared.specs.Places.{leastFrom};
+ghost use Rattle.tags.specs.Lists.{Linked};
 ghost use Rattle.record_faults.specs.RecordFaults.{faultAt};
 
 // The fault of parameter i under the refusal's number: 7, 8, 9, else 10, of which have says who has a finite value.
 fn fault_at(
     cells: &[u32],
     table: &[u8],
-    offs: &[u32],
+    unpacked: &[u32],
     have: &[bool],
     n: usize,
     rule: u32,
     i: usize,
 ) -> Place
-    ensures { λ r. ⌜ r ≡ faultAt (now (cells .entry)) (now (table .entry)) (now (offs .entry)) (now (have .entry)) n rule i ⌝ }
+    requires { ⌜ (i < n) × Linked (now table) (now unpacked) n 0 ⌝ }
+    ensures { λ r. ⌜ r ≡ faultAt (now (cells .entry)) (now (table .entry)) (now (unpacked .entry)) (now (have .entry)) n rule i ⌝ }
 {
     if rule == 7 {
-        let broken = record_checks::rule7_broken(table, offs, n, i);
+        let broken = record_checks::rule7_broken(table, unpacked, n, i);
         return declared::at_if(broken, declared::cell(cells, i, 4));
     }
     if rule == 8 {
-        let again = record_checks::tag_repeated(table, offs, n, i);
+        let again = tags::tag_again(table, unpacked, n, i);
         return declared::at_if(again, declared::cell(cells, i, 8));
     }
     if rule == 9 {
-        let wrong = record_checks::root_no_struct(table, offs, i);
+        let wrong = record_checks::root_no_struct(table, unpacked, i);
         return declared::at_if(wrong, declared::cell(cells, i, 4));
     }
-    let endless = record_checks::is_endless(table, offs, have, i);
+    let endless = record_checks::is_endless(table, unpacked, have, i);
     declared::at_if(endless, declared::cell(cells, i, 4))
 }
 
@@ -36,17 +39,18 @@ fn fault_at(
 pub fn least_fault(
     cells: &[u32],
     table: &[u8],
-    offs: &[u32],
+    unpacked: &[u32],
     have: &[bool],
     n: usize,
     rule: u32,
 ) -> Place
-    ensures { λ r. ⌜ r ≡ leastFrom (faultAt (now (cells .entry)) (now (table .entry)) (now (offs .entry)) (now (have .entry)) n rule) n 0 ⌝ }
+    requires { ⌜ Linked (now table) (now unpacked) n 0 ⌝ }
+    ensures { λ r. ⌜ r ≡ leastFrom (faultAt (now (cells .entry)) (now (table .entry)) (now (unpacked .entry)) (now (have .entry)) n rule) n 0 ⌝ }
 {
     let mut best = Place::Nowhere;
     let mut i: usize = 0;
     while i < n {
-        best = declared::lesser(best, fault_at(cells, table, offs, have, n, rule, i));
+        best = declared::lesser(best, fault_at(cells, table, unpacked, have, n, rule, i));
         i += 1;
     }
     best

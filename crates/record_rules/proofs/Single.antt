@@ -12,42 +12,42 @@ use Rattle.definition_rules.specs.Faults.{isUnionAt}
 use Rattle.table_rules.specs.RecordRules.{kindsOfRecords, isSingleValue, isTopAt}
 use Rattle.records.specs.Stored.{recordIn, recordsFrom, recordsAt}
 
-module _ (t offs : List ℕ) where
-  union-from : (n i k : ℕ) → k < n → isUnionAt (kindsOfRecords (recordsFrom t offs n i)) k ≡ eqb (recordIn t offs (i + k) .kind) 9
+module _ (t unpacked : List ℕ) where
+  union-from : (n i k : ℕ) → k < n → isUnionAt (kindsOfRecords (recordsFrom t unpacked n i)) k ≡ eqb (recordIn t unpacked (i + k) .kind) 9
   unfolding recordsFrom kindsOfRecords isUnionAt
   union-from zero i k h = absurd (omega arith)
-  union-from (suc n) i zero h = ap (λ (j : ℕ). eqb (recordIn t offs j .kind) 9) (omega arith)
-  union-from (suc n) i (suc k) h = union-from n (suc i) k (omega arith) ∙ ap (λ (j : ℕ). eqb (recordIn t offs j .kind) 9) (omega arith)
+  union-from (suc n) i zero h = ap (λ (j : ℕ). eqb (recordIn t unpacked j .kind) 9) (omega arith)
+  union-from (suc n) i (suc k) h = union-from n (suc i) k (omega arith) ∙ ap (λ (j : ℕ). eqb (recordIn t unpacked j .kind) 9) (omega arith)
 
-  past-from : (n i k : ℕ) → n ≤ k → isUnionAt (kindsOfRecords (recordsFrom t offs n i)) k ≡ false
+  past-from : (n i k : ℕ) → n ≤ k → isUnionAt (kindsOfRecords (recordsFrom t unpacked n i)) k ≡ false
   unfolding recordsFrom kindsOfRecords isUnionAt
   past-from zero i k h = refl
   past-from (suc n) i zero h = absurd (omega arith)
   past-from (suc n) i (suc k) h = past-from n (suc i) k (omega arith)
 
-  top-from : (n i k : ℕ) → k < n → isTopAt (recordsFrom t offs n i) k ≡ isTop (recordIn t offs (i + k) .parent)
+  top-from : (n i k : ℕ) → k < n → isTopAt (recordsFrom t unpacked n i) k ≡ isTop (recordIn t unpacked (i + k) .parent)
   unfolding recordsFrom isTopAt
   top-from zero i k h = absurd (omega arith)
-  top-from (suc n) i zero h = ap (λ (j : ℕ). isTop (recordIn t offs j .parent)) (omega arith)
-  top-from (suc n) i (suc k) h = top-from n (suc i) k (omega arith) ∙ ap (λ (j : ℕ). isTop (recordIn t offs j .parent)) (omega arith)
+  top-from (suc n) i zero h = ap (λ (j : ℕ). isTop (recordIn t unpacked j .parent)) (omega arith)
+  top-from (suc n) i (suc k) h = top-from n (suc i) k (omega arith) ∙ ap (λ (j : ℕ). isTop (recordIn t unpacked j .parent)) (omega arith)
 
-  no-top-from : (n i k : ℕ) → n ≤ k → isTopAt (recordsFrom t offs n i) k ≡ false
+  no-top-from : (n i k : ℕ) → n ≤ k → isTopAt (recordsFrom t unpacked n i) k ≡ false
   unfolding recordsFrom isTopAt
   no-top-from zero i k h = refl
   no-top-from (suc n) i zero h = absurd (omega arith)
   no-top-from (suc n) i (suc k) h = no-top-from n (suc i) k (omega arith)
 
   module _ (n k : ℕ) where
-    pub union-in : k < n → isUnionAt (kindsOfRecords (recordsAt t offs n)) k ≡ eqb (recordIn t offs k .kind) 9
-    union-in h = union-from n 0 k h ∙ ap (λ (j : ℕ). eqb (recordIn t offs j .kind) 9) (omega arith)
+    pub union-in : k < n → isUnionAt (kindsOfRecords (recordsAt t unpacked n)) k ≡ eqb (recordIn t unpacked k .kind) 9
+    union-in h = union-from n 0 k h ∙ ap (λ (j : ℕ). eqb (recordIn t unpacked j .kind) 9) (omega arith)
 
-    pub union-past : n ≤ k → isUnionAt (kindsOfRecords (recordsAt t offs n)) k ≡ false
+    pub union-past : n ≤ k → isUnionAt (kindsOfRecords (recordsAt t unpacked n)) k ≡ false
     union-past h = past-from n 0 k h
 
-    pub top-in : k < n → isTopAt (recordsAt t offs n) k ≡ isTop (recordIn t offs k .parent)
-    top-in h = top-from n 0 k h ∙ ap (λ (j : ℕ). isTop (recordIn t offs j .parent)) (omega arith)
+    pub top-in : k < n → isTopAt (recordsAt t unpacked n) k ≡ isTop (recordIn t unpacked k .parent)
+    top-in h = top-from n 0 k h ∙ ap (λ (j : ℕ). isTop (recordIn t unpacked j .parent)) (omega arith)
 
-    pub top-past : n ≤ k → isTopAt (recordsAt t offs n) k ≡ false
+    pub top-past : n ≤ k → isTopAt (recordsAt t unpacked n) k ≡ false
     top-past h = no-top-from n 0 k h
 
 pub single-top : (A : ℕ → Bool) (u : Up) → isTop u ≡ true → isSingleValue A u ≡ true

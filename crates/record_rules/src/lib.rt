@@ -10,33 +10,34 @@ ghost use Rattle.record_rules.specs.Keys.{keyOf};
 
 // ---- one record
 
-fn is_union(table: &[u8], offs: &[u32], n: usize, p: usize) -> bool
-    ensures { λ r. ⌜ r ≡ isUnionAt (kindsOfRecords (recordsAt (now (table .entry)) (now (offs .entry)) n)) p ⌝ }
+fn is_union(table: &[u8], unpacked: &[u32], n: usize, p: usize) -> bool
+    ensures { λ r. ⌜ r ≡ isUnionAt (kindsOfRecords (recordsAt (now (table .entry)) (now (unpacked .entry)) n)) p ⌝ }
 {
     if p < n {
-        return records::kind_at(table, offs, p) == 9;
+        return records::kind_at(table, unpacked, p) == 9;
     }
     false
 }
 
 // A top or an alternative.
-fn is_single(table: &[u8], offs: &[u32], n: usize, i: usize) -> bool
-    ensures { λ r. ⌜ r ≡ isSingleValue (isUnionAt (kindsOfRecords (recordsAt (now (table .entry)) (now (offs .entry)) n))) (recordIn (now (table .entry)) (now (offs .entry)) i .parent) ⌝ }
+fn is_single(table: &[u8], unpacked: &[u32], n: usize, i: usize) -> bool
+    ensures { λ r. ⌜ r ≡ isSingleValue (isUnionAt (kindsOfRecords (recordsAt (now (table .entry)) (now (unpacked .entry)) n))) (recordIn (now (table .entry)) (now (unpacked .entry)) i .parent) ⌝ }
 {
-    if record_checks::is_top(table, offs, i) {
+    if record_checks::is_top(table, unpacked, i) {
         return true;
     }
-    is_union(table, offs, n, records::parent_at(table, offs, i))
+    is_union(table, unpacked, n, records::parent_at(table, unpacked, i))
 }
 
-fn counts_fine(table: &[u8], offs: &[u32], n: usize, i: usize) -> bool
-    ensures { λ r. ⌜ r ≡ countsFine (isUnionAt (kindsOfRecords (recordsAt (now (table .entry)) (now (offs .entry)) n))) (recordIn (now (table .entry)) (now (offs .entry)) i) ⌝ }
+fn counts_fine(table: &[u8], unpacked: &[u32], n: usize, i: usize) -> bool
+    ensures { λ r. ⌜ r ≡ countsFine (isUnionAt (kindsOfRecords (recordsAt (now (table .entry)) (now (unpacked .entry)) n))) (recordIn (now (table .entry)) (now (unpacked .entry)) i) ⌝ }
 {
-    let lo = records::lo_count_at(table, offs, i);
-    let hi = records::hi_count_at(table, offs, i);
+    let lo = records::lo_count_at(table, unpacked, i);
+    let hi = records::hi_count_at(table, unpacked, i);
     let single = (lo == 1) & (hi == 1);
     (lo <= 65_534)
-        & ((1 <= hi) & ((lo <= hi) & ((hi <= 65_535) & (!is_single(table, offs, n, i) | single))))
+        & ((1 <= hi)
+            & ((lo <= hi) & ((hi <= 65_535) & (!is_single(table, unpacked, n, i) | single))))
 }
 
 fn kind_least(k: u32) -> u32
@@ -63,90 +64,91 @@ fn kind_most(k: u32) -> u32
     2_147_483_648
 }
 
-fn range_fine(table: &[u8], offs: &[u32], i: usize) -> bool
-    ensures { λ r. ⌜ r ≡ rangeFine (recordIn (now (table .entry)) (now (offs .entry)) i) ⌝ }
+fn range_fine(table: &[u8], unpacked: &[u32], i: usize) -> bool
+    ensures { λ r. ⌜ r ≡ rangeFine (recordIn (now (table .entry)) (now (unpacked .entry)) i) ⌝ }
 {
-    let k = records::kind_at(table, offs, i);
-    let a = records::least_at(table, offs, i);
-    let b = records::most_at(table, offs, i);
+    let k = records::kind_at(table, unpacked, i);
+    let a = records::least_at(table, unpacked, i);
+    let b = records::most_at(table, unpacked, i);
     (kind_least(k) <= a) & ((a <= b) & (b <= kind_most(k)))
 }
 
-fn is_top_at(table: &[u8], offs: &[u32], n: usize, i: usize) -> bool
-    ensures { λ r. ⌜ r ≡ isTopAt (recordsAt (now (table .entry)) (now (offs .entry)) n) i ⌝ }
+fn is_top_at(table: &[u8], unpacked: &[u32], n: usize, i: usize) -> bool
+    ensures { λ r. ⌜ r ≡ isTopAt (recordsAt (now (table .entry)) (now (unpacked .entry)) n) i ⌝ }
 {
     if i < n {
-        return record_checks::is_top(table, offs, i);
+        return record_checks::is_top(table, unpacked, i);
     }
     false
 }
 
-fn target_fine(table: &[u8], offs: &[u32], n: usize, i: usize) -> bool
-    ensures { λ r. ⌜ r ≡ targetFine (recordsAt (now (table .entry)) (now (offs .entry)) n) (recordIn (now (table .entry)) (now (offs .entry)) i) ⌝ }
+fn target_fine(table: &[u8], unpacked: &[u32], n: usize, i: usize) -> bool
+    ensures { λ r. ⌜ r ≡ targetFine (recordsAt (now (table .entry)) (now (unpacked .entry)) n) (recordIn (now (table .entry)) (now (unpacked .entry)) i) ⌝ }
 {
-    let t = records::target_at(table, offs, i);
-    if records::kind_at(table, offs, i) == 10 {
-        return is_top_at(table, offs, n, t);
+    let t = records::target_at(table, unpacked, i);
+    if records::kind_at(table, unpacked, i) == 10 {
+        return is_top_at(table, unpacked, n, t);
     }
     t == 65_535
 }
 
 // Tops and untagged fields.
-fn shows_name(table: &[u8], offs: &[u32], i: usize) -> bool
-    ensures { λ r. ⌜ r ≡ showsName (recordIn (now (table .entry)) (now (offs .entry)) i) ⌝ }
+fn shows_name(table: &[u8], unpacked: &[u32], i: usize) -> bool
+    ensures { λ r. ⌜ r ≡ showsName (recordIn (now (table .entry)) (now (unpacked .entry)) i) ⌝ }
 {
-    record_checks::is_top(table, offs, i) | records::untagged_at(table, offs, i)
+    record_checks::is_top(table, unpacked, i) | records::untagged_at(table, unpacked, i)
 }
 
-fn label_fine(table: &[u8], offs: &[u32], i: usize) -> bool
-    ensures { λ r. ⌜ r ≡ labelFine (recordIn (now (table .entry)) (now (offs .entry)) i) ⌝ }
+fn label_fine(table: &[u8], unpacked: &[u32], i: usize) -> bool
+    ensures { λ r. ⌜ r ≡ labelFine (recordIn (now (table .entry)) (now (unpacked .entry)) i) ⌝ }
 {
-    let label = records::label_at(table, offs, i);
-    if shows_name(table, offs, i) {
+    let label = records::label_at(table, unpacked, i);
+    if shows_name(table, unpacked, i) {
         return words::name_form(label);
     }
     words::tag_form(label)
 }
 
-fn top_fine(table: &[u8], offs: &[u32], i: usize) -> bool
-    ensures { λ r. ⌜ r ≡ topFine (recordIn (now (table .entry)) (now (offs .entry)) i) ⌝ }
+fn top_fine(table: &[u8], unpacked: &[u32], i: usize) -> bool
+    ensures { λ r. ⌜ r ≡ topFine (recordIn (now (table .entry)) (now (unpacked .entry)) i) ⌝ }
 {
-    !record_checks::is_top(table, offs, i)
-        | (!records::untagged_at(table, offs, i)
-            & (!records::plugin_at(table, offs, i) & (records::kind_at(table, offs, i) != 10)))
+    !record_checks::is_top(table, unpacked, i)
+        | (!records::untagged_at(table, unpacked, i)
+            & (!records::plugin_at(table, unpacked, i)
+                & (records::kind_at(table, unpacked, i) != 10)))
 }
 
-fn record_fine(table: &[u8], offs: &[u32], n: usize, i: usize) -> bool
-    ensures { λ r. ⌜ r ≡ recordFine (recordsAt (now (table .entry)) (now (offs .entry)) n) (isUnionAt (kindsOfRecords (recordsAt (now (table .entry)) (now (offs .entry)) n))) (recordIn (now (table .entry)) (now (offs .entry)) i) ⌝ }
+fn record_fine(table: &[u8], unpacked: &[u32], n: usize, i: usize) -> bool
+    ensures { λ r. ⌜ r ≡ recordFine (recordsAt (now (table .entry)) (now (unpacked .entry)) n) (isUnionAt (kindsOfRecords (recordsAt (now (table .entry)) (now (unpacked .entry)) n))) (recordIn (now (table .entry)) (now (unpacked .entry)) i) ⌝ }
 {
-    let k = records::kind_at(table, offs, i);
+    let k = records::kind_at(table, unpacked, i);
     if k < 1 {
         return false;
     }
     if 10 < k {
         return false;
     }
-    if !counts_fine(table, offs, n, i) {
+    if !counts_fine(table, unpacked, n, i) {
         return false;
     }
-    if !range_fine(table, offs, i) {
+    if !range_fine(table, unpacked, i) {
         return false;
     }
-    if !target_fine(table, offs, n, i) {
+    if !target_fine(table, unpacked, n, i) {
         return false;
     }
-    if !label_fine(table, offs, i) {
+    if !label_fine(table, unpacked, i) {
         return false;
     }
-    top_fine(table, offs, i)
+    top_fine(table, unpacked, i)
 }
 
-pub fn every_fine(table: &[u8], offs: &[u32], n: usize) -> bool
-    ensures { λ r. ⌜ r ≡ everyRecord (recordFine (recordsAt (now (table .entry)) (now (offs .entry)) n) (isUnionAt (kindsOfRecords (recordsAt (now (table .entry)) (now (offs .entry)) n)))) (recordsAt (now (table .entry)) (now (offs .entry)) n) ⌝ }
+pub fn every_fine(table: &[u8], unpacked: &[u32], n: usize) -> bool
+    ensures { λ r. ⌜ r ≡ everyRecord (recordFine (recordsAt (now (table .entry)) (now (unpacked .entry)) n) (isUnionAt (kindsOfRecords (recordsAt (now (table .entry)) (now (unpacked .entry)) n)))) (recordsAt (now (table .entry)) (now (unpacked .entry)) n) ⌝ }
 {
     let mut i: usize = 0;
     while i < n {
-        if !record_fine(table, offs, n, i) {
+        if !record_fine(table, unpacked, n, i) {
             return false;
         }
         i += 1;
@@ -157,28 +159,28 @@ pub fn every_fine(table: &[u8], offs: &[u32], n: usize) -> bool
 // ---- shown names
 
 // j shows the name that i shows, in the same body or both as tops.
-fn same_name(table: &[u8], offs: &[u32], i: usize, j: usize) -> bool
-    ensures { λ r. ⌜ r ≡ (showsName (recordIn (now (table .entry)) (now (offs .entry)) j) && sameKey (keyOf (recordIn (now (table .entry)) (now (offs .entry)) i)) (keyOf (recordIn (now (table .entry)) (now (offs .entry)) j))) ⌝ }
+fn same_name(table: &[u8], unpacked: &[u32], i: usize, j: usize) -> bool
+    ensures { λ r. ⌜ r ≡ (showsName (recordIn (now (table .entry)) (now (unpacked .entry)) j) && sameKey (keyOf (recordIn (now (table .entry)) (now (unpacked .entry)) i)) (keyOf (recordIn (now (table .entry)) (now (unpacked .entry)) j))) ⌝ }
 {
-    if !shows_name(table, offs, j) {
+    if !shows_name(table, unpacked, j) {
         return false;
     }
-    if !record_checks::beside(table, offs, j, i) {
+    if !record_checks::beside(table, unpacked, j, i) {
         return false;
     }
     classes::same_bytes(
-        records::label_at(table, offs, i),
-        records::label_at(table, offs, j),
+        records::label_at(table, unpacked, i),
+        records::label_at(table, unpacked, j),
     )
 }
 
 // No record from a place on shows the name of i.
-fn is_new(table: &[u8], offs: &[u32], n: usize, i: usize, from: usize) -> bool
-    ensures { λ r. ⌜ r ≡ isNew (keyOf (recordIn (now (table .entry)) (now (offs .entry)) i)) (shownNames (recordsFrom (now (table .entry)) (now (offs .entry)) (n - from) from)) ⌝ }
+fn is_new(table: &[u8], unpacked: &[u32], n: usize, i: usize, from: usize) -> bool
+    ensures { λ r. ⌜ r ≡ isNew (keyOf (recordIn (now (table .entry)) (now (unpacked .entry)) i)) (shownNames (recordsFrom (now (table .entry)) (now (unpacked .entry)) (n - from) from)) ⌝ }
 {
     let mut j = from;
     while j < n {
-        if same_name(table, offs, i, j) {
+        if same_name(table, unpacked, i, j) {
             return false;
         }
         j += 1;
@@ -187,22 +189,22 @@ fn is_new(table: &[u8], offs: &[u32], n: usize, i: usize, from: usize) -> bool
 }
 
 // The name that i shows is shown again after it.
-fn shown_again(table: &[u8], offs: &[u32], n: usize, i: usize) -> bool
+fn shown_again(table: &[u8], unpacked: &[u32], n: usize, i: usize) -> bool
     requires { ⌜ i < n ⌝ }
-    ensures { λ r. ⌜ r ≡ (showsName (recordIn (now (table .entry)) (now (offs .entry)) i) && not (isNew (keyOf (recordIn (now (table .entry)) (now (offs .entry)) i)) (shownNames (recordsFrom (now (table .entry)) (now (offs .entry)) (n - (i + 1)) (i + 1))))) ⌝ }
+    ensures { λ r. ⌜ r ≡ (showsName (recordIn (now (table .entry)) (now (unpacked .entry)) i) && not (isNew (keyOf (recordIn (now (table .entry)) (now (unpacked .entry)) i)) (shownNames (recordsFrom (now (table .entry)) (now (unpacked .entry)) (n - (i + 1)) (i + 1))))) ⌝ }
 {
-    if !shows_name(table, offs, i) {
+    if !shows_name(table, unpacked, i) {
         return false;
     }
-    !is_new(table, offs, n, i, i + 1)
+    !is_new(table, unpacked, n, i, i + 1)
 }
 
-pub fn all_new(table: &[u8], offs: &[u32], n: usize) -> bool
-    ensures { λ r. ⌜ r ≡ allNew (shownNames (recordsAt (now (table .entry)) (now (offs .entry)) n)) ⌝ }
+pub fn all_new(table: &[u8], unpacked: &[u32], n: usize) -> bool
+    ensures { λ r. ⌜ r ≡ allNew (shownNames (recordsAt (now (table .entry)) (now (unpacked .entry)) n)) ⌝ }
 {
     let mut i: usize = 0;
     while i < n {
-        if shown_again(table, offs, n, i) {
+        if shown_again(table, unpacked, n, i) {
             return false;
         }
         i += 1;

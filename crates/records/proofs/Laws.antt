@@ -1,43 +1,49 @@
 -- Unpacked records: their number, each of them, and one more in a loop.
-use mathlib.Core.Path.{_≡_, refl, ap, _∙_}
+use mathlib.Core.Path.{_≡_, refl, ap, sym, _∙_}
+use mathlib.Core.Bool.{Bool, true, false}
 use mathlib.Core.List.{List, [], _∷_, _++_}
-use Prim.Native.Nat.{ℕ, zero, suc, _+_, _-_, _≤_, _<_}
+use Prim.Native.Nat.{ℕ, zero, suc, _+_, _-_, _*_, _≤_, _<_}
 use native.Mathlib.Omega.{arith}
 use native.Mathlib.Numerals.{add-one}
-use lib.ListN.{length, getD, drop, List·getD-eq-default}
+use lib.Dec.{leb}
+use lib.ListN.{length, getD, drop, set, length-set, List·getD-eq-default}
+use lib.Seq.{getD-set-same, getD-set-other}
+use borrow.Author.Tests.{lt-leb}
+use Rattle.classes.specs.Lists.{pick}
+use Rattle.numbers.specs.Limits.{parameterLimit}
 use Rattle.schema.specs.Record.{blank, recordAt}
-use Rattle.records.specs.Stored.{recordIn, recordsFrom, recordsAt}
+use Rattle.records.specs.Stored.{headCells, cellPlace, cellIn, keptIn, recordIn, recordsFrom, recordsAt}
 
-module _ (t offs : List ℕ) where
-  pub length-records : (n i : ℕ) → length (recordsFrom t offs n i) ≡ n
+module _ (t unpacked : List ℕ) where
+  pub length-records : (n i : ℕ) → length (recordsFrom t unpacked n i) ≡ n
   unfolding recordsFrom
   length-records zero i = refl
   length-records (suc n) i = ap suc (length-records n (suc i))
 
   -- ---- one of them
 
-  getD-records : (n i k : ℕ) → k < n → getD (recordsFrom t offs n i) k blank ≡ recordIn t offs (i + k)
+  getD-records : (n i k : ℕ) → k < n → getD (recordsFrom t unpacked n i) k blank ≡ recordIn t unpacked (i + k)
   unfolding recordsFrom
   getD-records zero i k h = absurd (omega arith)
-  getD-records (suc n) i zero h = ap (recordIn t offs) (omega arith)
+  getD-records (suc n) i zero h = ap (recordIn t unpacked) (omega arith)
   getD-records (suc n) i (suc k) h =
-      getD-records n (suc i) k (omega arith) ∙ ap (recordIn t offs) (omega arith)
+      getD-records n (suc i) k (omega arith) ∙ ap (recordIn t unpacked) (omega arith)
 
-  pub record-at : (n k : ℕ) → k < n → recordAt (recordsAt t offs n) k ≡ recordIn t offs k
+  pub record-at : (n k : ℕ) → k < n → recordAt (recordsAt t unpacked n) k ≡ recordIn t unpacked k
   unfolding recordAt
-  record-at n k h = getD-records n 0 k h ∙ ap (recordIn t offs) (omega arith)
+  record-at n k h = getD-records n 0 k h ∙ ap (recordIn t unpacked) (omega arith)
 
-  pub record-past : (n k : ℕ) → n ≤ k → recordAt (recordsAt t offs n) k ≡ blank
+  pub record-past : (n k : ℕ) → n ≤ k → recordAt (recordsAt t unpacked n) k ≡ blank
   unfolding recordAt
-  record-past n k h = List·getD-eq-default (recordsAt t offs n) blank {n = k} (rw length-records h)
+  record-past n k h = List·getD-eq-default (recordsAt t unpacked n) blank {n = k} (rw length-records h)
 
   -- ---- from the i-th on, in a loop
 
   -- the same number of them, from the same one on
-  same-records : (n m i j : ℕ) → n ≡ m → i ≡ j → recordsFrom t offs n i ≡ recordsFrom t offs m j
+  same-records : (n m i j : ℕ) → n ≡ m → i ≡ j → recordsFrom t unpacked n i ≡ recordsFrom t unpacked m j
   same-records n m i j e f = rw (e, f)
 
-  pub drop-records : (n i k : ℕ) → drop k (recordsFrom t offs n i) ≡ recordsFrom t offs (n - k) (i + k)
+  pub drop-records : (n i k : ℕ) → drop k (recordsFrom t unpacked n i) ≡ recordsFrom t unpacked (n - k) (i + k)
   unfolding recordsFrom
   drop-records n i zero = same-records n (n - 0) i (i + 0) (omega arith) (omega arith)
   drop-records zero i (suc k) = same-records 0 (0 - suc k) (i + suc k) (i + suc k) (omega arith) refl
@@ -45,38 +51,80 @@ module _ (t offs : List ℕ) where
       drop-records n (suc i) k ∙
       same-records (n - k) (suc n - suc k) (suc i + k) (i + suc k) (omega arith) (omega arith)
 
-  pub records-left : (n k : ℕ) → drop k (recordsAt t offs n) ≡ recordsFrom t offs (n - k) k
-  records-left n k = drop-records n 0 k ∙ ap (recordsFrom t offs (n - k)) (omega arith)
+  pub records-left : (n k : ℕ) → drop k (recordsAt t unpacked n) ≡ recordsFrom t unpacked (n - k) k
+  records-left n k = drop-records n 0 k ∙ ap (recordsFrom t unpacked (n - k)) (omega arith)
 
-  pub records-more : (n i : ℕ) → i < n → recordsFrom t offs (n - i) i ≡ recordIn t offs i ∷ recordsFrom t offs (n - (i + 1)) (i + 1)
+  pub records-more : (n i : ℕ) → i < n → recordsFrom t unpacked (n - i) i ≡ recordIn t unpacked i ∷ recordsFrom t unpacked (n - (i + 1)) (i + 1)
   unfolding recordsFrom
-  records-more n i h = rw add-one (ap (λ (m : ℕ). recordsFrom t offs m i) e)
+  records-more n i h = rw add-one (ap (λ (m : ℕ). recordsFrom t unpacked m i) e)
     where
       e : n - i ≡ suc (n - suc i)
       e = omega arith
 
-  pub records-end : (n i : ℕ) → n ≤ i → recordsFrom t offs (n - i) i ≡ []
+  pub records-end : (n i : ℕ) → n ≤ i → recordsFrom t unpacked (n - i) i ≡ []
   unfolding recordsFrom
   records-end n i h = same-records (n - i) 0 i i (omega arith) refl
 
-  pub records-all : (n : ℕ) → recordsFrom t offs (n - 0) 0 ≡ recordsAt t offs n
+  pub records-all : (n : ℕ) → recordsFrom t unpacked (n - 0) 0 ≡ recordsAt t unpacked n
   records-all n = same-records (n - 0) n 0 0 (omega arith) refl
 
   -- ---- some, then more
 
-  pub records-append : (n m i : ℕ) → recordsFrom t offs (n + m) i ≡ recordsFrom t offs n i ++ recordsFrom t offs m (i + n)
+  pub records-append : (n m i : ℕ) → recordsFrom t unpacked (n + m) i ≡ recordsFrom t unpacked n i ++ recordsFrom t unpacked m (i + n)
   unfolding recordsFrom
   records-append zero m i = same-records (0 + m) m i (i + 0) (omega arith) (omega arith)
   records-append (suc n) m i =
       same-records (suc n + m) (suc (n + m)) i i (omega arith) refl ∙
-      ap (_∷_ (recordIn t offs i)) (records-append n m (suc i) ∙ ap (_++_ (recordsFrom t offs n (suc i))) (same-records m m (suc i + n) (i + suc n) refl (omega arith)))
+      ap (_∷_ (recordIn t unpacked i)) (records-append n m (suc i) ∙ ap (_++_ (recordsFrom t unpacked n (suc i))) (same-records m m (suc i + n) (i + suc n) refl (omega arith)))
 
   -- one more behind them
-  pub records-one-more : (n : ℕ) → recordsAt t offs (n + 1) ≡ recordsAt t offs n ++ (recordIn t offs n ∷ [])
+  pub records-one-more : (n : ℕ) → recordsAt t unpacked (n + 1) ≡ recordsAt t unpacked n ++ (recordIn t unpacked n ∷ [])
   unfolding recordsFrom
-  records-one-more n = records-append n 1 0 ∙ ap (λ (k : ℕ). recordsAt t offs n ++ (recordIn t offs k ∷ [])) (omega arith)
+  records-one-more n = records-append n 1 0 ∙ ap (λ (k : ℕ). recordsAt t unpacked n ++ (recordIn t unpacked k ∷ [])) (omega arith)
 
 -- ---- cells that give the same records
+
+pub record-agree : (t a b : List ℕ) (j : ℕ) → ((k : ℕ) → k < 10 → cellIn b j k ≡ cellIn a j k) → recordIn t b j ≡ recordIn t a j
+unfolding recordIn
+record-agree t a b j f =
+    rw (f 0 (omega arith), f 1 (omega arith), f 2 (omega arith), f 3 (omega arith), f 4 (omega arith), f 5 (omega arith), f 6 (omega arith), f 7 (omega arith), f 8 (omega arith), f 9 (omega arith))
+
+-- cells past the heads give the records
+pub record-past-heads : (t a b : List ℕ) (j : ℕ) → ((m : ℕ) → headCells ≤ m → getD b m 0 ≡ getD a m 0) → recordIn t b j ≡ recordIn t a j
+record-past-heads t a b j f = record-agree t a b j (λ k h. unfold cellIn in (rw (f (cellPlace j k) (omega arith))))
+
+module _ (cs : List ℕ) (i x : ℕ) where
+  -- a link is no other cell
+  pub link-cell : (j k : ℕ) → (cellPlace i 10 ≡ cellPlace j k → ⊥) → cellIn (keptIn cs i 10 x) j k ≡ cellIn cs j k
+  unfolding cellIn keptIn
+  link-cell j k h = by (leb parameterLimit i)
+    where
+      by : (b : Bool) → pick (leb parameterLimit j) 0 (getD (pick b cs (set cs (cellPlace i 10) x)) (cellPlace j k) 0) ≡ pick (leb parameterLimit j) 0 (getD cs (cellPlace j k) 0)
+      by true = unfold pick in refl
+      by false = unfold pick in (rw (getD-set-other cs (cellPlace i 10) (cellPlace j k) x 0 (λ e. h (sym e))))
+
+  pub link-record : (t : List ℕ) (j : ℕ) → recordIn t (keptIn cs i 10 x) j ≡ recordIn t cs j
+  link-record t j = record-agree t cs (keptIn cs i 10 x) j (λ k h. link-cell j k (λ e. omega arith))
+
+  pub link-head : (h : ℕ) → h < headCells → getD (keptIn cs i 10 x) h 0 ≡ getD cs h 0
+  unfolding keptIn
+  link-head h l = by (leb parameterLimit i)
+    where
+      by : (b : Bool) → getD (pick b cs (set cs (cellPlace i 10) x)) h 0 ≡ getD cs h 0
+      by true = unfold pick in refl
+      by false = unfold pick in (getD-set-other cs (cellPlace i 10) h x 0 (λ e. omega arith))
+
+  pub link-size : length (keptIn cs i 10 x) ≡ length cs
+  unfolding keptIn
+  link-size = by (leb parameterLimit i)
+    where
+      by : (b : Bool) → length (pick b cs (set cs (cellPlace i 10) x)) ≡ length cs
+      by true = unfold pick in refl
+      by false = unfold pick in (length-set cs (cellPlace i 10) x)
+
+  pub link-there : i < parameterLimit → cellPlace i 10 < length cs → cellIn (keptIn cs i 10 x) i 10 ≡ x
+  unfolding cellIn keptIn pick
+  link-there h l = rw (lt-leb parameterLimit i h) (getD-set-same cs (cellPlace i 10) x 0 l)
 
 pub records-agree : (t a b : List ℕ) (n i : ℕ) → ((k : ℕ) → i ≤ k → k < i + n → recordIn t a k ≡ recordIn t b k) → recordsFrom t a n i ≡ recordsFrom t b n i
 unfolding recordsFrom

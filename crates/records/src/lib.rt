@@ -15,15 +15,15 @@ const HEADS: usize = 64;
 const WIDTH: usize = 11;
 
 // The k-th cell of record i.
-fn cell(offs: &[u32], i: usize, k: u8) -> u32
-    ensures { λ r. ⌜ r ≡ cellIn (now (offs .entry)) i k ⌝ }
+fn cell(unpacked: &[u32], i: usize, k: u8) -> u32
+    ensures { λ r. ⌜ r ≡ cellIn (now (unpacked .entry)) i k ⌝ }
 {
     if 256 <= i {
         return 0;
     }
     let at = HEADS + WIDTH * i + k as usize;
-    if at < offs.len() {
-        return offs[at];
+    if at < unpacked.len() {
+        return unpacked[at];
     }
     0
 }
@@ -49,109 +49,122 @@ fn int_at(table: &[u8], at: u32, j: u8) -> u32
 }
 
 // Keeps a number in the k-th cell of record i, where it is there.
-fn keep(offs: &mut [u32], i: usize, k: u8, x: u32)
-    ensures { λ _. ⌜ now (offs .exit) ≡ keptIn (now (offs .entry)) i k x ⌝ }
+fn keep(unpacked: &mut [u32], i: usize, k: u8, x: u32)
+    ensures { λ _. ⌜ now (unpacked .exit) ≡ keptIn (now (unpacked .entry)) i k x ⌝ }
 {
     if 256 <= i {
         return;
     }
     let at = HEADS + WIDTH * i + k as usize;
-    if at < offs.len() {
-        offs[at] = x;
+    if at < unpacked.len() {
+        unpacked[at] = x;
     }
 }
 
 // Unpacks the record whose bytes begin at a place into the cells of record i, where they are there.
-pub fn unpack(table: &[u8], at: u32, offs: &mut [u32], i: usize)
-    ensures { λ _. ⌜ (i < parameterLimit → headCells + recordCells * (i + 1) ≤ length (now (offs .entry)) → Unpacked (now (table .entry)) at (now (offs .entry)) i (now (offs .exit))) ⌝ }
+pub fn unpack(table: &[u8], at: u32, unpacked: &mut [u32], i: usize)
+    ensures { λ _. ⌜ (i < parameterLimit → headCells + recordCells * (i + 1) ≤ length (now (unpacked .entry)) → Unpacked (now (table .entry)) at (now (unpacked .entry)) i (now (unpacked .exit))) ⌝ }
 {
-    keep(offs, i, 0, at);
-    keep(offs, i, 1, number_at(table, at, 2));
-    keep(offs, i, 2, number_at(table, at, 4));
-    keep(offs, i, 3, number_at(table, at, 6));
-    keep(offs, i, 4, number_at(table, at, 8));
-    keep(offs, i, 5, number_at(table, at, 10));
-    keep(offs, i, 6, int_at(table, at, 12));
-    keep(offs, i, 7, int_at(table, at, 16));
-    keep(offs, i, 8, number_at(table, at, 20));
-    keep(offs, i, 9, number_at(table, at, 22));
+    keep(unpacked, i, 0, at);
+    keep(unpacked, i, 1, number_at(table, at, 2));
+    keep(unpacked, i, 2, number_at(table, at, 4));
+    keep(unpacked, i, 3, number_at(table, at, 6));
+    keep(unpacked, i, 4, number_at(table, at, 8));
+    keep(unpacked, i, 5, number_at(table, at, 10));
+    keep(unpacked, i, 6, int_at(table, at, 12));
+    keep(unpacked, i, 7, int_at(table, at, 16));
+    keep(unpacked, i, 8, number_at(table, at, 20));
+    keep(unpacked, i, 9, number_at(table, at, 22));
+}
+
+// The last cell of a record, which links it to another.
+pub fn link_at(unpacked: &[u32], i: usize) -> usize
+    ensures { λ r. ⌜ r ≡ cellIn (now (unpacked .entry)) i 10 ⌝ }
+{
+    wide(cell(unpacked, i, 10))
+}
+
+pub fn set_link(unpacked: &mut [u32], i: usize, x: u32)
+    ensures { λ _. ⌜ now (unpacked .exit) ≡ keptIn (now (unpacked .entry)) i 10 x ⌝ }
+{
+    keep(unpacked, i, 10, x);
 }
 
 // Kinds 1 to 10.
-pub fn kind_at(table: &[u8], offs: &[u32], i: usize) -> u32
-    ensures { λ r. ⌜ r ≡ recordIn (now (table .entry)) (now (offs .entry)) i .kind ⌝ }
+pub fn kind_at(table: &[u8], unpacked: &[u32], i: usize) -> u32
+    ensures { λ r. ⌜ r ≡ recordIn (now (table .entry)) (now (unpacked .entry)) i .kind ⌝ }
 {
-    cell(offs, i, 1)
+    cell(unpacked, i, 1)
 }
 
 // The parent's number, 65,535 for a top.
-pub fn parent_at(table: &[u8], offs: &[u32], i: usize) -> usize
-    ensures { λ r. ⌜ r ≡ upNumber (recordIn (now (table .entry)) (now (offs .entry)) i .parent) ⌝ }
+pub fn parent_at(table: &[u8], unpacked: &[u32], i: usize) -> usize
+    ensures { λ r. ⌜ r ≡ upNumber (recordIn (now (table .entry)) (now (unpacked .entry)) i .parent) ⌝ }
 {
-    wide(cell(offs, i, 2))
+    wide(cell(unpacked, i, 2))
 }
 
 // The record stands in the body of p.
-pub fn is_under(table: &[u8], offs: &[u32], i: usize, p: usize) -> bool
-    ensures { λ r. ⌜ r ≡ isUnder p (recordIn (now (table .entry)) (now (offs .entry)) i .parent) ⌝ }
+pub fn is_under(table: &[u8], unpacked: &[u32], i: usize, p: usize) -> bool
+    ensures { λ r. ⌜ r ≡ isUnder p (recordIn (now (table .entry)) (now (unpacked .entry)) i .parent) ⌝ }
 {
-    let up = wide(cell(offs, i, 2));
+    let up = wide(cell(unpacked, i, 2));
     (up != 65_535) & (up == p)
 }
 
 // The flags, as one number.
-pub fn flags_at(table: &[u8], offs: &[u32], i: usize) -> u32
-    ensures { λ r. ⌜ r ≡ cellIn (now (offs .entry)) i 3 ⌝ }
+pub fn flags_at(table: &[u8], unpacked: &[u32], i: usize) -> u32
+    ensures { λ r. ⌜ r ≡ cellIn (now (unpacked .entry)) i 3 ⌝ }
 {
-    cell(offs, i, 3)
+    cell(unpacked, i, 3)
 }
 
-pub fn untagged_at(table: &[u8], offs: &[u32], i: usize) -> bool
-    ensures { λ r. ⌜ r ≡ recordIn (now (table .entry)) (now (offs .entry)) i .untagged ⌝ }
+pub fn untagged_at(table: &[u8], unpacked: &[u32], i: usize) -> bool
+    ensures { λ r. ⌜ r ≡ recordIn (now (table .entry)) (now (unpacked .entry)) i .untagged ⌝ }
 {
-    flags_at(table, offs, i) % 2 == 1
+    flags_at(table, unpacked, i) % 2 == 1
 }
 
-pub fn extension_at(table: &[u8], offs: &[u32], i: usize) -> bool
-    ensures { λ r. ⌜ r ≡ recordIn (now (table .entry)) (now (offs .entry)) i .extension ⌝ }
+pub fn extension_at(table: &[u8], unpacked: &[u32], i: usize) -> bool
+    ensures { λ r. ⌜ r ≡ recordIn (now (table .entry)) (now (unpacked .entry)) i .extension ⌝ }
 {
-    2 <= flags_at(table, offs, i) % 4
+    2 <= flags_at(table, unpacked, i) % 4
 }
 
-pub fn plugin_at(table: &[u8], offs: &[u32], i: usize) -> bool
-    ensures { λ r. ⌜ r ≡ recordIn (now (table .entry)) (now (offs .entry)) i .plugin ⌝ }
+pub fn plugin_at(table: &[u8], unpacked: &[u32], i: usize) -> bool
+    ensures { λ r. ⌜ r ≡ recordIn (now (table .entry)) (now (unpacked .entry)) i .plugin ⌝ }
 {
-    4 <= flags_at(table, offs, i)
+    4 <= flags_at(table, unpacked, i)
 }
 
-pub fn lo_count_at(table: &[u8], offs: &[u32], i: usize) -> usize
-    ensures { λ r. ⌜ r ≡ recordIn (now (table .entry)) (now (offs .entry)) i .loCount ⌝ }
+pub fn lo_count_at(table: &[u8], unpacked: &[u32], i: usize) -> usize
+    ensures { λ r. ⌜ r ≡ recordIn (now (table .entry)) (now (unpacked .entry)) i .loCount ⌝ }
 {
-    wide(cell(offs, i, 4))
+    wide(cell(unpacked, i, 4))
 }
 
-pub fn hi_count_at(table: &[u8], offs: &[u32], i: usize) -> usize
-    ensures { λ r. ⌜ r ≡ recordIn (now (table .entry)) (now (offs .entry)) i .hiCount ⌝ }
+pub fn hi_count_at(table: &[u8], unpacked: &[u32], i: usize) -> usize
+    ensures { λ r. ⌜ r ≡ recordIn (now (table .entry)) (now (unpacked .entry)) i .hiCount ⌝ }
 {
-    wide(cell(offs, i, 5))
+    wide(cell(unpacked, i, 5))
 }
 
-pub fn least_at(table: &[u8], offs: &[u32], i: usize) -> u32
-    ensures { λ r. ⌜ r ≡ recordIn (now (table .entry)) (now (offs .entry)) i .least ⌝ }
+pub fn least_at(table: &[u8], unpacked: &[u32], i: usize) -> u32
+    ensures { λ r. ⌜ r ≡ recordIn (now (table .entry)) (now (unpacked .entry)) i .least ⌝ }
 {
-    cell(offs, i, 6)
+    cell(unpacked, i, 6)
 }
 
-pub fn most_at(table: &[u8], offs: &[u32], i: usize) -> u32
-    ensures { λ r. ⌜ r ≡ recordIn (now (table .entry)) (now (offs .entry)) i .most ⌝ }
+pub fn most_at(table: &[u8], unpacked: &[u32], i: usize) -> u32
+    ensures { λ r. ⌜ r ≡ recordIn (now (table .entry)) (now (unpacked .entry)) i .most ⌝ }
 {
-    cell(offs, i, 7)
+    cell(unpacked, i, 7)
 }
 
-pub fn target_at(table: &[u8], offs: &[u32], i: usize) -> usize
-    ensures { λ r. ⌜ r ≡ recordIn (now (table .entry)) (now (offs .entry)) i .target ⌝ }
+pub fn target_at(table: &[u8], unpacked: &[u32], i: usize) -> usize
+    ensures { λ r. ⌜ r ≡ recordIn (now (table .entry)) (now (unpacked .entry)) i .target ⌝ }
 {
-    wide(cell(offs, i, 8))
+    wide(cell(unpacked, i, 8))
 }
 
 // Up to n bytes from a place on.
@@ -169,9 +182,9 @@ fn part<'a>(s: &'a [u8], at: usize, n: usize) -> &'a [u8]
 }
 
 // The wire tag, or the name where untagged or top.
-pub fn label_at<'a>(table: &'a [u8], offs: &[u32], i: usize) -> &'a [u8]
-    ensures { λ r. ⌜ now r ≡ recordIn (now (table .entry)) (now (offs .entry)) i .label ⌝ }
+pub fn label_at<'a>(table: &'a [u8], unpacked: &[u32], i: usize) -> &'a [u8]
+    ensures { λ r. ⌜ now r ≡ recordIn (now (table .entry)) (now (unpacked .entry)) i .label ⌝ }
 {
-    let n = wide(cell(offs, i, 9));
-    part(table, wide(cell(offs, i, 0)) + 24, n)
+    let n = wide(cell(unpacked, i, 9));
+    part(table, wide(cell(unpacked, i, 0)) + 24, n)
 }

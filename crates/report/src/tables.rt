@@ -136,56 +136,65 @@ fn put_record_cell(
     out: &mut [u8],
     at: usize,
     table: &[u8],
-    offs: &[u32],
+    unpacked: &[u32],
     i: usize,
     column: usize,
 ) -> usize {
     match column {
         0 => text::put_decimal(out, at, i as u64),
-        1 => put_kind(out, at, records::kind_at(table, offs, i)),
-        2 => put_some(out, at, records::parent_at(table, offs, i)),
-        3 => put_flags(out, at, records::flags_at(table, offs, i)),
+        1 => put_kind(out, at, records::kind_at(table, unpacked, i)),
+        2 => put_some(out, at, records::parent_at(table, unpacked, i)),
+        3 => put_flags(out, at, records::flags_at(table, unpacked, i)),
         4 => put_counts(
             out,
             at,
-            records::lo_count_at(table, offs, i),
-            records::hi_count_at(table, offs, i),
+            records::lo_count_at(table, unpacked, i),
+            records::hi_count_at(table, unpacked, i),
         ),
         5 => put_range(
             out,
             at,
-            records::kind_at(table, offs, i),
-            records::least_at(table, offs, i),
-            records::most_at(table, offs, i),
+            records::kind_at(table, unpacked, i),
+            records::least_at(table, unpacked, i),
+            records::most_at(table, unpacked, i),
         ),
-        6 => put_some(out, at, records::target_at(table, offs, i)),
-        _ => put_shown(out, at, records::label_at(table, offs, i)),
+        6 => put_some(out, at, records::target_at(table, unpacked, i)),
+        _ => put_shown(out, at, records::label_at(table, unpacked, i)),
     }
 }
 
-fn record_cell(cell: &mut [u8], table: &[u8], offs: &[u32], line: usize, column: usize) -> usize {
+fn record_cell(
+    cell: &mut [u8],
+    table: &[u8],
+    unpacked: &[u32],
+    line: usize,
+    column: usize,
+) -> usize {
     if line == 0 {
         return put_record_head(cell, 0, column);
     }
-    put_record_cell(cell, 0, table, offs, line - 1, column)
+    put_record_cell(cell, 0, table, unpacked, line - 1, column)
 }
 
-fn record_width(table: &[u8], offs: &[u32], n: usize, column: usize) -> usize {
+fn record_width(table: &[u8], unpacked: &[u32], n: usize, column: usize) -> usize {
     let mut cell = [0u8; 64];
-    let mut width = record_cell(&mut cell, table, offs, 0, column);
+    let mut width = record_cell(&mut cell, table, unpacked, 0, column);
     let mut i = 0;
     while i < n {
-        width = text::most(width, record_cell(&mut cell, table, offs, i + 1, column));
+        width = text::most(
+            width,
+            record_cell(&mut cell, table, unpacked, i + 1, column),
+        );
         i += 1;
     }
     width
 }
 
 // The widths of the columns of a table of n records.
-pub fn record_widths(table: &[u8], offs: &[u32], n: usize, widths: &mut [usize]) {
+pub fn record_widths(table: &[u8], unpacked: &[u32], n: usize, widths: &mut [usize]) {
     let mut column = 0;
     while column < RECORD_COLUMNS {
-        set_width(widths, column, record_width(table, offs, n, column));
+        set_width(widths, column, record_width(table, unpacked, n, column));
         column += 1;
     }
 }
@@ -198,13 +207,13 @@ fn put_record_column(
     out: &mut [u8],
     at: usize,
     table: &[u8],
-    offs: &[u32],
+    unpacked: &[u32],
     line: usize,
     column: usize,
     width: usize,
 ) -> usize {
     let mut cell = [0u8; 64];
-    let n = record_cell(&mut cell, table, offs, line, column);
+    let n = record_cell(&mut cell, table, unpacked, line, column);
     put_cell(
         out,
         at,
@@ -219,7 +228,7 @@ pub fn put_record_line(
     out: &mut [u8],
     at: usize,
     table: &[u8],
-    offs: &[u32],
+    unpacked: &[u32],
     line: usize,
     widths: &[usize],
 ) -> usize {
@@ -227,11 +236,11 @@ pub fn put_record_line(
     let mut o = at;
     while column < RECORD_COLUMNS {
         let width = width_at(widths, column);
-        o = put_record_column(out, o, table, offs, line, column, width);
+        o = put_record_column(out, o, table, unpacked, line, column, width);
         column += 1;
     }
     let mut cell = [0u8; 64];
-    let n = record_cell(&mut cell, table, offs, line, RECORD_COLUMNS);
+    let n = record_cell(&mut cell, table, unpacked, line, RECORD_COLUMNS);
     o = text::put_text(out, o, text::part(&cell, 0, n));
     text::put_byte(out, o, b'\n')
 }
@@ -263,7 +272,7 @@ fn put_row_cell(
     out: &mut [u8],
     at: usize,
     table: &[u8],
-    offs: &[u32],
+    unpacked: &[u32],
     rows: &[u32],
     row: usize,
     column: usize,
@@ -272,7 +281,7 @@ fn put_row_cell(
         0 => text::put_decimal(out, at, row as u64),
         1 => {
             let p = text::size(row_number(rows, row, 0));
-            put_shown(out, at, records::label_at(table, offs, p))
+            put_shown(out, at, records::label_at(table, unpacked, p))
         }
         2 => put_parent(out, at, row_number(rows, row, 1)),
         3 => text::put_decimal(out, at, row_number(rows, row, 2) as u64),
@@ -283,7 +292,7 @@ fn put_row_cell(
 fn row_cell(
     cell: &mut [u8],
     table: &[u8],
-    offs: &[u32],
+    unpacked: &[u32],
     rows: &[u32],
     line: usize,
     column: usize,
@@ -291,17 +300,17 @@ fn row_cell(
     if line == 0 {
         return put_row_head(cell, 0, column);
     }
-    put_row_cell(cell, 0, table, offs, rows, line - 1, column)
+    put_row_cell(cell, 0, table, unpacked, rows, line - 1, column)
 }
 
-fn row_width(table: &[u8], offs: &[u32], rows: &[u32], count: usize, column: usize) -> usize {
+fn row_width(table: &[u8], unpacked: &[u32], rows: &[u32], count: usize, column: usize) -> usize {
     let mut cell = [0u8; 64];
-    let mut width = row_cell(&mut cell, table, offs, rows, 0, column);
+    let mut width = row_cell(&mut cell, table, unpacked, rows, 0, column);
     let mut row = 0;
     while row < count {
         width = text::most(
             width,
-            row_cell(&mut cell, table, offs, rows, row + 1, column),
+            row_cell(&mut cell, table, unpacked, rows, row + 1, column),
         );
         row += 1;
     }
@@ -309,10 +318,20 @@ fn row_width(table: &[u8], offs: &[u32], rows: &[u32], count: usize, column: usi
 }
 
 // The widths of the columns of a table of some rows.
-pub fn row_widths(table: &[u8], offs: &[u32], rows: &[u32], count: usize, widths: &mut [usize]) {
+pub fn row_widths(
+    table: &[u8],
+    unpacked: &[u32],
+    rows: &[u32],
+    count: usize,
+    widths: &mut [usize],
+) {
     let mut column = 0;
     while column < ROW_COLUMNS {
-        set_width(widths, column, row_width(table, offs, rows, count, column));
+        set_width(
+            widths,
+            column,
+            row_width(table, unpacked, rows, count, column),
+        );
         column += 1;
     }
 }
@@ -321,14 +340,14 @@ fn put_row_column(
     out: &mut [u8],
     at: usize,
     table: &[u8],
-    offs: &[u32],
+    unpacked: &[u32],
     rows: &[u32],
     line: usize,
     column: usize,
     width: usize,
 ) -> usize {
     let mut cell = [0u8; 64];
-    let n = row_cell(&mut cell, table, offs, rows, line, column);
+    let n = row_cell(&mut cell, table, unpacked, rows, line, column);
     put_cell(out, at, text::part(&cell, 0, n), width, column != 1)
 }
 
@@ -336,7 +355,7 @@ fn put_row_columns(
     out: &mut [u8],
     at: usize,
     table: &[u8],
-    offs: &[u32],
+    unpacked: &[u32],
     rows: &[u32],
     line: usize,
     widths: &[usize],
@@ -345,19 +364,19 @@ fn put_row_columns(
     let mut o = at;
     while column < ROW_COLUMNS {
         let width = width_at(widths, column);
-        o = put_row_column(out, o, table, offs, rows, line, column, width);
+        o = put_row_column(out, o, table, unpacked, rows, line, column, width);
         column += 1;
     }
     o
 }
 
 // Has a parameter's value parts with rows of their own?
-fn has_parts(table: &[u8], offs: &[u32], p: usize) -> bool {
-    let kind = records::kind_at(table, offs, p);
+fn has_parts(table: &[u8], unpacked: &[u32], p: usize) -> bool {
+    let kind = records::kind_at(table, unpacked, p);
     match kind {
         8 | 9 => true,
         10 => {
-            let target = records::kind_at(table, offs, records::target_at(table, offs, p));
+            let target = records::kind_at(table, unpacked, records::target_at(table, unpacked, p));
             (target == 8) | (target == 9)
         }
         _ => false,
@@ -378,18 +397,18 @@ pub fn put_row_line(
     out: &mut [u8],
     at: usize,
     table: &[u8],
-    offs: &[u32],
+    unpacked: &[u32],
     rows: &[u32],
     line: usize,
     widths: &[usize],
     bytes: &[u8],
 ) -> usize {
-    let o = put_row_columns(out, at, table, offs, rows, line, widths);
+    let o = put_row_columns(out, at, table, unpacked, rows, line, widths);
     if line == 0 {
         return text::put_text(out, o, b"text\n");
     }
     let p = text::size(row_number(rows, line - 1, 0));
-    let o = put_row_text(out, o, bytes, has_parts(table, offs, p));
+    let o = put_row_text(out, o, bytes, has_parts(table, unpacked, p));
     text::put_byte(out, o, b'\n')
 }
 

@@ -1,5 +1,5 @@
 -- The compiler's checks over all records, and the rules over the bytes.
-use mathlib.Core.Path.{_≡_, refl, sym, _∙_}
+use mathlib.Core.Path.{_≡_, refl, ap, sym, _∙_}
 use mathlib.Core.Bool.{Bool, true, false, _&&_}
 use mathlib.Core.List.{List, [], _∷_}
 use Prim.Native.Nat.{ℕ, suc, _+_, _-_, _^_, _≤_, _<_}
@@ -20,6 +20,8 @@ use Rattle.records.specs.Stored.{recordIn, recordsFrom, recordsAt}
 use Rattle.records.proofs.Laws.{length-records, records-more, records-end, records-all}
 use Rattle.record_checks.specs.Rounds.{Found}
 use Rattle.definition_rules.specs.Faults.{voidMany, rule7Broken, tagRepeated, rootNoStruct}
+use Rattle.tags.specs.Lists.{Linked, Links}
+use Rattle.tags.proofs.Searching.{links-records}
 use Rattle.walk.specs.declared.Walk.{Walk}
 use Rattle.walk.specs.declared.Walk.the-variants.{Count, Bad}
 use Rattle.walk.specs.Walked.{Enough, Counted, Uncounted, Walked}
@@ -29,22 +31,22 @@ use Rattle.table.specs.Checks.{isBroken, Fine, Checked}
 
 -- ---- one check over all records
 
-module _ (f : ℕ → Record → Bool) (t offs : List ℕ) (n : ℕ) where
-  pub none-start : noneBroken f 0 (recordsAt t offs n) ≡ noneBroken f 0 (recordsFrom t offs (n - 0) 0)
-  none-start = rw (records-all t offs n)
+module _ (f : ℕ → Record → Bool) (t unpacked : List ℕ) (n : ℕ) where
+  pub none-start : noneBroken f 0 (recordsAt t unpacked n) ≡ noneBroken f 0 (recordsFrom t unpacked (n - 0) 0)
+  none-start = rw (records-all t unpacked n)
 
   module _ (i : ℕ) where
-    pub none-end : n ≤ i → noneBroken f i (recordsFrom t offs (n - i) i) ≡ true
+    pub none-end : n ≤ i → noneBroken f i (recordsFrom t unpacked (n - i) i) ≡ true
     unfolding noneBroken
-    none-end h = rw (records-end t offs n i h)
+    none-end h = rw (records-end t unpacked n i h)
 
-    pub none-no : i < n → f i (recordIn t offs i) ≡ true → noneBroken f i (recordsFrom t offs (n - i) i) ≡ false
+    pub none-no : i < n → f i (recordIn t unpacked i) ≡ true → noneBroken f i (recordsFrom t unpacked (n - i) i) ≡ false
     unfolding noneBroken
-    none-no h e = rw (records-more t offs n i h, e)
+    none-no h e = rw (records-more t unpacked n i h, e)
 
-    pub none-more : i < n → f i (recordIn t offs i) ≡ false → noneBroken f i (recordsFrom t offs (n - i) i) ≡ noneBroken f (i + 1) (recordsFrom t offs (n - (i + 1)) (i + 1))
+    pub none-more : i < n → f i (recordIn t unpacked i) ≡ false → noneBroken f i (recordsFrom t unpacked (n - i) i) ≡ noneBroken f (i + 1) (recordsFrom t unpacked (n - (i + 1)) (i + 1))
     unfolding noneBroken
-    none-more h e = rw (records-more t offs n i h, e, ← add-one i)
+    none-more h e = rw (records-more t unpacked n i h, e, ← add-one i)
 
 -- finite values as the code found them
 none-found : (rs : List Record) (have : List Bool) → Found rs have → (i : ℕ) (qs : List Record) → noneBroken (isEndless have) i qs ≡ noneBroken (isEndless (finites rs)) i qs
@@ -102,16 +104,16 @@ and-no : (a : Bool) → a && false ≡ false
 and-no true = refl
 and-no false = refl
 
-pub some-few : (t offs : List ℕ) (n : ℕ) → (n ≡ 0 → ⊥) → n ≤ 256 → (leb 1 (length (recordsAt t offs n)) ≡ true) × (leb (length (recordsAt t offs n)) parameterLimit ≡ true)
-some-few t offs n h l = rw (length-records t offs n 0) (le-leb 1 n (omega arith), le-leb n 256 l)
+pub some-few : (t unpacked : List ℕ) (n : ℕ) → (n ≡ 0 → ⊥) → n ≤ 256 → (leb 1 (length (recordsAt t unpacked n)) ≡ true) × (leb (length (recordsAt t unpacked n)) parameterLimit ≡ true)
+some-few t unpacked n h l = rw (length-records t unpacked n 0) (le-leb 1 n (omega arith), le-leb n 256 l)
 
-pub rules-none : (t offs : List ℕ) (n : ℕ) → n ≡ 0 → recordRules parameterLimit (recordsAt t offs n) ≡ false
+pub rules-none : (t unpacked : List ℕ) (n : ℕ) → n ≡ 0 → recordRules parameterLimit (recordsAt t unpacked n) ≡ false
 unfolding recordRules
-rules-none t offs n e = rw (length-records t offs n 0, lt-leb 1 n (omega arith))
+rules-none t unpacked n e = rw (length-records t unpacked n 0, lt-leb 1 n (omega arith))
 
-pub table-counted : (t offs : List ℕ) (n : ℕ) → Counted t offs n → recordRules parameterLimit (recordsAt t offs n) ≡ tableRules parameterLimit t
+pub table-counted : (t unpacked : List ℕ) (n : ℕ) → Counted t unpacked n → recordRules parameterLimit (recordsAt t unpacked n) ≡ tableRules parameterLimit t
 unfolding tableRules rulesOf
-table-counted t offs n c = rw (c .these)
+table-counted t unpacked n c = rw (c .these)
 
 pub table-bad : (t : List ℕ) → Uncounted t → tableRules parameterLimit t ≡ false
 unfolding tableRules
@@ -123,17 +125,22 @@ table-bad t u = go (decode t) refl
 
 -- ---- what the walk says
 
-pub walked-count : (t offs : List ℕ) (w : Walk) (n : ℕ) → Walked t offs w → w ≡ Count n → Counted t offs n
+pub walked-count : (t unpacked : List ℕ) (w : Walk) (n : ℕ) → Walked t unpacked w → w ≡ Count n → Counted t unpacked n
 unfolding Walked
-walked-count t offs w n h e = rw e at h
+walked-count t unpacked w n h e = rw e at h
 
-pub walked-bad : (t offs : List ℕ) (w : Walk) → Walked t offs w → w ≡ Bad → Uncounted t
+pub walked-bad : (t unpacked : List ℕ) (w : Walk) → Walked t unpacked w → w ≡ Bad → Uncounted t
 unfolding Walked
-walked-bad t offs w h e = rw e at h
+walked-bad t unpacked w h e = rw e at h
 
 -- the rules are what the paper asks
 pub promised : (t : List ℕ) (b : Bool) → ((i : ℕ) → getD t i 0 < 2 ^ 8) → b ≡ tableRules parameterLimit t → (b ≡ tableRules parameterLimit t) × ((b ≡ true) ↔ Compilable t)
 promised t b h e = (e, ((λ x. rules-iff t h .0 (sym e ∙ x)), λ c. e ∙ rules-iff t h .1 c))
+
+-- ---- the lists
+
+pub linked-counted : (t cs after : List ℕ) (n : ℕ) → Links t cs n after → Counted t cs n → Counted t after n
+linked-counted t cs after n l c = record { few = c .few; long = c .long; these = c .these ∙ ap just (sym (links-records t cs after n l)) }
 
 -- ---- the check
 

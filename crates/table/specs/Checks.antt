@@ -8,6 +8,7 @@ use Rattle.definition_rules.specs.Finite.{isEndless}
 use Rattle.definition_rules.specs.Faults.{voidMany, rule7Broken, tagRepeated, rootNoStruct}
 use Rattle.numbers.specs.Limits.{parameterLimit}
 use Rattle.table_rules.specs.RecordRules.{tableRules}
+use Rattle.tags.specs.Lists.{Linked}
 use Rattle.walk.specs.Walked.{Counted}
 use Rattle.walk.specs.declared.Walk.{Walk}
 use Rattle.walk.specs.declared.Walk.the-variants.{Count, Bad}
@@ -22,10 +23,11 @@ isBroken Tags rs have i r = tagRepeated rs i r
 isBroken Root rs have i r = rootNoStruct i r
 isBroken Finite rs have i r = isEndless have i r
 
--- a table that keeps the rules, and its records
+-- a table that keeps the rules, and its records, in their lists
 pub record Fine (t cs : List ℕ) (n : ℕ) : Type 0 where
   pub kept : tableRules parameterLimit t ≡ true
   pub counted : Counted t cs n
+  pub linked : Linked t cs n 0
 
 -- what the check of a table says
 unfoldable pub Checked : List ℕ → List ℕ → Walk → Type 0

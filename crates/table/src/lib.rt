@@ -1,6 +1,6 @@
 // The check behind number 20: whether some definition compiles to a table.
 ghost use mathlib.Core.Path.{_≡_};
-ghost use Prim.Native.Nat.{_≤_};
+ghost use Prim.Native.Nat.{_≤_, _<_};
 ghost use lib.ListN.{length};
 ghost use Rattle.numbers.specs.Limits.{parameterLimit};
 ghost use mathlib.Core.Bool.{true};
@@ -8,6 +8,7 @@ ghost use mathlib.Core.Logic.{_↔_};
 ghost use Rattle.table_rules.specs.Compilable.{Compilable};
 ghost use Rattle.table_rules.specs.RecordRules.{noneBroken, recordChecks, recordRules, tableRules};
 ghost use Rattle.records.specs.Stored.{recordIn, recordsAt};
+ghost use Rattle.tags.specs.Lists.{Linked};
 ghost use Rattle.walk.specs.Walked.{Enough};
 ghost use Rattle.table.specs.Checks.{isBroken, Checked};
 use walk::Walk;
@@ -23,24 +24,33 @@ enum Check {
 
 // ---- the compiler's checks
 
-fn is_broken(table: &[u8], offs: &[u32], n: usize, have: &[bool], i: usize, check: Check) -> bool
-    ensures { λ r. ⌜ r ≡ isBroken check (recordsAt (now (table .entry)) (now (offs .entry)) n) (now (have .entry)) i (recordIn (now (table .entry)) (now (offs .entry)) i) ⌝ }
+fn is_broken(
+    table: &[u8],
+    unpacked: &[u32],
+    n: usize,
+    have: &[bool],
+    i: usize,
+    check: Check,
+) -> bool
+    requires { ⌜ (i < n) × Linked (now table) (now unpacked) n 0 ⌝ }
+    ensures { λ r. ⌜ r ≡ isBroken check (recordsAt (now (table .entry)) (now (unpacked .entry)) n) (now (have .entry)) i (recordIn (now (table .entry)) (now (unpacked .entry)) i) ⌝ }
 {
     match check {
-        Check::Voids => record_checks::void_many(table, offs, i),
-        Check::Rule7 => record_checks::rule7_broken(table, offs, n, i),
-        Check::Tags => record_checks::tag_repeated(table, offs, n, i),
-        Check::Root => record_checks::root_no_struct(table, offs, i),
-        Check::Finite => record_checks::is_endless(table, offs, have, i),
+        Check::Voids => record_checks::void_many(table, unpacked, i),
+        Check::Rule7 => record_checks::rule7_broken(table, unpacked, n, i),
+        Check::Tags => tags::tag_again(table, unpacked, n, i),
+        Check::Root => record_checks::root_no_struct(table, unpacked, i),
+        Check::Finite => record_checks::is_endless(table, unpacked, have, i),
     }
 }
 
-fn none_broken(table: &[u8], offs: &[u32], n: usize, have: &[bool], check: Check) -> bool
-    ensures { λ r. ⌜ r ≡ noneBroken (isBroken check (recordsAt (now (table .entry)) (now (offs .entry)) n) (now (have .entry))) 0 (recordsAt (now (table .entry)) (now (offs .entry)) n) ⌝ }
+fn none_broken(table: &[u8], unpacked: &[u32], n: usize, have: &[bool], check: Check) -> bool
+    requires { ⌜ Linked (now table) (now unpacked) n 0 ⌝ }
+    ensures { λ r. ⌜ r ≡ noneBroken (isBroken check (recordsAt (now (table .entry)) (now (unpacked .entry)) n) (now (have .entry))) 0 (recordsAt (now (table .entry)) (now (unpacked .entry)) n) ⌝ }
 {
     let mut i: usize = 0;
     while i < n {
-        if is_broken(table, offs, n, have, i, check) {
+        if is_broken(table, unpacked, n, have, i, check) {
             return false;
         }
         i += 1;
@@ -54,58 +64,59 @@ fn none_yet() -> [bool; 256]
     [false; 256]
 }
 
-fn checks_fine(table: &[u8], offs: &[u32], n: usize) -> bool
-    requires { ⌜ n ≤ 256 ⌝ }
-    ensures { λ r. ⌜ r ≡ recordChecks (recordsAt (now (table .entry)) (now (offs .entry)) n) ⌝ }
+fn checks_fine(table: &[u8], unpacked: &[u32], n: usize) -> bool
+    requires { ⌜ (n ≤ 256) × Linked (now table) (now unpacked) n 0 ⌝ }
+    ensures { λ r. ⌜ r ≡ recordChecks (recordsAt (now (table .entry)) (now (unpacked .entry)) n) ⌝ }
 {
     let mut have = none_yet();
-    if !none_broken(table, offs, n, &have, Check::Voids) {
+    if !none_broken(table, unpacked, n, &have, Check::Voids) {
         return false;
     }
-    if !none_broken(table, offs, n, &have, Check::Rule7) {
+    if !none_broken(table, unpacked, n, &have, Check::Rule7) {
         return false;
     }
-    if !none_broken(table, offs, n, &have, Check::Tags) {
+    if !none_broken(table, unpacked, n, &have, Check::Tags) {
         return false;
     }
-    if !none_broken(table, offs, n, &have, Check::Root) {
+    if !none_broken(table, unpacked, n, &have, Check::Root) {
         return false;
     }
     let mut next = none_yet();
-    record_checks::finites(table, offs, n, &mut have, &mut next);
-    none_broken(table, offs, n, &have, Check::Finite)
+    record_checks::finites(table, unpacked, n, &mut have, &mut next);
+    none_broken(table, unpacked, n, &have, Check::Finite)
 }
 
-fn rules(table: &[u8], offs: &[u32], n: usize) -> bool
-    requires { ⌜ n ≤ 256 ⌝ }
-    ensures { λ r. ⌜ r ≡ recordRules parameterLimit (recordsAt (now (table .entry)) (now (offs .entry)) n) ⌝ }
+fn rules(table: &[u8], unpacked: &[u32], n: usize) -> bool
+    requires { ⌜ (n ≤ 256) × Linked (now table) (now unpacked) n 0 ⌝ }
+    ensures { λ r. ⌜ r ≡ recordRules parameterLimit (recordsAt (now (table .entry)) (now (unpacked .entry)) n) ⌝ }
 {
     if n == 0 {
         return false;
     }
-    if !nesting::ordered(table, offs, n) {
+    if !nesting::ordered(table, unpacked, n) {
         return false;
     }
-    if !record_rules::every_fine(table, offs, n) {
+    if !record_rules::every_fine(table, unpacked, n) {
         return false;
     }
-    if !record_rules::all_new(table, offs, n) {
+    if !record_rules::all_new(table, unpacked, n) {
         return false;
     }
-    checks_fine(table, offs, n)
+    checks_fine(table, unpacked, n)
 }
 
 // ---- a table's bytes
 
-// The records of a table that some definition compiles to, unpacked; of another table it says so. The cells are enough
+// The records of a table that some definition compiles to, unpacked and in their lists; of another table it says so. The cells are enough
 // for the table's records.
-pub fn checked(table: &[u8], offs: &mut [u32]) -> Walk
-    requires { ⌜ Enough (length (now table)) (length (now offs)) ⌝ }
-    ensures { λ r. ⌜ Checked (now (table .entry)) (now (offs .exit)) r ⌝ }
+pub fn checked(table: &[u8], unpacked: &mut [u32]) -> Walk
+    requires { ⌜ Enough (length (now table)) (length (now unpacked)) ⌝ }
+    ensures { λ r. ⌜ Checked (now (table .entry)) (now (unpacked .exit)) r ⌝ }
 {
-    match walk::unpack(table, offs) {
+    match walk::unpack(table, unpacked) {
         Walk::Count(n) => {
-            if rules(table, offs, n) {
+            tags::link(table, unpacked, n);
+            if rules(table, unpacked, n) {
                 return Walk::Count(n);
             }
             Walk::Bad
@@ -114,11 +125,11 @@ pub fn checked(table: &[u8], offs: &mut [u32]) -> Walk
     }
 }
 
-fn passes(table: &[u8], offs: &mut [u32]) -> bool
-    requires { ⌜ Enough (length (now table)) (length (now offs)) ⌝ }
+fn passes(table: &[u8], unpacked: &mut [u32]) -> bool
+    requires { ⌜ Enough (length (now table)) (length (now unpacked)) ⌝ }
     ensures { λ r. ⌜ r ≡ tableRules parameterLimit (now (table .entry)) ⌝ }
 {
-    match checked(table, offs) {
+    match checked(table, unpacked) {
         Walk::Count(_) => true,
         Walk::Bad => false,
     }

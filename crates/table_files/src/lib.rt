@@ -53,16 +53,16 @@ pub fn table_of(path: &[u8], table: &mut [u8], out: &mut [u8]) -> Source {
 }
 
 // How many records a table has, unpacked into lent cells.
-pub fn records_of(table: &[u8], offs: &mut [u32]) -> usize {
-    match walk::unpack(table, offs) {
+pub fn records_of(table: &[u8], unpacked: &mut [u32]) -> usize {
+    match walk::unpack(table, unpacked) {
         Walk::Count(n) => n,
         Walk::Bad => 0,
     }
 }
 
 fn say_size(path: &[u8], table: &[u8], out: &mut [u8]) -> u8 {
-    let mut offs = [0u32; 2880];
-    let n = records_of(table, &mut offs);
+    let mut unpacked = [0u32; 2880];
+    let n = records_of(table, &mut unpacked);
     let at = wording::put_size(out, 0, path, n, table.len());
     ended(out, started(at), ACCEPTED)
 }
@@ -100,16 +100,16 @@ pub fn compile_file(path: &[u8], to: &[u8], out: &mut [u8]) -> u8 {
 // ---- show and check
 
 fn print_records(table: &[u8], out: &mut [u8]) -> u8 {
-    let mut offs = [0u32; 2880];
+    let mut unpacked = [0u32; 2880];
     let mut widths = [0usize; 8];
-    let n = records_of(table, &mut offs);
-    report::record_widths(table, &offs, n, &mut widths);
-    let head = report::put_record_line(out, 0, table, &offs, 0, &widths);
+    let n = records_of(table, &mut unpacked);
+    report::record_widths(table, &unpacked, n, &mut widths);
+    let head = report::put_record_line(out, 0, table, &unpacked, 0, &widths);
     let mut page = started(head);
     let mut i = 0;
     while i < n && page.ok {
         let line = i + 1;
-        let at = report::put_record_line(out, page.at, table, &offs, line, &widths);
+        let at = report::put_record_line(out, page.at, table, &unpacked, line, &widths);
         page = flushed(out, started(at), MANY);
         i = line;
     }

@@ -79,20 +79,20 @@ unfoldable pub Offs : List Key → List Key → Type 0
 Offs [] z = Unit {0}
 Offs (k ∷ l) z = Off k z × Offs l z
 
-pub offs-nil : (l : List Key) → Offs l []
+pub unpacked-nil : (l : List Key) → Offs l []
 unfolding Offs Off
-offs-nil [] = tt
-offs-nil (k ∷ l) = (tt, offs-nil l)
+unpacked-nil [] = tt
+unpacked-nil (k ∷ l) = (tt, unpacked-nil l)
 
-offs-cons : (l z : List Key) (k : Key) → Offs l z → Off k l → Offs l (k ∷ z)
+unpacked-cons : (l z : List Key) (k : Key) → Offs l z → Off k l → Offs l (k ∷ z)
 unfolding Offs Off
-offs-cons [] z k h o = tt
-offs-cons (j ∷ l) z k h o = (((λ e. o .0 (sym e)), h .0), offs-cons l z k (h .1) (o .1))
+unpacked-cons [] z k h o = tt
+unpacked-cons (j ∷ l) z k h o = (((λ e. o .0 (sym e)), h .0), unpacked-cons l z k (h .1) (o .1))
 
-offs-head : (l z : List Key) (k : Key) → Offs l (k ∷ z) → Off k l × Offs l z
+unpacked-head : (l z : List Key) (k : Key) → Offs l (k ∷ z) → Off k l × Offs l z
 unfolding Offs Off
-offs-head [] z k h = (tt, tt)
-offs-head (j ∷ l) z k h = let x = offs-head l z k (h .1) in (((λ e. h .0 .0 (sym e)), x .0), (h .0 .1, x .1))
+unpacked-head [] z k h = (tt, tt)
+unpacked-head (j ∷ l) z k h = let x = unpacked-head l z k (h .1) in (((λ e. h .0 .0 (sym e)), x .0), (h .0 .1, x .1))
 
 pub place-none : (b : Bool) (p : ℕ) (r : List ℕ) → placeIf b p r ≡ [] → (b ≡ false) × (r ≡ [])
 unfolding placeIf
@@ -109,13 +109,13 @@ twice-uniq [] z e = (tt, tt)
 twice-uniq (noted s d ∷ r) z e =
     let x = place-none (not (isNew (nameKey d) z)) (s .nameAt) (repeatedNames (nameKey d ∷ z) r) e in
     let y = twice-uniq r (nameKey d ∷ z) (x .1) in
-    let w = offs-head (declaredNames (declarationsOf r)) z (nameKey d) (y .0) in
+    let w = unpacked-head (declaredNames (declarationsOf r)) z (nameKey d) (y .0) in
     ((new-off (nameKey d) z (not-false (isNew (nameKey d) z) (x .0)), w .1), (w .0, y .1))
 
 pub uniq-twice : (ns : List Noted) (z : List Key) → Offs (declaredNames (declarationsOf ns)) z → Uniq (declaredNames (declarationsOf ns)) → repeatedNames z ns ≡ []
 unfolding repeatedNames declarationsOf declaredNames Offs Uniq placeIf
 uniq-twice [] z h o = refl
-uniq-twice (noted s d ∷ r) z h o = rw (off-new (nameKey d) z (h .0)) (uniq-twice r (nameKey d ∷ z) (offs-cons (declaredNames (declarationsOf r)) z (nameKey d) (h .1) (o .0)) (o .1))
+uniq-twice (noted s d ∷ r) z h o = rw (off-new (nameKey d) z (h .0)) (uniq-twice r (nameKey d ∷ z) (unpacked-cons (declaredNames (declarationsOf r)) z (nameKey d) (h .1) (o .0)) (o .1))
 
 -- ---- a test over declarations, and over records
 

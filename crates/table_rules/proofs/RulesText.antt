@@ -31,7 +31,7 @@ use Rattle.table_rules.proofs.ShownNames.{Uniq, declaredNames, uniq-mad
 use Rattle.table_rules.proofs.GoodTokens.{GoodDeclaration, good-print}
 use Rattle.table_rules.proofs.TextSize.{SmallDeclaration, fits-limit}
 use Rattle.table_rules.proofs.Depth.{LowEnough, nest-print}
-use Rattle.table_rules.proofs.FaultLaws.{new-uniq, offs-nil, uniq-twice, Passes, all-spots, none-spots, nil-places}
+use Rattle.table_rules.proofs.FaultLaws.{new-uniq, unpacked-nil, uniq-twice, Passes, all-spots, none-spots, nil-places}
 use Rattle.table_rules.proofs.RuleFacts.{fine-of, every-all, all-map, top-lt, tops-of, ok-of, Fine}
 use Rattle.table_rules.proofs.Made.{kinds-made, length-made, name-passes, tag-passes, reference-passes, range-passes, count-passes, dangling-passes, good-made, small-made, all-made}
 use Rattle.table_rules.proofs.MadeOrder.{order-made}
@@ -79,7 +79,7 @@ all-empty text items ns rs h e p =
                 (
                   nil _ (none-spots (rule7Broken rs) (λ s. s .nameAt) 0 rs ns (c .1)),
                   (
-                    nil _ (rw (uniq-twice ns [] (offs-nil (declaredNames (declarationsOf ns))) (p .once), none-spots (tagRepeated rs) (λ s. s .tagAt) 0 rs ns (c .2))),
+                    nil _ (rw (uniq-twice ns [] (unpacked-nil (declaredNames (declarationsOf ns))) (p .once), none-spots (tagRepeated rs) (λ s. s .tagAt) 0 rs ns (c .2))),
                     (
                       nil _ (rw (none-spots rootNoStruct (λ s. s .nameAt) 0 rs ns (c .3), all-spots (dangling (topNames (declarationsOf ns))) (λ s. s .typeAt) ns (p .aims))),
                       (

@@ -33,7 +33,7 @@ use Rattle.unknown.specs.Along.{Tail, here, tokensAt, Stopped}
 use Rattle.unknown.specs.Passing.{leftOf, Ended as Passed, Halted}
 use Rattle.unknown.proofs.AlongLaws.{tail-trans, tail-length, tail-drop, tokens-length, step-tail}
 use Rattle.unknown.proofs.Steps.{left-got, left-refused}
-use Rattle.lookup.specs.Questions.{schemaAt, foundOf}
+use Rattle.lookup.specs.Questions.{withFind, schemaAt, foundOf}
 use Rattle.lookup.specs.declared.Found.{Found}
 use Rattle.lookup.specs.declared.Found.the-variants.{Nowhere, At}
 use Rattle.lookup.specs.Seen.{Marks}
@@ -217,7 +217,7 @@ equals-none (closing ∷ r) f a = refl
 
 module _ (t o : List ℕ) (n : ℕ) where
   bare-below : (u q : ℕ) → schemaAt t o n .bare u ≡ found q → q < n
-  unfolding schemaOf
+  unfolding schemaOf withFind
   bare-below u q e = untagged-below t o n u 0 q e
 
   bare-found : (u q : ℕ) (b : Bool) → bareFor (schemaAt t o n .bare u) b ≡ found q → schemaAt t o n .bare u ≡ found q

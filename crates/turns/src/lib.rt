@@ -103,7 +103,7 @@ fn between(s: &[u8], a: usize, e: usize) -> &[u8]
 // A value of a simple type, whose record is u.
 pub fn simple(
     table: &[u8],
-    offs: &[u32],
+    unpacked: &[u32],
     n: usize,
     s: &[u8],
     rows: &mut [u32],
@@ -112,7 +112,7 @@ pub fn simple(
 ) -> Got
     requires { ⌜ Room f (length (now s)) n ⌝ }
     requires { ⌜ f .parameter < n ⌝ }
-    ensures { λ r. ⌜ EndsValue (simpleAt (schemaAt (now (table .entry)) (now (offs .entry)) n) u (tokensAt (f .base) (now (s .entry)) (f .at))) (now (s .entry)) f (now (rows .entry)) (now (rows .exit)) r ⌝ }
+    ensures { λ r. ⌜ EndsValue (simpleAt (schemaAt (now (table .entry)) (now (unpacked .entry)) n) u (tokensAt (f .base) (now (s .entry)) (f .at))) (now (s .entry)) f (now (rows .entry)) (now (rows .exit)) r ⌝ }
 {
     let c = Cursor { at: f.at };
     let h = c.head(s);
@@ -120,11 +120,11 @@ pub fn simple(
     let past = h.past;
     let e = past.at;
     if h.kind == tokens::WORD {
-        let number = lookup::judge(table, offs, n, u, &s[a..e], false);
+        let number = lookup::judge(table, unpacked, n, u, &s[a..e], false);
         return leaf(rows, f, number, a, past);
     }
     if h.kind == tokens::STRING {
-        let number = lookup::judge(table, offs, n, u, between(s, a, e), true);
+        let number = lookup::judge(table, unpacked, n, u, between(s, a, e), true);
         return leaf(rows, f, number, a, past);
     }
     Got::Refused(unfit(h.kind), f.base + a)
@@ -188,7 +188,7 @@ pub enum Choice {
 // The alternative of the union u with the word from a on as its tag.
 fn alternative(
     table: &[u8],
-    offs: &[u32],
+    unpacked: &[u32],
     n: usize,
     s: &[u8],
     f: Frame,
@@ -197,13 +197,13 @@ fn alternative(
     past: Cursor,
 ) -> Choice
     requires { ⌜ (f .base + length (now s) ≤ messageLimit) × (a ≤ past .at) × (past .at ≤ length (now s)) ⌝ }
-    ensures { λ r. ⌜ ChosenAt (now (table .entry)) (now (offs .entry)) n (now (s .entry)) f u a (past .at) r ⌝ }
+    ensures { λ r. ⌜ ChosenAt (now (table .entry)) (now (unpacked .entry)) n (now (s .entry)) f u a (past .at) r ⌝ }
 {
     let e = past.at;
-    match lookup::find(table, offs, n, u, &s[a..e]) {
+    match lookup::find(table, unpacked, n, u, &s[a..e]) {
         Found::Nowhere => Choice::Refused(28, f.base + a),
         Found::At(q) => {
-            if lookup::is_void(table, offs, n, q) {
+            if lookup::is_void(table, unpacked, n, q) {
                 return Choice::Last(q, a, past);
             }
             let h = past.head(s);
@@ -217,19 +217,19 @@ fn alternative(
 }
 
 // The untagged int of the union u that the word is judged as.
-fn bare_for(table: &[u8], offs: &[u32], n: usize, u: usize, word: &[u8]) -> Found
-    ensures { λ r. ⌜ bareAt (now (table .entry)) (now (offs .entry)) n u (now (word .entry)) r ⌝ }
+fn bare_for(table: &[u8], unpacked: &[u32], n: usize, u: usize, word: &[u8]) -> Found
+    ensures { λ r. ⌜ bareAt (now (table .entry)) (now (unpacked .entry)) n u (now (word .entry)) r ⌝ }
 {
     if numbers::is_int_like(word) {
-        return lookup::bare(table, offs, n, u);
+        return lookup::bare(table, unpacked, n, u);
     }
     Found::Nowhere
 }
 
 // What a union's value begins with.
-pub fn choose(table: &[u8], offs: &[u32], n: usize, s: &[u8], f: Frame, u: usize) -> Choice
+pub fn choose(table: &[u8], unpacked: &[u32], n: usize, s: &[u8], f: Frame, u: usize) -> Choice
     requires { ⌜ f .base + length (now s) ≤ messageLimit ⌝ }
-    ensures { λ r. ⌜ ChoiceAt (now (table .entry)) (now (offs .entry)) n (now (s .entry)) f u r ⌝ }
+    ensures { λ r. ⌜ ChoiceAt (now (table .entry)) (now (unpacked .entry)) n (now (s .entry)) f u r ⌝ }
 {
     let c = Cursor { at: f.at };
     let h = c.head(s);
@@ -237,16 +237,16 @@ pub fn choose(table: &[u8], offs: &[u32], n: usize, s: &[u8], f: Frame, u: usize
     let past = h.past;
     let e = past.at;
     if h.kind == tokens::WORD {
-        match bare_for(table, offs, n, u, &s[a..e]) {
+        match bare_for(table, unpacked, n, u, &s[a..e]) {
             Found::At(q) => {
-                let number = lookup::judge(table, offs, n, q, &s[a..e], false);
+                let number = lookup::judge(table, unpacked, n, q, &s[a..e], false);
                 if number == 0 {
                     return Choice::Last(q, a, past);
                 }
                 return Choice::Refused(number, f.base + a);
             }
             Found::Nowhere => {
-                return alternative(table, offs, n, s, f, u, a, past);
+                return alternative(table, unpacked, n, s, f, u, a, past);
             }
         }
     }
@@ -264,7 +264,7 @@ pub enum After {
 // What follows the c-th value of the field q, which ends at v.
 pub fn after_value(
     table: &[u8],
-    offs: &[u32],
+    unpacked: &[u32],
     n: usize,
     s: &[u8],
     base: usize,
@@ -273,22 +273,22 @@ pub fn after_value(
     c: usize,
 ) -> After
     requires { ⌜ base + length (now s) ≤ messageLimit ⌝ }
-    ensures { λ r. ⌜ AfterAt (now (table .entry)) (now (offs .entry)) n (now (s .entry)) base q (v .at) c r ⌝ }
+    ensures { λ r. ⌜ AfterAt (now (table .entry)) (now (unpacked .entry)) n (now (s .entry)) base q (v .at) c r ⌝ }
 {
     if v.lacks_comma(s) {
-        if lookup::lo(table, offs, n, q) <= c {
+        if lookup::lo(table, unpacked, n, q) <= c {
             return After::Last;
         }
     }
     let h = v.head(s);
     let past = h.past;
     if h.kind == tokens::COMMA {
-        if lookup::may_grow(lookup::hi(table, offs, n, q), c) {
+        if lookup::may_grow(lookup::hi(table, unpacked, n, q), c) {
             return After::More(past);
         }
         return After::Refused(25, base + h.start);
     }
-    if lookup::lo(table, offs, n, q) <= c {
+    if lookup::lo(table, unpacked, n, q) <= c {
         return After::Last;
     }
     After::Refused(25, base + h.start)
@@ -332,7 +332,7 @@ fn int_row(rows: &mut [u32], f: Frame, end: usize)
 
 pub fn quick_int(
     table: &[u8],
-    offs: &[u32],
+    unpacked: &[u32],
     n: usize,
     s: &[u8],
     rows: &mut [u32],
@@ -342,8 +342,8 @@ pub fn quick_int(
 ) -> Quick
     requires { ⌜ Room f (length (now s)) n ⌝ }
     requires { ⌜ (f .parameter < n) × (c < 4294967296) ⌝ }
-    requires { ⌜ IntsOf (schemaAt (now table) (now offs) n) (f .parameter) e ⌝ }
-    ensures { λ r. ⌜ QuickAt (schemaAt (now (table .entry)) (now (offs .entry)) n) (now (s .entry)) f c (now (rows .entry)) (now (rows .exit)) r ⌝ }
+    requires { ⌜ IntsOf (schemaAt (now table) (now unpacked) n) (f .parameter) e ⌝ }
+    ensures { λ r. ⌜ QuickAt (schemaAt (now (table .entry)) (now (unpacked .entry)) n) (now (s .entry)) f c (now (rows .entry)) (now (rows .exit)) r ⌝ }
 {
     if !e.on {
         return Quick::Slow;
@@ -402,16 +402,16 @@ pub enum Start {
 }
 
 // Whether the list of the untagged field f.parameter starts here.
-pub fn field_at(table: &[u8], offs: &[u32], n: usize, s: &[u8], f: Frame, inside: bool) -> Start
+pub fn field_at(table: &[u8], unpacked: &[u32], n: usize, s: &[u8], f: Frame, inside: bool) -> Start
     requires { ⌜ f .base + length (now s) ≤ messageLimit ⌝ }
-    ensures { λ r. ⌜ StartAt (now (table .entry)) (now (offs .entry)) n (now (s .entry)) f inside r ⌝ }
+    ensures { λ r. ⌜ StartAt (now (table .entry)) (now (unpacked .entry)) n (now (s .entry)) f inside r ⌝ }
 {
     let c = Cursor { at: f.at };
     let h = c.head(s);
     let number = end_at(
         h.kind,
         inside,
-        lookup::lo(table, offs, n, f.parameter) == 0,
+        lookup::lo(table, unpacked, n, f.parameter) == 0,
         1,
     );
     if number == 1 {
@@ -455,7 +455,7 @@ fn unknown_item(s: &[u8], base: usize, past: Cursor) -> Item
 // The item of the known field q, whose tag stands from a on.
 fn known_item(
     table: &[u8],
-    offs: &[u32],
+    unpacked: &[u32],
     n: usize,
     s: &[u8],
     base: usize,
@@ -465,12 +465,12 @@ fn known_item(
     past: Cursor,
 ) -> Item
     requires { ⌜ (base + length (now s) ≤ messageLimit) × (a ≤ length (now s)) ⌝ }
-    ensures { λ r. ⌜ KnownAt (now (table .entry)) (now (offs .entry)) n (now (s .entry)) base (now (seen .entry)) q a (past .at) r ⌝ }
+    ensures { λ r. ⌜ KnownAt (now (table .entry)) (now (unpacked .entry)) n (now (s .entry)) base (now (seen .entry)) q a (past .at) r ⌝ }
 {
     if lookup::is_marked(seen, q) {
         return Item::Refused(26, base + a);
     }
-    if lookup::is_void(table, offs, n, q) {
+    if lookup::is_void(table, unpacked, n, q) {
         return Item::Void(q, a, past);
     }
     let h = past.head(s);
@@ -484,7 +484,7 @@ fn known_item(
 // What stands at an item's place in the body of f.parameter.
 pub fn item_at(
     table: &[u8],
-    offs: &[u32],
+    unpacked: &[u32],
     n: usize,
     s: &[u8],
     f: Frame,
@@ -492,7 +492,7 @@ pub fn item_at(
     seen: &[bool; 256],
 ) -> Item
     requires { ⌜ f .base + length (now s) ≤ messageLimit ⌝ }
-    ensures { λ r. ⌜ ItemAt (now (table .entry)) (now (offs .entry)) n (now (s .entry)) f inside (now (seen .entry)) r ⌝ }
+    ensures { λ r. ⌜ ItemAt (now (table .entry)) (now (unpacked .entry)) n (now (s .entry)) f inside (now (seen .entry)) r ⌝ }
 {
     let c = Cursor { at: f.at };
     let h = c.head(s);
@@ -500,19 +500,19 @@ pub fn item_at(
     let past = h.past;
     let e = past.at;
     if h.kind == tokens::WORD {
-        match lookup::find(table, offs, n, f.parameter, &s[a..e]) {
+        match lookup::find(table, unpacked, n, f.parameter, &s[a..e]) {
             Found::Nowhere => {
                 return unknown_item(s, f.base, past);
             }
             Found::At(q) => {
-                return known_item(table, offs, n, s, f.base, seen, q, a, past);
+                return known_item(table, unpacked, n, s, f.base, seen, q, a, past);
             }
         }
     }
     let number = end_at(
         h.kind,
         inside,
-        lookup::complete(table, offs, n, f.parameter, seen),
+        lookup::complete(table, unpacked, n, f.parameter, seen),
         23,
     );
     if number == 0 {

@@ -106,15 +106,15 @@ upto-end zero = refl
 upto-end (suc m) = refl
 
 -- n records that end at a place: the decoder gives them and what it gives of the rest
-pub record Along (t offs : List ℕ) (n at : ℕ) : Type 0 where
+pub record Along (t unpacked : List ℕ) (n at : ℕ) : Type 0 where
   pub inside : at ≤ length t
   pub least : 24 * n ≤ at
   pub most : at ≤ 65536 * n
   pub few : n ≤ 256
-  pub found : Enough (length t) (length offs) → decode t ≡ after (recordsAt t offs n) (decodeUpTo (length t - n) (drop at t))
+  pub found : Enough (length t) (length unpacked) → decode t ≡ after (recordsAt t unpacked n) (decodeUpTo (length t - n) (drop at t))
 
-pub along-start : (t offs : List ℕ) → Along t offs 0 0
-along-start t offs = record {
+pub along-start : (t unpacked : List ℕ) → Along t unpacked 0 0
+along-start t unpacked = record {
   inside = omega arith;
   least = omega arith;
   most = omega arith;
@@ -125,11 +125,12 @@ along-start t offs = record {
     e : length t - 0 ≡ length t
     e = omega arith
 
-module _ (t offs : List ℕ) (n at : ℕ) (a : Along t offs n at) where
-  pub along-end : length t ≤ at → Enough (length t) (length offs) → Counted t offs n
+module _ (t unpacked : List ℕ) (n at : ℕ) (a : Along t unpacked n at) where
+  pub along-end : length t ≤ at → Enough (length t) (length unpacked) → Counted t unpacked n
   along-end h r = record {
     few = a .few;
-    these = a .found r ∙ (rw (drop-of-length-le t h, upto-end (length t - n)) (unfold mapMaybe in (ap just (append-nil (recordsAt t offs n)))));
+    long = omega (arith, a .least, a .inside);
+    these = a .found r ∙ (rw (drop-of-length-le t h, upto-end (length t - n)) (unfold mapMaybe in (ap just (append-nil (recordsAt t unpacked n)))));
   }
 
   module _ (h : at < length t) where
@@ -140,11 +141,11 @@ module _ (t offs : List ℕ) (n at : ℕ) (a : Along t offs n at) where
         rw e (upto-more (length t - (n + 1)) (drop at t) (rw length-drop (omega arith)))
 
     -- one record more is unpacked
-    pub along-more : (s : ℕ) (cs : List ℕ) → s ≡ lengthAt t at → s < 65536 → (s ≡ 0 → ⊥) → (n ≡ 256 → ⊥) → length cs ≡ length offs → (n < parameterLimit → headCells + recordCells * (n + 1) ≤ length offs → Unpacked t at offs n cs) → Along t cs (n + 1) (at + s)
+    pub along-more : (s : ℕ) (cs : List ℕ) → s ≡ lengthAt t at → s < 65536 → (s ≡ 0 → ⊥) → (n ≡ 256 → ⊥) → length cs ≡ length unpacked → (n < parameterLimit → headCells + recordCells * (n + 1) ≤ length unpacked → Unpacked t at unpacked n cs) → Along t cs (n + 1) (at + s)
     along-more s cs e b z m l u = go s (rw e (look t at h)) b z
       where
-        noted : Unpacked t at offs n cs → recordsAt t cs (n + 1) ≡ recordsAt t offs n ++ (storedAt t at ∷ [])
-        noted v = records-one-more t cs n ∙ rw (records-unpacked t offs cs n (v .others), v .here)
+        noted : Unpacked t at unpacked n cs → recordsAt t cs (n + 1) ≡ recordsAt t unpacked n ++ (storedAt t at ∷ [])
+        noted v = records-one-more t cs n ∙ rw (records-unpacked t unpacked cs n (v .others), v .here)
 
         go : (s : ℕ) → Look t at s → s < 65536 → (s ≡ 0 → ⊥) → Along t cs (n + 1) (at + s)
         go s (nothing f) b z = absurd (z refl)
@@ -154,25 +155,25 @@ module _ (t offs : List ℕ) (n at : ℕ) (a : Along t offs n at) where
           most = omega (arith, a .most);
           few = omega (arith, a .few);
           found = λ r.
-              (let q : Enough (length t) (length offs) = (rw l at r) in
-              let v : Unpacked t at offs n cs = u (omega (arith, a .few)) (q (n + 1) (omega (arith, a .few)) (omega (arith, a .least, i, k))) in
-              a .found q ∙ (rw (next-record, f _, noted v) (after-one (recordsAt t offs n) (storedAt t at) _)));
+              (let q : Enough (length t) (length unpacked) = (rw l at r) in
+              let v : Unpacked t at unpacked n cs = u (omega (arith, a .few)) (q (n + 1) (omega (arith, a .few)) (omega (arith, a .least, i, k))) in
+              a .found q ∙ (rw (next-record, f _, noted v) (after-one (recordsAt t unpacked n) (storedAt t at) _)));
         }
 
-    pub along-stuck : (s : ℕ) → s ≡ lengthAt t at → s ≡ 0 → Enough (length t) (length offs) → Uncounted t
+    pub along-stuck : (s : ℕ) → s ≡ lengthAt t at → s ≡ 0 → Enough (length t) (length unpacked) → Uncounted t
     along-stuck s e z r rs d = go s (rw e (look t at h)) z
       where
         go : (s : ℕ) → Look t at s → s ≡ 0 → parameterLimit < length rs
         go s (nothing f) z = none-just (sym (a .found r ∙ rw (next-record, f _) (unfold mapMaybe in refl)) ∙ d)
         go s (whole i k f) z = absurd (omega arith)
 
-    pub along-full : n ≡ 256 → Enough (length t) (length offs) → Uncounted t
+    pub along-full : n ≡ 256 → Enough (length t) (length unpacked) → Uncounted t
     along-full m r rs d = go (look t at h)
       where
-        more : (q : Maybe (List Record)) → after (recordsAt t offs n) (mapMaybe (λ qs. storedAt t at ∷ qs) q) ≡ just rs → parameterLimit < length rs
+        more : (q : Maybe (List Record)) → after (recordsAt t unpacked n) (mapMaybe (λ qs. storedAt t at ∷ qs) q) ≡ just rs → parameterLimit < length rs
         more none e = unfold mapMaybe in (none-just e)
         more (just qs) e = unfold mapMaybe in (
-            let x : recordsAt t offs n ++ (storedAt t at ∷ qs) ≡ rs = cc in
+            let x : recordsAt t unpacked n ++ (storedAt t at ∷ qs) ≡ rs = cc in
             omega (arith, simp (length-append, length-records) at (ap length x)))
 
         go : {s : ℕ} → Look t at s → parameterLimit < length rs

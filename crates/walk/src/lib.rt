@@ -41,8 +41,8 @@ fn length_at(table: &[u8], at: usize) -> usize
 }
 
 // Unpacks the records of a table, if there is room for them all.
-pub fn unpack(table: &[u8], offs: &mut [u32]) -> Walk
-    ensures { λ r. ⌜ (Enough (length (now (table .entry))) (length (now (offs .entry))) → Walked (now (table .entry)) (now (offs .exit)) r) ⌝ }
+pub fn unpack(table: &[u8], unpacked: &mut [u32]) -> Walk
+    ensures { λ r. ⌜ (Enough (length (now (table .entry))) (length (now (unpacked .entry))) → Walked (now (table .entry)) (now (unpacked .exit)) r) ⌝ }
 {
     let mut n: usize = 0;
     let mut at: usize = 0;
@@ -54,7 +54,7 @@ pub fn unpack(table: &[u8], offs: &mut [u32]) -> Walk
         if size == 0 {
             return Walk::Bad;
         }
-        records::unpack(table, at as u32, offs, n);
+        records::unpack(table, at as u32, unpacked, n);
         n += 1;
         at += size;
     }

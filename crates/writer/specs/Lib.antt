@@ -1,2 +1,2 @@
--- The bytes and offsets that are written.
+-- The bytes that are written.
 pub mod Written

@@ -1,3 +1,4 @@
+use Rattle.lookup.specs.Questions.{withFind}
 use denote.Ref.{now}
 use Rattle.schema.specs.Record.{Record, blank}
 use Rattle.schema.specs.Schema.{schemaOf}
@@ -5,17 +6,23 @@ use Rattle.lookup.proofs.Steps.{past, here}
 use borrow.Author.Needs.{needs}
 use Rattle.lookup.proofs.hi.Statement.{statement}
 use Rattle.lookup.proofs.hi.Tie as tie
+use Rattle.lookup.proofs.hi.Reads as reads
+use Rattle.lookup.proofs.hi.Lts as lts
+use Rattle.records.proofs.hi_count_at.Reads as hi-count-at-reads
 
+-- src/lib.rt:90:9
 returns : tie.Need-returns
-unfolding blank schemaOf
-returns c = past (λ (r : Record). r .hiCount) (now (c .before .before .before .args .table)) (now (c .before .before .before .args .offs)) (c .before .before .before .args .n) (c .before .before .before .args .p) (c .if1 .taken)
+unfolding blank schemaOf withFind
+returns c = past (λ (r : Record). r .hiCount) (now (c .before .before .before .args .table)) (now (c .before .before .before .args .unpacked)) (c .before .before .before .args .n) (c .before .before .before .args .p) (c .if1 .taken)
 
+-- src/lib.rt:92:5
 hi-count-at-requires : tie.Need-hi-count-at-requires
 hi-count-at-requires c κs = search needs
 
+-- src/lib.rt:86:1
 returns-2 : tie.Need-returns-2
-unfolding schemaOf
-returns-2 c = here (λ (r : Record). r .hiCount) (now (c .before .before .before .before .args .table)) (now (c .before .before .before .before .args .offs)) (c .before .before .before .before .args .n) (c .before .before .before .before .args .p) (c .before .if1 .left) (c .hi-count-at .ensures)
+unfolding schemaOf withFind
+returns-2 c = here (λ (r : Record). r .hiCount) (now (c .before .before .before .before .args .table)) (now (c .before .before .before .before .args .unpacked)) (c .before .before .before .before .args .n) (c .before .before .before .before .args .p) (c .before .if1 .left) (c .hi-count-at .ensures)
 
 pub hi-spec : {M : Type 1} → statement M
 hi-spec = tie.close (tie.spec returns hi-count-at-requires returns-2)

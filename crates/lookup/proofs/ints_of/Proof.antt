@@ -23,7 +23,7 @@ most-at-requires : tie.Need-most-at-requires
 most-at-requires c κs = search needs
 
 returns-2 : tie.Need-returns-2
-returns-2 c = ints-some (now (c .before .before .before .before .before .before .before .before .args .table)) (now (c .before .before .before .before .before .before .before .before .args .offs)) _ _ _ (c .before .before .before .before .before .core .ensures) (c .before .before .before .if1 .left) _ _ _ _ (rw (c .before .before .kind-at .ensures)) (c .before .least-at .ensures) (c .most-at .ensures) (c .before .before .before .before .hi .ensures)
+returns-2 c = ints-some (now (c .before .before .before .before .before .before .before .before .args .table)) (now (c .before .before .before .before .before .before .before .before .args .unpacked)) _ _ _ (c .before .before .before .before .before .core .ensures) (c .before .before .before .if1 .left) _ _ _ _ (rw (c .before .before .kind-at .ensures)) (c .before .least-at .ensures) (c .most-at .ensures) (c .before .before .before .before .hi .ensures)
 
 pub ints-of-spec : {M : Type 1} → statement M
 ints-of-spec =

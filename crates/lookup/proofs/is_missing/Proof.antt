@@ -10,7 +10,7 @@ is-marked-requires : tie.Need-is-marked-requires
 is-marked-requires c κs = search needs
 
 returns : tie.Need-returns
-returns c = stopped (isRequiredOf (c .before .before .before .before .before .args .p) (recordIn (now (c .before .before .before .before .before .args .table)) (now (c .before .before .before .before .before .args .offs)) (c .before .before .before .before .before .args .i))) (c .before .is-marked .ensures) (c .if1 .taken)
+returns c = stopped (isRequiredOf (c .before .before .before .before .before .args .p) (recordIn (now (c .before .before .before .before .before .args .table)) (now (c .before .before .before .before .before .args .unpacked)) (c .before .before .before .before .before .args .i))) (c .before .is-marked .ensures) (c .if1 .taken)
 
 is-required-of-requires : tie.Need-is-required-of-requires
 is-required-of-requires c κs = search needs

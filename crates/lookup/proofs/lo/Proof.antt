@@ -1,3 +1,4 @@
+use Rattle.lookup.specs.Questions.{withFind}
 use denote.Ref.{now}
 use Rattle.schema.specs.Record.{Record, blank}
 use Rattle.schema.specs.Schema.{schemaOf}
@@ -5,17 +6,23 @@ use Rattle.lookup.proofs.Steps.{past, here}
 use borrow.Author.Needs.{needs}
 use Rattle.lookup.proofs.lo.Statement.{statement}
 use Rattle.lookup.proofs.lo.Tie as tie
+use Rattle.lookup.proofs.lo.Reads as reads
+use Rattle.lookup.proofs.lo.Lts as lts
+use Rattle.records.proofs.lo_count_at.Reads as lo-count-at-reads
 
+-- src/lib.rt:80:9
 returns : tie.Need-returns
-unfolding blank schemaOf
-returns c = past (λ (r : Record). r .loCount) (now (c .before .before .before .args .table)) (now (c .before .before .before .args .offs)) (c .before .before .before .args .n) (c .before .before .before .args .p) (c .if1 .taken)
+unfolding blank schemaOf withFind
+returns c = past (λ (r : Record). r .loCount) (now (c .before .before .before .args .table)) (now (c .before .before .before .args .unpacked)) (c .before .before .before .args .n) (c .before .before .before .args .p) (c .if1 .taken)
 
+-- src/lib.rt:82:5
 lo-count-at-requires : tie.Need-lo-count-at-requires
 lo-count-at-requires c κs = search needs
 
+-- src/lib.rt:76:1
 returns-2 : tie.Need-returns-2
-unfolding schemaOf
-returns-2 c = here (λ (r : Record). r .loCount) (now (c .before .before .before .before .args .table)) (now (c .before .before .before .before .args .offs)) (c .before .before .before .before .args .n) (c .before .before .before .before .args .p) (c .before .if1 .left) (c .lo-count-at .ensures)
+unfolding schemaOf withFind
+returns-2 c = here (λ (r : Record). r .loCount) (now (c .before .before .before .before .args .table)) (now (c .before .before .before .before .args .unpacked)) (c .before .before .before .before .args .n) (c .before .before .before .before .args .p) (c .before .if1 .left) (c .lo-count-at .ensures)
 
 pub lo-spec : {M : Type 1} → statement M
 lo-spec = tie.close (tie.spec returns lo-count-at-requires returns-2)

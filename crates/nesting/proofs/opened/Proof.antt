@@ -37,13 +37,13 @@ same-length : tie.Need-same-length
 same-length c = search needs
 
 returns : tie.Need-returns
-returns c = (rw (c .before .before .put .ensures) (opened-yes (c .before .before .before .before .before .before .before .before .before .note-extension .last .0) (c .before .before .before .before .before .before .before .before .before .before .before .before .before .before .before .args .depth) (c .before .before .before .before .before .before .before .before .before .before .before .before .before .before .before .args .i) (inExtension ((recordIn (c .before .before .before .before .before .before .before .before .before .before .before .before .before .before .before .args .table .now) (c .before .before .before .before .before .before .before .before .before .before .before .before .before .before .before .args .offs .now) (c .before .before .before .before .before .before .before .before .before .before .before .before .before .before .before .args .i)) .extension) (framesOf (c .before .before .before .before .before .before .before .before .before .before .before .before .before .before .before .args .bodies .now) (c .before .before .before .before .before .before .before .before .before .before .before .before .before .before .before .args .depth))) (kindIsCompound ((recordIn (c .before .before .before .before .before .before .before .before .before .before .before .before .before .before .before .args .table .now) (c .before .before .before .before .before .before .before .before .before .before .before .before .before .before .before .args .offs .now) (c .before .before .before .before .before .before .before .before .before .before .before .before .before .before .before .args .i)) .kind)) (rw (c .before .before .before .before .before .before .before .before .before .before .extension-at .ensures) at (c .before .before .before .before .before .before .before .before .before .note-extension .ensures)) (omega (arith, c .before .before .before .before .before .before .before .before .before .note-extension .kept .0, c .before .before .before .before .before .before .before .before .before .before .before .before .before .before .before .pre .2 (ap kindIsCompound (sym (c .before .before .before .before .before .before .kind-at .ensures)) ∙ (sym (c .before .before .before .before .before .is-compound .ensures) ∙ c .before .before .before .before .if1 .taken)))) (ap kindIsCompound (sym (c .before .before .before .before .before .before .kind-at .ensures)) ∙ (sym (c .before .before .before .before .before .is-compound .ensures) ∙ c .before .before .before .before .if1 .taken))), omega (arith, c .before .before .before .before .before .before .before .before .before .before .before .before .before .before .before .pre .2 (ap kindIsCompound (sym (c .before .before .before .before .before .before .kind-at .ensures)) ∙ (sym (c .before .before .before .before .before .is-compound .ensures) ∙ c .before .before .before .before .if1 .taken))))
+returns c = (rw (c .before .before .put .ensures) (opened-yes (c .before .before .before .before .before .before .before .before .before .note-extension .last .0) (c .before .before .before .before .before .before .before .before .before .before .before .before .before .before .before .args .depth) (c .before .before .before .before .before .before .before .before .before .before .before .before .before .before .before .args .i) (inExtension ((recordIn (c .before .before .before .before .before .before .before .before .before .before .before .before .before .before .before .args .table .now) (c .before .before .before .before .before .before .before .before .before .before .before .before .before .before .before .args .unpacked .now) (c .before .before .before .before .before .before .before .before .before .before .before .before .before .before .before .args .i)) .extension) (framesOf (c .before .before .before .before .before .before .before .before .before .before .before .before .before .before .before .args .bodies .now) (c .before .before .before .before .before .before .before .before .before .before .before .before .before .before .before .args .depth))) (kindIsCompound ((recordIn (c .before .before .before .before .before .before .before .before .before .before .before .before .before .before .before .args .table .now) (c .before .before .before .before .before .before .before .before .before .before .before .before .before .before .before .args .unpacked .now) (c .before .before .before .before .before .before .before .before .before .before .before .before .before .before .before .args .i)) .kind)) (rw (c .before .before .before .before .before .before .before .before .before .before .extension-at .ensures) at (c .before .before .before .before .before .before .before .before .before .note-extension .ensures)) (omega (arith, c .before .before .before .before .before .before .before .before .before .note-extension .kept .0, c .before .before .before .before .before .before .before .before .before .before .before .before .before .before .before .pre .2 (ap kindIsCompound (sym (c .before .before .before .before .before .before .kind-at .ensures)) ∙ (sym (c .before .before .before .before .before .is-compound .ensures) ∙ c .before .before .before .before .if1 .taken)))) (ap kindIsCompound (sym (c .before .before .before .before .before .before .kind-at .ensures)) ∙ (sym (c .before .before .before .before .before .is-compound .ensures) ∙ c .before .before .before .before .if1 .taken))), omega (arith, c .before .before .before .before .before .before .before .before .before .before .before .before .before .before .before .pre .2 (ap kindIsCompound (sym (c .before .before .before .before .before .before .kind-at .ensures)) ∙ (sym (c .before .before .before .before .before .is-compound .ensures) ∙ c .before .before .before .before .if1 .taken))))
 
 same-length-2 : tie.Need-same-length-2
 same-length-2 c = search needs
 
 returns-2 : tie.Need-returns-2
-returns-2 c = (opened-no (c .before .before .before .before .before .note-extension .last .0) (c .before .before .before .before .before .before .before .before .before .before .before .args .depth) (c .before .before .before .before .before .before .before .before .before .before .before .args .i) (inExtension ((recordIn (c .before .before .before .before .before .before .before .before .before .before .before .args .table .now) (c .before .before .before .before .before .before .before .before .before .before .before .args .offs .now) (c .before .before .before .before .before .before .before .before .before .before .before .args .i)) .extension) (framesOf (c .before .before .before .before .before .before .before .before .before .before .before .args .bodies .now) (c .before .before .before .before .before .before .before .before .before .before .before .args .depth))) (kindIsCompound ((recordIn (c .before .before .before .before .before .before .before .before .before .before .before .args .table .now) (c .before .before .before .before .before .before .before .before .before .before .before .args .offs .now) (c .before .before .before .before .before .before .before .before .before .before .before .args .i)) .kind)) (rw (c .before .before .before .before .before .before .extension-at .ensures) at (c .before .before .before .before .before .note-extension .ensures)) (ap kindIsCompound (sym (c .before .before .kind-at .ensures)) ∙ (sym (c .before .is-compound .ensures) ∙ c .if1 .left)), c .before .before .before .before .before .before .before .before .before .before .before .pre .1)
+returns-2 c = (opened-no (c .before .before .before .before .before .note-extension .last .0) (c .before .before .before .before .before .before .before .before .before .before .before .args .depth) (c .before .before .before .before .before .before .before .before .before .before .before .args .i) (inExtension ((recordIn (c .before .before .before .before .before .before .before .before .before .before .before .args .table .now) (c .before .before .before .before .before .before .before .before .before .before .before .args .unpacked .now) (c .before .before .before .before .before .before .before .before .before .before .before .args .i)) .extension) (framesOf (c .before .before .before .before .before .before .before .before .before .before .before .args .bodies .now) (c .before .before .before .before .before .before .before .before .before .before .before .args .depth))) (kindIsCompound ((recordIn (c .before .before .before .before .before .before .before .before .before .before .before .args .table .now) (c .before .before .before .before .before .before .before .before .before .before .before .args .unpacked .now) (c .before .before .before .before .before .before .before .before .before .before .before .args .i)) .kind)) (rw (c .before .before .before .before .before .before .extension-at .ensures) at (c .before .before .before .before .before .note-extension .ensures)) (ap kindIsCompound (sym (c .before .before .kind-at .ensures)) ∙ (sym (c .before .is-compound .ensures) ∙ c .if1 .left)), c .before .before .before .before .before .before .before .before .before .before .before .pre .1)
 
 pub opened-spec : {M : Type 1} → statement M
 opened-spec =

@@ -486,10 +486,10 @@ braced-returns-3 : (t : ℕ) → braced-lts.Need-returns-3 (
 braced-returns-3 t c = (rw (c .before .k2 .given .1) at (c .before .before .before .open-brace .ensures)) _ _
 
 abbrev choice-Inv-loop : choice-lts.InvT-loop
-choice-Inv-loop table offs n s rows₀ f g₀ rows g = Choosing (schemaAt table offs n) s f g n rows₀ rows
+choice-Inv-loop table unpacked n s rows₀ f g₀ rows g = Choosing (schemaAt table unpacked n) s f g n rows₀ rows
 
 abbrev choice-μ-loop : choice-lts.MeasureT-loop
-choice-μ-loop table offs n s rows₀ f g₀ rows g = length s - g .at
+choice-μ-loop table unpacked n s rows₀ f g₀ rows g = length s - g .at
 
 -- src/lib.rt:210:5
 choice-loop-holds : (t : ℕ) → choice-lts.Need-loop-holds (
@@ -1221,10 +1221,10 @@ field-returns-4 : (t : ℕ) → field-lts.Need-returns-4 (
 field-returns-4 t c = λ p qs. (rw (c .before .k2 .given .1) at (c .before .before .before .field-at .ensures)) _ p qs
 
 abbrev fields-Inv-loop : fields-lts.InvT-loop
-fields-Inv-loop table offs n s rows₀ inside g₀ i₀ rows g i = Fielding table offs n s g₀ g inside rows₀ rows i
+fields-Inv-loop table unpacked n s rows₀ inside g₀ i₀ rows g i = Fielding table unpacked n s g₀ g inside rows₀ rows i
 
 abbrev fields-μ-loop : fields-lts.MeasureT-loop
-fields-μ-loop table offs n s rows₀ inside g₀ i₀ rows g i = n - i
+fields-μ-loop table unpacked n s rows₀ inside g₀ i₀ rows g i = n - i
 
 -- src/lib.rt:482:5
 fields-loop-holds : (t : ℕ) → fields-lts.Need-loop-holds (
@@ -1857,10 +1857,10 @@ item-returns-6 : (t : ℕ) → item-lts.Need-returns-6 (
 item-returns-6 t c = λ ks m. λ fuel. (rw (c .before .k2 .given .1) at (c .before .before .before .item-at .ensures)) ks m _ fuel
 
 abbrev items-Inv-loop : items-lts.InvT-loop
-items-Inv-loop table offs n s rows₀ inside seen₀ g₀ rows seen g = Iteming (schemaAt table offs n) s g₀ g inside rows₀ rows seen
+items-Inv-loop table unpacked n s rows₀ inside seen₀ g₀ rows seen g = Iteming (schemaAt table unpacked n) s g₀ g inside rows₀ rows seen
 
 abbrev items-μ-loop : items-lts.MeasureT-loop
-items-μ-loop table offs n s rows₀ inside seen₀ g₀ rows seen g = length s - g .at
+items-μ-loop table unpacked n s rows₀ inside seen₀ g₀ rows seen g = length s - g .at
 
 -- src/lib.rt:429:20
 items-no-marks-requires : (t : ℕ) → items-lts.Need-no-marks-requires (
@@ -1973,10 +1973,10 @@ items-returns : (t : ℕ) → items-lts.Need-returns (
 items-returns t c = iteming-out (c .before .before .before .before .before .before .before .before .loop .inv) _ _ (c .before .before .before .before .before .item .result) (c .before .before .before .before .before .item .ensures) _ (c .before .o .given .1)
 
 abbrev list-Inv-loop : list-lts.InvT-loop
-list-Inv-loop table offs n s rows₀ e g₀ c₀ rows g c = Listing (schemaAt table offs n) s g₀ g rows₀ rows c
+list-Inv-loop table unpacked n s rows₀ e g₀ c₀ rows g c = Listing (schemaAt table unpacked n) s g₀ g rows₀ rows c
 
 abbrev list-μ-loop : list-lts.MeasureT-loop
-list-μ-loop table offs n s rows₀ e g₀ c₀ rows g c = length s - g .at
+list-μ-loop table unpacked n s rows₀ e g₀ c₀ rows g c = length s - g .at
 
 -- src/lib.rt:353:9
 list-ints-of-requires : (t : ℕ) → list-lts.Need-ints-of-requires (

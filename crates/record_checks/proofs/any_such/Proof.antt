@@ -9,22 +9,22 @@ use Rattle.record_checks.proofs.any_such.Statement.{statement}
 use Rattle.record_checks.proofs.any_such.Tie as tie
 
 abbrev Inv-loop : tie.InvT-loop
-Inv-loop table offs n m i such j₀ j = anyBefore m (isSuch such (recordIn table offs i)) (recordsAt table offs n) ≡ anyBefore (m - j) (isSuch such (recordIn table offs i)) (recordsFrom table offs (n - j) j)
+Inv-loop table unpacked n m i such j₀ j = anyBefore m (isSuch such (recordIn table unpacked i)) (recordsAt table unpacked n) ≡ anyBefore (m - j) (isSuch such (recordIn table unpacked i)) (recordsFrom table unpacked (n - j) j)
 
 abbrev μ-loop : tie.MeasureT-loop
-μ-loop table offs n m i such j₀ j = n - j
+μ-loop table unpacked n m i such j₀ j = n - j
 
 loop-holds : tie.Need-loop-holds Inv-loop μ-loop
-loop-holds c = any-start (isSuch (c .before .before .args .such) (recordIn (c .before .before .args .table .now) (c .before .before .args .offs .now) (c .before .before .args .i))) (c .before .before .args .table .now) (c .before .before .args .offs .now) (c .before .before .args .n) _
+loop-holds c = any-start (isSuch (c .before .before .args .such) (recordIn (c .before .before .args .table .now) (c .before .before .args .unpacked .now) (c .before .before .args .i))) (c .before .before .args .table .now) (c .before .before .args .unpacked .now) (c .before .before .args .n) _
 
 returns : tie.Need-returns Inv-loop μ-loop
-returns c = sym (c .before .before .loop .inv ∙ any-stop (isSuch (c .before .before .before .before .before .args .such) (recordIn (c .before .before .before .before .before .args .table .now) (c .before .before .before .before .before .args .offs .now) (c .before .before .before .before .before .args .i))) (c .before .before .before .before .before .args .table .now) (c .before .before .before .before .before .args .offs .now) (c .before .before .before .before .before .args .n) _ _ (c .if1 .taken))
+returns c = sym (c .before .before .loop .inv ∙ any-stop (isSuch (c .before .before .before .before .before .args .such) (recordIn (c .before .before .before .before .before .args .table .now) (c .before .before .before .before .before .args .unpacked .now) (c .before .before .before .before .before .args .i))) (c .before .before .before .before .before .args .table .now) (c .before .before .before .before .before .args .unpacked .now) (c .before .before .before .before .before .args .n) _ _ (c .if1 .taken))
 
 is-such-requires : tie.Need-is-such-requires Inv-loop μ-loop
 is-such-requires c κs = search needs
 
 returns-2 : tie.Need-returns-2 Inv-loop μ-loop
-returns-2 c = sym (c .before .before .before .before .loop .inv ∙ any-yes (isSuch (c .before .before .before .before .before .before .before .args .such) (recordIn (c .before .before .before .before .before .before .before .args .table .now) (c .before .before .before .before .before .before .before .args .offs .now) (c .before .before .before .before .before .before .before .args .i))) (c .before .before .before .before .before .before .before .args .table .now) (c .before .before .before .before .before .before .before .args .offs .now) (c .before .before .before .before .before .before .before .args .n) _ _ (c .before .before .before .loop-test .taken) (c .before .before .if1 .left) (sym (c .before .is-such .ensures) ∙ c .if2 .taken))
+returns-2 c = sym (c .before .before .before .before .loop .inv ∙ any-yes (isSuch (c .before .before .before .before .before .before .before .args .such) (recordIn (c .before .before .before .before .before .before .before .args .table .now) (c .before .before .before .before .before .before .before .args .unpacked .now) (c .before .before .before .before .before .before .before .args .i))) (c .before .before .before .before .before .before .before .args .table .now) (c .before .before .before .before .before .before .before .args .unpacked .now) (c .before .before .before .before .before .before .before .args .n) _ _ (c .before .before .before .loop-test .taken) (c .before .before .if1 .left) (sym (c .before .is-such .ensures) ∙ c .if2 .taken))
 
 add-j : tie.Need-add-j Inv-loop μ-loop
 add-j c = search needs
@@ -33,10 +33,10 @@ loop-less : tie.Need-loop-less Inv-loop μ-loop
 loop-less c = search needs
 
 loop-again : tie.Need-loop-again Inv-loop μ-loop
-loop-again c = c .before .before .before .before .loop .inv ∙ any-more (isSuch (c .before .before .before .before .before .before .before .args .such) (recordIn (c .before .before .before .before .before .before .before .args .table .now) (c .before .before .before .before .before .before .before .args .offs .now) (c .before .before .before .before .before .before .before .args .i))) (c .before .before .before .before .before .before .before .args .table .now) (c .before .before .before .before .before .before .before .args .offs .now) (c .before .before .before .before .before .before .before .args .n) _ _ (c .before .before .before .loop-test .taken) (c .before .before .if1 .left) (sym (c .before .is-such .ensures) ∙ c .if2 .left)
+loop-again c = c .before .before .before .before .loop .inv ∙ any-more (isSuch (c .before .before .before .before .before .before .before .args .such) (recordIn (c .before .before .before .before .before .before .before .args .table .now) (c .before .before .before .before .before .before .before .args .unpacked .now) (c .before .before .before .before .before .before .before .args .i))) (c .before .before .before .before .before .before .before .args .table .now) (c .before .before .before .before .before .before .before .args .unpacked .now) (c .before .before .before .before .before .before .before .args .n) _ _ (c .before .before .before .loop-test .taken) (c .before .before .if1 .left) (sym (c .before .is-such .ensures) ∙ c .if2 .left)
 
 returns-3 : tie.Need-returns-3 Inv-loop μ-loop
-returns-3 c = sym (c .before .loop .inv ∙ any-end (isSuch (c .before .before .before .before .args .such) (recordIn (c .before .before .before .before .args .table .now) (c .before .before .before .before .args .offs .now) (c .before .before .before .before .args .i))) (c .before .before .before .before .args .table .now) (c .before .before .before .before .args .offs .now) (c .before .before .before .before .args .n) (c .before .before .before .before .args .m) _ (c .loop-test .left))
+returns-3 c = sym (c .before .loop .inv ∙ any-end (isSuch (c .before .before .before .before .args .such) (recordIn (c .before .before .before .before .args .table .now) (c .before .before .before .before .args .unpacked .now) (c .before .before .before .before .args .i))) (c .before .before .before .before .args .table .now) (c .before .before .before .before .args .unpacked .now) (c .before .before .before .before .args .n) (c .before .before .before .before .args .m) _ (c .loop-test .left))
 
 pub any-such-spec : {M : Type 1} → statement M
 any-such-spec =

@@ -12,10 +12,10 @@ use Rattle.record_checks.proofs.begin.Statement.{statement}
 use Rattle.record_checks.proofs.begin.Tie as tie
 
 abbrev Inv-loop : tie.InvT-loop
-Inv-loop table offs n have next₀ i₀ next i = ((k : ℕ) → k < i → getD next k false ≡ stepOver have k (recordIn table offs k) k []) × (length next ≡ length next₀)
+Inv-loop table unpacked n have next₀ i₀ next i = ((k : ℕ) → k < i → getD next k false ≡ stepOver have k (recordIn table unpacked k) k []) × (length next ≡ length next₀)
 
 abbrev μ-loop : tie.MeasureT-loop
-μ-loop table offs n have next₀ i₀ next i = n - i
+μ-loop table unpacked n have next₀ i₀ next i = n - i
 
 loop-holds : tie.Need-loop-holds Inv-loop μ-loop
 loop-holds c = ((λ k h. absurd (omega arith)), refl)
@@ -33,13 +33,13 @@ loop-less : tie.Need-loop-less Inv-loop μ-loop
 loop-less c = search needs
 
 loop-again : tie.Need-loop-again Inv-loop μ-loop
-loop-again c = (set-below (c .before .before .loop .next) (c .before .before .loop .i) (c .alone .result) (omega arith) (λ (k : ℕ) (b : Bool). b ≡ stepOver (c .before .before .before .before .before .before .before .args .have .now) k (recordIn (c .before .before .before .before .before .before .before .args .table .now) (c .before .before .before .before .before .before .before .args .offs .now) k) k []) (c .before .before .loop .inv .0) (c .alone .ensures), simp length-set (c .before .before .loop .inv .1))
+loop-again c = (set-below (c .before .before .loop .next) (c .before .before .loop .i) (c .alone .result) (omega arith) (λ (k : ℕ) (b : Bool). b ≡ stepOver (c .before .before .before .before .before .before .before .args .have .now) k (recordIn (c .before .before .before .before .before .before .before .args .table .now) (c .before .before .before .before .before .before .before .args .unpacked .now) k) k []) (c .before .before .loop .inv .0) (c .alone .ensures), simp length-set (c .before .before .loop .inv .1))
 
 same-length : tie.Need-same-length Inv-loop μ-loop
 same-length c = search needs
 
 returns : tie.Need-returns Inv-loop μ-loop
-returns c = over-start (c .before .before .before .before .before .before .args .table .now) (c .before .before .before .before .before .before .args .offs .now) (c .before .before .before .before .before .before .args .n) (c .before .before .before .before .before .before .args .have .now) (c .before .loop .i) (c .before .loop .next) (c .loop-test .left) (c .before .loop .inv .0)
+returns c = over-start (c .before .before .before .before .before .before .args .table .now) (c .before .before .before .before .before .before .args .unpacked .now) (c .before .before .before .before .before .before .args .n) (c .before .before .before .before .before .before .args .have .now) (c .before .loop .i) (c .before .loop .next) (c .loop-test .left) (c .before .loop .inv .0)
 
 pub begin-spec : {M : Type 1} → statement M
 begin-spec =

@@ -9,10 +9,10 @@ use Rattle.record_checks.proofs.gather.Statement.{statement}
 use Rattle.record_checks.proofs.gather.Tie as tie
 
 abbrev Inv-loop : tie.InvT-loop
-Inv-loop table offs n have next₀ i₀ next i = Over table offs n have i next × (i ≤ n) × (length next ≡ length next₀)
+Inv-loop table unpacked n have next₀ i₀ next i = Over table unpacked n have i next × (i ≤ n) × (length next ≡ length next₀)
 
 abbrev μ-loop : tie.MeasureT-loop
-μ-loop table offs n have next₀ i₀ next i = i
+μ-loop table unpacked n have next₀ i₀ next i = i
 
 begin-requires : tie.Need-begin-requires Inv-loop μ-loop
 begin-requires c κs = search needs
@@ -30,13 +30,13 @@ loop-less : tie.Need-loop-less Inv-loop μ-loop
 loop-less c = search needs
 
 loop-again : tie.Need-loop-again Inv-loop μ-loop
-loop-again c = (over-more (c .before .before .before .before .before .before .before .before .before .before .before .before .before .before .args .table .now) (c .before .before .before .before .before .before .before .before .before .before .before .before .before .before .args .offs .now) (c .before .before .before .before .before .before .before .before .before .before .before .before .before .before .args .n) (c .before .before .before .before .before .before .before .before .before .before .before .before .before .before .args .have .now) (c .before .before .before .before .before .loop .i) (c .before .before .before .before .before .loop .next) _ (c .before .before .before .before .loop-test .taken) (c .before .before .before .before .before .loop .inv .1) (omega arith) (c .before .before .gather-one .ensures) (c .before .before .before .before .before .loop .inv .0), omega arith, search needs)
+loop-again c = (over-more (c .before .before .before .before .before .before .before .before .before .before .before .before .before .before .args .table .now) (c .before .before .before .before .before .before .before .before .before .before .before .before .before .before .args .unpacked .now) (c .before .before .before .before .before .before .before .before .before .before .before .before .before .before .args .n) (c .before .before .before .before .before .before .before .before .before .before .before .before .before .before .args .have .now) (c .before .before .before .before .before .loop .i) (c .before .before .before .before .before .loop .next) _ (c .before .before .before .before .loop-test .taken) (c .before .before .before .before .before .loop .inv .1) (omega arith) (c .before .before .gather-one .ensures) (c .before .before .before .before .before .loop .inv .0), omega arith, search needs)
 
 same-length : tie.Need-same-length Inv-loop μ-loop
 same-length c = search needs
 
 returns : tie.Need-returns Inv-loop μ-loop
-returns c = over-end (c .before .before .before .before .before .before .before .before .before .before .args .table .now) (c .before .before .before .before .before .before .before .before .before .before .args .offs .now) (c .before .before .before .before .before .before .before .before .before .before .args .n) (c .before .before .before .before .before .before .before .before .before .before .args .have .now) (c .before .loop .i) (c .before .loop .next) (c .loop-test .left) (c .before .loop .inv .0)
+returns c = over-end (c .before .before .before .before .before .before .before .before .before .before .args .table .now) (c .before .before .before .before .before .before .before .before .before .before .args .unpacked .now) (c .before .before .before .before .before .before .before .before .before .before .args .n) (c .before .before .before .before .before .before .before .before .before .before .args .have .now) (c .before .loop .i) (c .before .loop .next) (c .loop-test .left) (c .before .loop .inv .0)
 
 pub gather-spec : {M : Type 1} → statement M
 gather-spec =

@@ -9,7 +9,7 @@ parent-at-requires c κs = search needs
 
 returns : tie.Need-returns
 unfolding gathered
-returns c = rw (parent-top (c .before .before .before .before .before .before .args .table .now) (c .before .before .before .before .before .before .args .offs .now) (c .before .before .before .before .before .before .args .i) _ (c .before .parent-at .ensures) (c .if1 .taken))
+returns c = rw (parent-top (c .before .before .before .before .before .before .args .table .now) (c .before .before .before .before .before .before .args .unpacked .now) (c .before .before .before .before .before .before .args .i) _ (c .before .parent-at .ensures) (c .if1 .taken))
 
 has-requires : tie.Need-has-requires
 has-requires c κs = search needs
@@ -25,7 +25,7 @@ same-length c = search needs
 
 returns-2 : tie.Need-returns-2
 unfolding gathered
-returns-2 c = rw (parent-under (c .before .before .before .before .before .before .before .before .before .before .before .before .before .args .table .now) (c .before .before .before .before .before .before .before .before .before .before .before .before .before .args .offs .now) (c .before .before .before .before .before .before .before .before .before .before .before .before .before .args .i) _ (c .before .before .before .before .before .before .before .before .parent-at .ensures) (c .before .before .before .before .before .before .before .if1 .left), c .before .before .put .ensures, c .before .before .before .before .joined .ensures, c .before .before .before .before .before .has .ensures)
+returns-2 c = rw (parent-under (c .before .before .before .before .before .before .before .before .before .before .before .before .before .args .table .now) (c .before .before .before .before .before .before .before .before .before .before .before .before .before .args .unpacked .now) (c .before .before .before .before .before .before .before .before .before .before .before .before .before .args .i) _ (c .before .before .before .before .before .before .before .before .parent-at .ensures) (c .before .before .before .before .before .before .before .if1 .left), c .before .before .put .ensures, c .before .before .before .before .joined .ensures, c .before .before .before .before .before .has .ensures)
 
 pub gather-one-spec : {M : Type 1} → statement M
 gather-one-spec =

@@ -21,13 +21,13 @@ misplaced-alternative-requires : tie.Need-misplaced-alternative-requires
 misplaced-alternative-requires c κs = search needs
 
 returns-2 : tie.Need-returns-2
-returns-2 c = c .misplaced-alternative .ensures ∙ sym (untagged-alternative (recordsAt (c .before .before .before .before .before .before .before .args .table .now) (c .before .before .before .before .before .before .before .args .offs .now) (c .before .before .before .before .before .before .before .args .n)) (c .before .before .before .before .before .before .before .args .i) (recordIn (c .before .before .before .before .before .before .before .args .table .now) (c .before .before .before .before .before .before .before .args .offs .now) (c .before .before .before .before .before .before .before .args .i)) _ (sym (c .before .before .before .before .untagged-at .ensures) ∙ not-false _ (c .before .before .before .if1 .left)) (c .before .before .parent-kind .ensures) (c .before .if2 .taken))
+returns-2 c = c .misplaced-alternative .ensures ∙ sym (untagged-alternative (recordsAt (c .before .before .before .before .before .before .before .args .table .now) (c .before .before .before .before .before .before .before .args .unpacked .now) (c .before .before .before .before .before .before .before .args .n)) (c .before .before .before .before .before .before .before .args .i) (recordIn (c .before .before .before .before .before .before .before .args .table .now) (c .before .before .before .before .before .before .before .args .unpacked .now) (c .before .before .before .before .before .before .before .args .i)) _ (sym (c .before .before .before .before .untagged-at .ensures) ∙ not-false _ (c .before .before .before .if1 .left)) (c .before .before .parent-kind .ensures) (c .before .if2 .taken))
 
 misplaced-field-requires : tie.Need-misplaced-field-requires
 misplaced-field-requires c κs = search needs
 
 returns-3 : tie.Need-returns-3
-returns-3 c = c .misplaced-field .ensures ∙ sym (untagged-field (recordsAt (c .before .before .before .before .before .before .before .args .table .now) (c .before .before .before .before .before .before .before .args .offs .now) (c .before .before .before .before .before .before .before .args .n)) (c .before .before .before .before .before .before .before .args .i) (recordIn (c .before .before .before .before .before .before .before .args .table .now) (c .before .before .before .before .before .before .before .args .offs .now) (c .before .before .before .before .before .before .before .args .i)) _ (sym (c .before .before .before .before .untagged-at .ensures) ∙ not-false _ (c .before .before .before .if1 .left)) (c .before .before .parent-kind .ensures) (c .before .if2 .left))
+returns-3 c = c .misplaced-field .ensures ∙ sym (untagged-field (recordsAt (c .before .before .before .before .before .before .before .args .table .now) (c .before .before .before .before .before .before .before .args .unpacked .now) (c .before .before .before .before .before .before .before .args .n)) (c .before .before .before .before .before .before .before .args .i) (recordIn (c .before .before .before .before .before .before .before .args .table .now) (c .before .before .before .before .before .before .before .args .unpacked .now) (c .before .before .before .before .before .before .before .args .i)) _ (sym (c .before .before .before .before .untagged-at .ensures) ∙ not-false _ (c .before .before .before .if1 .left)) (c .before .before .parent-kind .ensures) (c .before .if2 .left))
 
 pub misplaced-untagged-spec : {M : Type 1} → statement M
 misplaced-untagged-spec =

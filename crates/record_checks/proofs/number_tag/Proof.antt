@@ -36,7 +36,7 @@ any-such-requires c κs = search needs
 
 returns-4 : tie.Need-returns-4
 unfolding numberTag isSuch
-returns-4 c = rw (eq-eqb _ 9 (rw (c .before .before .before .before .before .before .before .parent-kind .ensures) at (c .before .before .before .before .before .before .if1 .left)), sym (c .before .before .before .before .before .untagged-at .ensures) ∙ c .before .before .before .before .if2 .left, rw (c .before .before .before .label-at .ensures) at (sym (c .before .before .is-int-like .ensures)) ∙ not-false _ (c .before .if3 .left)) (c .any-such .ensures ∙ any-of _ (c .before .before .before .before .before .before .before .before .before .before .args .table .now) (c .before .before .before .before .before .before .before .before .before .before .args .offs .now) _)
+returns-4 c = rw (eq-eqb _ 9 (rw (c .before .before .before .before .before .before .before .parent-kind .ensures) at (c .before .before .before .before .before .before .if1 .left)), sym (c .before .before .before .before .before .untagged-at .ensures) ∙ c .before .before .before .before .if2 .left, rw (c .before .before .before .label-at .ensures) at (sym (c .before .before .is-int-like .ensures)) ∙ not-false _ (c .before .if3 .left)) (c .any-such .ensures ∙ any-of _ (c .before .before .before .before .before .before .before .before .before .before .args .table .now) (c .before .before .before .before .before .before .before .before .before .before .args .unpacked .now) _)
 
 pub number-tag-spec : {M : Type 1} → statement M
 number-tag-spec =

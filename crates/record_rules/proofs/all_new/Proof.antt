@@ -8,19 +8,19 @@ use Rattle.record_rules.proofs.all_new.Statement.{statement}
 use Rattle.record_rules.proofs.all_new.Tie as tie
 
 abbrev Inv-loop : tie.InvT-loop
-Inv-loop table offs n i₀ i = allNew (shownNames (recordsAt table offs n)) ≡ allNew (shownNames (recordsFrom table offs (n - i) i))
+Inv-loop table unpacked n i₀ i = allNew (shownNames (recordsAt table unpacked n)) ≡ allNew (shownNames (recordsFrom table unpacked (n - i) i))
 
 abbrev μ-loop : tie.MeasureT-loop
-μ-loop table offs n i₀ i = n - i
+μ-loop table unpacked n i₀ i = n - i
 
 loop-holds : tie.Need-loop-holds Inv-loop μ-loop
-loop-holds c = all-start (c .before .before .args .table .now) (c .before .before .args .offs .now) (c .before .before .args .n)
+loop-holds c = all-start (c .before .before .args .table .now) (c .before .before .args .unpacked .now) (c .before .before .args .n)
 
 shown-again-requires : tie.Need-shown-again-requires Inv-loop μ-loop
 shown-again-requires c κs = search needs
 
 returns : tie.Need-returns Inv-loop μ-loop
-returns c = sym (c .before .before .before .loop .inv ∙ all-no (c .before .before .before .before .before .before .args .table .now) (c .before .before .before .before .before .before .args .offs .now) (c .before .before .before .before .before .before .args .n) _ (c .before .before .loop-test .taken) (sym (c .before .shown-again .ensures) ∙ c .if1 .taken))
+returns c = sym (c .before .before .before .loop .inv ∙ all-no (c .before .before .before .before .before .before .args .table .now) (c .before .before .before .before .before .before .args .unpacked .now) (c .before .before .before .before .before .before .args .n) _ (c .before .before .loop-test .taken) (sym (c .before .shown-again .ensures) ∙ c .if1 .taken))
 
 add-i : tie.Need-add-i Inv-loop μ-loop
 add-i c = search needs
@@ -29,10 +29,10 @@ loop-less : tie.Need-loop-less Inv-loop μ-loop
 loop-less c = search needs
 
 loop-again : tie.Need-loop-again Inv-loop μ-loop
-loop-again c = c .before .before .before .loop .inv ∙ all-more (c .before .before .before .before .before .before .args .table .now) (c .before .before .before .before .before .before .args .offs .now) (c .before .before .before .before .before .before .args .n) _ (c .before .before .loop-test .taken) (sym (c .before .shown-again .ensures) ∙ c .if1 .left)
+loop-again c = c .before .before .before .loop .inv ∙ all-more (c .before .before .before .before .before .before .args .table .now) (c .before .before .before .before .before .before .args .unpacked .now) (c .before .before .before .before .before .before .args .n) _ (c .before .before .loop-test .taken) (sym (c .before .shown-again .ensures) ∙ c .if1 .left)
 
 returns-2 : tie.Need-returns-2 Inv-loop μ-loop
-returns-2 c = sym (c .before .loop .inv ∙ all-end (c .before .before .before .before .args .table .now) (c .before .before .before .before .args .offs .now) (c .before .before .before .before .args .n) _ (c .loop-test .left))
+returns-2 c = sym (c .before .loop .inv ∙ all-end (c .before .before .before .before .args .table .now) (c .before .before .before .before .args .unpacked .now) (c .before .before .before .before .args .n) _ (c .loop-test .left))
 
 pub all-new-spec : {M : Type 1} → statement M
 all-new-spec =

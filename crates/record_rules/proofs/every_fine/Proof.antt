@@ -10,19 +10,19 @@ use Rattle.record_rules.proofs.every_fine.Statement.{statement}
 use Rattle.record_rules.proofs.every_fine.Tie as tie
 
 abbrev Inv-loop : tie.InvT-loop
-Inv-loop table offs n i₀ i = everyRecord (recordFine (recordsAt table offs n) (isUnionAt (kindsOfRecords (recordsAt table offs n)))) (recordsAt table offs n) ≡ everyRecord (recordFine (recordsAt table offs n) (isUnionAt (kindsOfRecords (recordsAt table offs n)))) (recordsFrom table offs (n - i) i)
+Inv-loop table unpacked n i₀ i = everyRecord (recordFine (recordsAt table unpacked n) (isUnionAt (kindsOfRecords (recordsAt table unpacked n)))) (recordsAt table unpacked n) ≡ everyRecord (recordFine (recordsAt table unpacked n) (isUnionAt (kindsOfRecords (recordsAt table unpacked n)))) (recordsFrom table unpacked (n - i) i)
 
 abbrev μ-loop : tie.MeasureT-loop
-μ-loop table offs n i₀ i = n - i
+μ-loop table unpacked n i₀ i = n - i
 
 loop-holds : tie.Need-loop-holds Inv-loop μ-loop
-loop-holds c = every-start (recordFine (recordsAt (c .before .before .args .table .now) (c .before .before .args .offs .now) (c .before .before .args .n)) (isUnionAt (kindsOfRecords (recordsAt (c .before .before .args .table .now) (c .before .before .args .offs .now) (c .before .before .args .n))))) (c .before .before .args .table .now) (c .before .before .args .offs .now) (c .before .before .args .n)
+loop-holds c = every-start (recordFine (recordsAt (c .before .before .args .table .now) (c .before .before .args .unpacked .now) (c .before .before .args .n)) (isUnionAt (kindsOfRecords (recordsAt (c .before .before .args .table .now) (c .before .before .args .unpacked .now) (c .before .before .args .n))))) (c .before .before .args .table .now) (c .before .before .args .unpacked .now) (c .before .before .args .n)
 
 record-fine-requires : tie.Need-record-fine-requires Inv-loop μ-loop
 record-fine-requires c κs = search needs
 
 returns : tie.Need-returns Inv-loop μ-loop
-returns c = sym (c .before .before .before .loop .inv ∙ every-no (recordFine (recordsAt (c .before .before .before .before .before .before .args .table .now) (c .before .before .before .before .before .before .args .offs .now) (c .before .before .before .before .before .before .args .n)) (isUnionAt (kindsOfRecords (recordsAt (c .before .before .before .before .before .before .args .table .now) (c .before .before .before .before .before .before .args .offs .now) (c .before .before .before .before .before .before .args .n))))) (c .before .before .before .before .before .before .args .table .now) (c .before .before .before .before .before .before .args .offs .now) (c .before .before .before .before .before .before .args .n) _ (c .before .before .loop-test .taken) (sym (c .before .record-fine .ensures) ∙ not-true _ (c .if1 .taken)))
+returns c = sym (c .before .before .before .loop .inv ∙ every-no (recordFine (recordsAt (c .before .before .before .before .before .before .args .table .now) (c .before .before .before .before .before .before .args .unpacked .now) (c .before .before .before .before .before .before .args .n)) (isUnionAt (kindsOfRecords (recordsAt (c .before .before .before .before .before .before .args .table .now) (c .before .before .before .before .before .before .args .unpacked .now) (c .before .before .before .before .before .before .args .n))))) (c .before .before .before .before .before .before .args .table .now) (c .before .before .before .before .before .before .args .unpacked .now) (c .before .before .before .before .before .before .args .n) _ (c .before .before .loop-test .taken) (sym (c .before .record-fine .ensures) ∙ not-true _ (c .if1 .taken)))
 
 add-i : tie.Need-add-i Inv-loop μ-loop
 add-i c = search needs
@@ -31,10 +31,10 @@ loop-less : tie.Need-loop-less Inv-loop μ-loop
 loop-less c = search needs
 
 loop-again : tie.Need-loop-again Inv-loop μ-loop
-loop-again c = c .before .before .before .loop .inv ∙ every-more (recordFine (recordsAt (c .before .before .before .before .before .before .args .table .now) (c .before .before .before .before .before .before .args .offs .now) (c .before .before .before .before .before .before .args .n)) (isUnionAt (kindsOfRecords (recordsAt (c .before .before .before .before .before .before .args .table .now) (c .before .before .before .before .before .before .args .offs .now) (c .before .before .before .before .before .before .args .n))))) (c .before .before .before .before .before .before .args .table .now) (c .before .before .before .before .before .before .args .offs .now) (c .before .before .before .before .before .before .args .n) _ (c .before .before .loop-test .taken) (sym (c .before .record-fine .ensures) ∙ not-false _ (c .if1 .left))
+loop-again c = c .before .before .before .loop .inv ∙ every-more (recordFine (recordsAt (c .before .before .before .before .before .before .args .table .now) (c .before .before .before .before .before .before .args .unpacked .now) (c .before .before .before .before .before .before .args .n)) (isUnionAt (kindsOfRecords (recordsAt (c .before .before .before .before .before .before .args .table .now) (c .before .before .before .before .before .before .args .unpacked .now) (c .before .before .before .before .before .before .args .n))))) (c .before .before .before .before .before .before .args .table .now) (c .before .before .before .before .before .before .args .unpacked .now) (c .before .before .before .before .before .before .args .n) _ (c .before .before .loop-test .taken) (sym (c .before .record-fine .ensures) ∙ not-false _ (c .if1 .left))
 
 returns-2 : tie.Need-returns-2 Inv-loop μ-loop
-returns-2 c = sym (c .before .loop .inv ∙ every-end (recordFine (recordsAt (c .before .before .before .before .args .table .now) (c .before .before .before .before .args .offs .now) (c .before .before .before .before .args .n)) (isUnionAt (kindsOfRecords (recordsAt (c .before .before .before .before .args .table .now) (c .before .before .before .before .args .offs .now) (c .before .before .before .before .args .n))))) (c .before .before .before .before .args .table .now) (c .before .before .before .before .args .offs .now) (c .before .before .before .before .args .n) _ (c .loop-test .left))
+returns-2 c = sym (c .before .loop .inv ∙ every-end (recordFine (recordsAt (c .before .before .before .before .args .table .now) (c .before .before .before .before .args .unpacked .now) (c .before .before .before .before .args .n)) (isUnionAt (kindsOfRecords (recordsAt (c .before .before .before .before .args .table .now) (c .before .before .before .before .args .unpacked .now) (c .before .before .before .before .args .n))))) (c .before .before .before .before .args .table .now) (c .before .before .before .before .args .unpacked .now) (c .before .before .before .before .args .n) _ (c .loop-test .left))
 
 pub every-fine-spec : {M : Type 1} → statement M
 every-fine-spec =

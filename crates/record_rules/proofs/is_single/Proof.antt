@@ -11,7 +11,7 @@ is-top-requires : tie.Need-is-top-requires
 is-top-requires c κs = search needs
 
 returns : tie.Need-returns
-returns c = sym (single-top (isUnionAt (kindsOfRecords (recordsAt (c .before .before .before .before .args .table .now) (c .before .before .before .before .args .offs .now) (c .before .before .before .before .args .n)))) (recordIn (c .before .before .before .before .args .table .now) (c .before .before .before .before .args .offs .now) (c .before .before .before .before .args .i) .parent) (sym (c .before .is-top .ensures) ∙ c .if1 .taken))
+returns c = sym (single-top (isUnionAt (kindsOfRecords (recordsAt (c .before .before .before .before .args .table .now) (c .before .before .before .before .args .unpacked .now) (c .before .before .before .before .args .n)))) (recordIn (c .before .before .before .before .args .table .now) (c .before .before .before .before .args .unpacked .now) (c .before .before .before .before .args .i) .parent) (sym (c .before .is-top .ensures) ∙ c .if1 .taken))
 
 parent-at-requires : tie.Need-parent-at-requires
 parent-at-requires c κs = search needs
@@ -20,7 +20,7 @@ is-union-requires : tie.Need-is-union-requires
 is-union-requires c κs = search needs
 
 returns-2 : tie.Need-returns-2
-returns-2 c = c .is-union .ensures ∙ sym (single-under (isUnionAt (kindsOfRecords (recordsAt (c .before .before .before .before .before .before .args .table .now) (c .before .before .before .before .before .before .args .offs .now) (c .before .before .before .before .before .before .args .n)))) (recordIn (c .before .before .before .before .before .before .args .table .now) (c .before .before .before .before .before .before .args .offs .now) (c .before .before .before .before .before .before .args .i) .parent) _ (sym (c .before .before .before .is-top .ensures) ∙ c .before .before .if1 .left) (c .before .parent-at .ensures))
+returns-2 c = c .is-union .ensures ∙ sym (single-under (isUnionAt (kindsOfRecords (recordsAt (c .before .before .before .before .before .before .args .table .now) (c .before .before .before .before .before .before .args .unpacked .now) (c .before .before .before .before .before .before .args .n)))) (recordIn (c .before .before .before .before .before .before .args .table .now) (c .before .before .before .before .before .before .args .unpacked .now) (c .before .before .before .before .before .before .args .i) .parent) _ (sym (c .before .before .before .is-top .ensures) ∙ c .before .before .if1 .left) (c .before .parent-at .ensures))
 
 pub is-single-spec : {M : Type 1} → statement M
 is-single-spec =

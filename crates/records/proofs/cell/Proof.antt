@@ -8,7 +8,7 @@ use Rattle.records.proofs.cell.Lts as lts
 
 -- src/lib.rt:22:9
 returns : tie.Need-returns
-returns c = cell-past (now (c .before .args .offs)) (c .before .args .i) (c .before .args .k) (c .if1 .taken)
+returns c = cell-past (now (c .before .args .unpacked)) (c .before .args .i) (c .before .args .k) (c .if1 .taken)
 
 -- src/lib.rt:24:22
 mul-at : tie.Need-mul-at
@@ -32,11 +32,11 @@ shared-slice-read-result c = search needs
 
 -- src/lib.rt:26:9
 returns-2 : tie.Need-returns-2
-returns-2 c = cell-there (now (c .before .before .before .args .offs)) (c .before .before .before .args .i) (c .before .before .before .args .k) (c .before .before .if1 .left)
+returns-2 c = cell-there (now (c .before .before .before .args .unpacked)) (c .before .before .before .args .i) (c .before .before .before .args .k) (c .before .before .if1 .left)
 
 -- src/lib.rt:18:1
 returns-3 : tie.Need-returns-3
-returns-3 c = cell-out (now (c .before .before .args .offs)) (c .before .before .args .i) (c .before .before .args .k) (c .before .if1 .left) (c .if2 .left)
+returns-3 c = cell-out (now (c .before .before .args .unpacked)) (c .before .before .args .i) (c .before .before .args .k) (c .before .if1 .left) (c .if2 .left)
 
 pub cell-spec : {M : Type 1} → statement M
 cell-spec =

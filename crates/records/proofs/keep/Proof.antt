@@ -8,7 +8,7 @@ use Rattle.records.proofs.keep.Lts as lts
 
 -- src/lib.rt:56:9
 returns : tie.Need-returns
-returns c = kept-past (now (c .before .args .offs)) (c .before .args .i) (c .before .args .k) (c .before .args .x) (c .if1 .taken)
+returns c = kept-past (now (c .before .args .unpacked)) (c .before .args .i) (c .before .args .k) (c .before .args .x) (c .if1 .taken)
 
 -- src/lib.rt:58:22
 mul-at : tie.Need-mul-at
@@ -23,12 +23,12 @@ add-at-2 : tie.Need-add-at-2
 add-at-2 c = search needs
 
 -- src/lib.rt:60:9
-mul-offs : tie.Need-mul-offs
-mul-offs c = search needs
+mul-unpacked : tie.Need-mul-unpacked
+mul-unpacked c = search needs
 
 -- src/lib.rt:60:9
-slice-write-offs : tie.Need-slice-write-offs
-slice-write-offs c = search needs
+slice-write-unpacked : tie.Need-slice-write-unpacked
+slice-write-unpacked c = search needs
 
 -- src/lib.rt:52:1
 same-length : tie.Need-same-length
@@ -36,11 +36,11 @@ same-length c = search needs
 
 -- src/lib.rt:52:1
 returns-2 : tie.Need-returns-2
-returns-2 c = kept-there (now (c .before .before .args .offs)) (c .before .before .args .i) (c .before .before .args .k) (c .before .before .args .x) (c .before .if1 .left)
+returns-2 c = kept-there (now (c .before .before .args .unpacked)) (c .before .before .args .i) (c .before .before .args .k) (c .before .before .args .x) (c .before .if1 .left)
 
 -- src/lib.rt:52:1
 returns-3 : tie.Need-returns-3
-returns-3 c = kept-out (now (c .before .before .args .offs)) (c .before .before .args .i) (c .before .before .args .k) (c .before .before .args .x) (c .before .if1 .left) (c .if2 .left)
+returns-3 c = kept-out (now (c .before .before .args .unpacked)) (c .before .before .args .i) (c .before .before .args .k) (c .before .before .args .x) (c .before .if1 .left) (c .if2 .left)
 
 pub keep-spec : {M : Type 1} → statement M
 keep-spec =
@@ -50,8 +50,8 @@ keep-spec =
     mul-at
     add-at
     add-at-2
-    mul-offs
-    slice-write-offs
+    mul-unpacked
+    slice-write-unpacked
     same-length
     returns-2
     returns-3)

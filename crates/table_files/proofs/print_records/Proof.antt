@@ -6,10 +6,10 @@ use Rattle.table_files.proofs.print_records.Statement.{statement}
 use Rattle.table_files.proofs.print_records.Tie as tie
 
 abbrev Inv-loop : tie.InvT-loop
-Inv-loop table out₀ offs widths n head page₀ i₀ out page i = length out ≡ length out₀
+Inv-loop table out₀ unpacked widths n head page₀ i₀ out page i = length out ≡ length out₀
 
 abbrev μ-loop : tie.MeasureT-loop
-μ-loop table out₀ offs widths n head page₀ i₀ out page i = n - i
+μ-loop table out₀ unpacked widths n head page₀ i₀ out page i = n - i
 
 slice-aggregate-records-of : tie.Need-slice-aggregate-records-of Inv-loop μ-loop
 slice-aggregate-records-of c = search needs

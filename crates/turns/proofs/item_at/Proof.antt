@@ -47,13 +47,13 @@ end-at-requires : tie.Need-end-at-requires
 end-at-requires c κs = search needs
 
 returns-3 : tie.Need-returns-3
-returns-3 c = λ ks m. items-done _ _ (c .before .before .before .before .before .before .before .before .before .before .before .args .f) _ ks (c .before .before .before .before .before .before .before .head .result) (c .before .before .before .before .before .before .before .head .ensures _) _ _ (c .before .before .complete .ensures ∙ complete-marks _ _ _ ks m) (c .before .end-at .ensures) (c .before .before .before .before .if1 .left) (c .if2 .taken)
+returns-3 c = λ ks m. items-done _ _ (c .before .before .before .before .before .before .before .before .before .before .before .args .f) _ ks (c .before .before .before .before .before .before .before .head .result) (c .before .before .before .before .before .before .before .head .ensures _) _ _ (c .before .before .complete .ensures ∙ complete-marks _ _ _ _ ks m) (c .before .end-at .ensures) (c .before .before .before .before .if1 .left) (c .if2 .taken)
 
 add-t23 : tie.Need-add-t23
 add-t23 c = omega (arith, c .before .before .before .before .before .before .before .before .head .ensures 0 .within, c .before .before .before .before .before .before .before .before .before .before .before .before .pre)
 
 returns-4 : tie.Need-returns-4
-returns-4 c = λ ks m. items-stopped _ _ (c .before .before .before .before .before .before .before .before .before .before .before .before .args .f) _ ks (c .before .before .before .before .before .before .before .before .head .result) (c .before .before .before .before .before .before .before .before .head .ensures _) _ _ (c .before .before .before .complete .ensures ∙ complete-marks _ _ _ ks m) (c .before .before .end-at .ensures) (c .before .before .before .before .before .if1 .left) (c .before .if2 .left)
+returns-4 c = λ ks m. items-stopped _ _ (c .before .before .before .before .before .before .before .before .before .before .before .before .args .f) _ ks (c .before .before .before .before .before .before .before .before .head .result) (c .before .before .before .before .before .before .before .before .head .ensures _) _ _ (c .before .before .before .complete .ensures ∙ complete-marks _ _ _ _ ks m) (c .before .before .end-at .ensures) (c .before .before .before .before .before .if1 .left) (c .before .if2 .left)
 
 pub item-at-spec : {M : Type 1} → statement M
 item-at-spec =

@@ -13,10 +13,10 @@ use Rattle.records.proofs.unpack.Reads as unpack-reads
 use Rattle.walk.proofs.length_at.Reads as length-at-reads
 
 abbrev Inv-loop : tie.InvT-loop
-Inv-loop table offs₀ n₀ at₀ offs n at = Along table offs n at × (length offs ≡ length offs₀)
+Inv-loop table unpacked₀ n₀ at₀ unpacked n at = Along table unpacked n at × (length unpacked ≡ length unpacked₀)
 
 abbrev μ-loop : tie.MeasureT-loop
-μ-loop table offs₀ n₀ at₀ offs n at = length table - at
+μ-loop table unpacked₀ n₀ at₀ unpacked n at = length table - at
 
 -- src/lib.rt:49:5
 loop-holds : tie.Need-loop-holds Inv-loop μ-loop
@@ -29,7 +29,7 @@ same-length c = search needs
 -- src/lib.rt:51:13
 returns : tie.Need-returns Inv-loop μ-loop
 unfolding Walked
-returns c = λ r. along-full (c .before .before .before .before .before .args .table .now) (c .before .before .loop .offs) (c .before .before .loop .n) (c .before .before .loop .at) (c .before .before .loop .inv .0) (c .before .loop-test .taken) (c .if1 .taken) (λ k a b. omega (arith, c .before .before .loop .inv .1, r k a b))
+returns c = λ r. along-full (c .before .before .before .before .before .args .table .now) (c .before .before .loop .unpacked) (c .before .before .loop .n) (c .before .before .loop .at) (c .before .before .loop .inv .0) (c .before .loop-test .taken) (c .if1 .taken) (λ k a b. omega (arith, c .before .before .loop .inv .1, r k a b))
 
 -- src/lib.rt:53:13
 length-at-requires : tie.Need-length-at-requires Inv-loop μ-loop
@@ -42,7 +42,7 @@ same-length-2 c = search needs
 -- src/lib.rt:55:13
 returns-2 : tie.Need-returns-2 Inv-loop μ-loop
 unfolding Walked
-returns-2 c = λ r. along-stuck (c .before .before .before .before .before .before .before .args .table .now) (c .before .before .before .before .loop .offs) (c .before .before .before .before .loop .n) (c .before .before .before .before .loop .at) (c .before .before .before .before .loop .inv .0) (c .before .before .before .loop-test .taken) _ (c .before .length-at .ensures .0) (c .if2 .taken) (λ k a b. omega (arith, c .before .before .before .before .loop .inv .1, r k a b))
+returns-2 c = λ r. along-stuck (c .before .before .before .before .before .before .before .args .table .now) (c .before .before .before .before .loop .unpacked) (c .before .before .before .before .loop .n) (c .before .before .before .before .loop .at) (c .before .before .before .before .loop .inv .0) (c .before .before .before .loop-test .taken) _ (c .before .length-at .ensures .0) (c .if2 .taken) (λ k a b. omega (arith, c .before .before .before .before .loop .inv .1, r k a b))
 
 -- src/lib.rt:57:32
 cast-unpack : tie.Need-cast-unpack Inv-loop μ-loop
@@ -66,7 +66,7 @@ loop-less c = search needs
 
 -- src/lib.rt:49:5
 loop-again : tie.Need-loop-again Inv-loop μ-loop
-loop-again c = (along-more (c .before .before .before .before .before .before .before .before .before .before .before .args .table .now) (c .before .before .before .before .before .before .before .before .loop .offs) (c .before .before .before .before .before .before .before .before .loop .n) (c .before .before .before .before .before .before .before .before .loop .at) (c .before .before .before .before .before .before .before .before .loop .inv .0) (c .before .before .before .before .before .before .before .loop-test .taken) _ _ (c .before .before .before .before .before .length-at .ensures .0) (c .before .before .before .before .before .length-at .ensures .1) (c .before .before .before .before .if2 .left) (c .before .before .before .before .before .before .if1 .left) (c .before .before .unpack .kept .1 .1 .0) (c .before .before .unpack .ensures), c .before .before .unpack .kept .1 .1 .0 ∙ c .before .before .before .before .before .before .before .before .loop .inv .1)
+loop-again c = (along-more (c .before .before .before .before .before .before .before .before .before .before .before .args .table .now) (c .before .before .before .before .before .before .before .before .loop .unpacked) (c .before .before .before .before .before .before .before .before .loop .n) (c .before .before .before .before .before .before .before .before .loop .at) (c .before .before .before .before .before .before .before .before .loop .inv .0) (c .before .before .before .before .before .before .before .loop-test .taken) _ _ (c .before .before .before .before .before .length-at .ensures .0) (c .before .before .before .before .before .length-at .ensures .1) (c .before .before .before .before .if2 .left) (c .before .before .before .before .before .before .if1 .left) (c .before .before .unpack .kept .1 .1 .0) (c .before .before .unpack .ensures), c .before .before .unpack .kept .1 .1 .0 ∙ c .before .before .before .before .before .before .before .before .loop .inv .1)
 
 -- src/lib.rt:44:1
 same-length-3 : tie.Need-same-length-3 Inv-loop μ-loop
@@ -75,7 +75,7 @@ same-length-3 c = search needs
 -- src/lib.rt:44:1
 returns-3 : tie.Need-returns-3 Inv-loop μ-loop
 unfolding Walked
-returns-3 c = λ r. along-end (c .before .before .before .before .args .table .now) (c .before .loop .offs) (c .before .loop .n) (c .before .loop .at) (c .before .loop .inv .0) (c .loop-test .left) (λ k a b. omega (arith, c .before .loop .inv .1, r k a b))
+returns-3 c = λ r. along-end (c .before .before .before .before .args .table .now) (c .before .loop .unpacked) (c .before .loop .n) (c .before .loop .at) (c .before .loop .inv .0) (c .loop-test .left) (λ k a b. omega (arith, c .before .loop .inv .1, r k a b))
 
 pub unpack-spec : {M : Type 1} → statement M
 unpack-spec =

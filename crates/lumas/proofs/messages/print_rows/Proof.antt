@@ -6,10 +6,10 @@ use Rattle.lumas.proofs.messages.print_rows.Statement.{statement}
 use Rattle.lumas.proofs.messages.print_rows.Tie as tie
 
 abbrev Inv-loop : tie.InvT-loop
-Inv-loop table offs message rows count out₀ widths head page₀ row₀ out page row = length out ≡ length out₀
+Inv-loop table unpacked message rows count out₀ widths head page₀ row₀ out page row = length out ≡ length out₀
 
 abbrev μ-loop : tie.MeasureT-loop
-μ-loop table offs message rows count out₀ widths head page₀ row₀ out page row = count - row
+μ-loop table unpacked message rows count out₀ widths head page₀ row₀ out page row = count - row
 
 slice-aggregate-row-widths : tie.Need-slice-aggregate-row-widths Inv-loop μ-loop
 slice-aggregate-row-widths c = search needs

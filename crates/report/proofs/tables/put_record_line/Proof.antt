@@ -6,10 +6,10 @@ use Rattle.report.proofs.tables.put_record_line.Statement.{statement}
 use Rattle.report.proofs.tables.put_record_line.Tie as tie
 
 abbrev Inv-loop : tie.InvT-loop
-Inv-loop out₀ at table offs line widths column₀ o₀ out column o = length out ≡ length out₀
+Inv-loop out₀ at table unpacked line widths column₀ o₀ out column o = length out ≡ length out₀
 
 abbrev μ-loop : tie.MeasureT-loop
-μ-loop out₀ at table offs line widths column₀ o₀ out column o = 7 - column
+μ-loop out₀ at table unpacked line widths column₀ o₀ out column o = 7 - column
 
 loop-holds : tie.Need-loop-holds Inv-loop μ-loop
 loop-holds c = refl

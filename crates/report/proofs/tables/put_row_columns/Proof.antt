@@ -6,10 +6,10 @@ use Rattle.report.proofs.tables.put_row_columns.Statement.{statement}
 use Rattle.report.proofs.tables.put_row_columns.Tie as tie
 
 abbrev Inv-loop : tie.InvT-loop
-Inv-loop out₀ at table offs rows line widths column₀ o₀ out column o = length out ≡ length out₀
+Inv-loop out₀ at table unpacked rows line widths column₀ o₀ out column o = length out ≡ length out₀
 
 abbrev μ-loop : tie.MeasureT-loop
-μ-loop out₀ at table offs rows line widths column₀ o₀ out column o = 5 - column
+μ-loop out₀ at table unpacked rows line widths column₀ o₀ out column o = 5 - column
 
 loop-holds : tie.Need-loop-holds Inv-loop μ-loop
 loop-holds c = refl

@@ -6,10 +6,10 @@ use Rattle.report.proofs.tables.record_width.Statement.{statement}
 use Rattle.report.proofs.tables.record_width.Tie as tie
 
 abbrev Inv-loop : tie.InvT-loop
-Inv-loop table offs n column cell₀ width₀ i₀ cell width i = length cell ≡ 64
+Inv-loop table unpacked n column cell₀ width₀ i₀ cell width i = length cell ≡ 64
 
 abbrev μ-loop : tie.MeasureT-loop
-μ-loop table offs n column cell₀ width₀ i₀ cell width i = n - i
+μ-loop table unpacked n column cell₀ width₀ i₀ cell width i = n - i
 
 slice-aggregate-record-cell : tie.Need-slice-aggregate-record-cell Inv-loop μ-loop
 slice-aggregate-record-cell c = search needs

@@ -6,10 +6,10 @@ use Rattle.report.proofs.tables.record_widths.Statement.{statement}
 use Rattle.report.proofs.tables.record_widths.Tie as tie
 
 abbrev Inv-loop : tie.InvT-loop
-Inv-loop table offs n widths₀ column₀ widths column = length widths ≡ length widths₀
+Inv-loop table unpacked n widths₀ column₀ widths column = length widths ≡ length widths₀
 
 abbrev μ-loop : tie.MeasureT-loop
-μ-loop table offs n widths₀ column₀ widths column = 7 - column
+μ-loop table unpacked n widths₀ column₀ widths column = 7 - column
 
 loop-holds : tie.Need-loop-holds Inv-loop μ-loop
 loop-holds c = refl

@@ -6,10 +6,10 @@ use Rattle.report.proofs.tables.row_width.Statement.{statement}
 use Rattle.report.proofs.tables.row_width.Tie as tie
 
 abbrev Inv-loop : tie.InvT-loop
-Inv-loop table offs rows count column cell₀ width₀ row₀ cell width row = length cell ≡ 64
+Inv-loop table unpacked rows count column cell₀ width₀ row₀ cell width row = length cell ≡ 64
 
 abbrev μ-loop : tie.MeasureT-loop
-μ-loop table offs rows count column cell₀ width₀ row₀ cell width row = count - row
+μ-loop table unpacked rows count column cell₀ width₀ row₀ cell width row = count - row
 
 slice-aggregate-row-cell : tie.Need-slice-aggregate-row-cell Inv-loop μ-loop
 slice-aggregate-row-cell c = search needs

@@ -6,10 +6,10 @@ use Rattle.report.proofs.tables.row_widths.Statement.{statement}
 use Rattle.report.proofs.tables.row_widths.Tie as tie
 
 abbrev Inv-loop : tie.InvT-loop
-Inv-loop table offs rows count widths₀ column₀ widths column = length widths ≡ length widths₀
+Inv-loop table unpacked rows count widths₀ column₀ widths column = length widths ≡ length widths₀
 
 abbrev μ-loop : tie.MeasureT-loop
-μ-loop table offs rows count widths₀ column₀ widths column = 5 - column
+μ-loop table unpacked rows count widths₀ column₀ widths column = 5 - column
 
 loop-holds : tie.Need-loop-holds Inv-loop μ-loop
 loop-holds c = refl

@@ -1,0 +1,6 @@
+-- the lists, as they are made
+mod Linking
+-- the search along a list
+pub mod Searching
+-- a tag that stands twice
+mod Again
