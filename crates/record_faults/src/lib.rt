@@ -35,7 +35,8 @@ fn fault_at(
     declared::at_if(endless, declared::cell(cells, i, 4))
 }
 
-// The least place of a fault under the refusal's number, over all parameters.
+// The least place of a fault under the refusal's number, over all parameters. The records' lists are made, so that a tag
+// that stands twice is found by a search.
 pub fn least_fault(
     cells: &[u32],
     table: &[u8],
