@@ -1,4 +1,5 @@
-//! Times the readers on the same messages: the plain one, and one from a static library.
+//! Times the readers on the same messages: the plain one, in one pass and in two, and one from a
+//! static library.
 
 use crate::definition;
 use crate::generate::Rng;
@@ -231,54 +232,83 @@ fn shown(answer: Answer) -> String {
     }
 }
 
-/// Times each input and prints a line for it; whether all answers were equal.
-pub fn run(plain_only: bool) -> bool {
+/// The readers to time, by name; the library's is the first of three.
+fn readers(plain_only: bool) -> Vec<(&'static str, Reader)> {
     let proved = PROVED.filter(|_| !plain_only);
-    let readers: Vec<Reader> = proved.into_iter().chain([plain::read as Reader]).collect();
-    let heads = if proved.is_some() {
-        "proved                    plain                     proved/plain"
-    } else {
-        "plain"
-    };
-    println!(
-        "{:<22} {:>6} {:>6}  {:<12} {heads}",
+    let proved = proved.map(|proved| ("proved", proved));
+    let plain = [
+        ("plain", plain::read as Reader),
+        ("twice", plain::read_twice),
+    ];
+    proved.into_iter().chain(plain).collect()
+}
+
+/// The answer to an input, none where the readers' answers differ, which it prints.
+fn common_answer(input: &Input, readers: &[(&str, Reader)]) -> Option<Answer> {
+    let (answer, rows) = input.answer(plain::read);
+    let mut equal = true;
+    for &(name, reader) in readers {
+        let (other, other_rows) = input.answer(reader);
+        if (other, &other_rows) == (answer, &rows) {
+            continue;
+        }
+        let how = if other == answer {
+            "rows differ"
+        } else {
+            "differ"
+        };
+        let (other, answer) = (shown(other), shown(answer));
+        println!("{}: {name} {other}, plain {answer}: {how}", input.name);
+        equal = false;
+    }
+    equal.then_some(answer)
+}
+
+fn print_heads(library: bool) {
+    print!(
+        "{:<22} {:>6} {:>6}  {:<12}",
         "input", "table", "bytes", "answer"
     );
+    let (plain, twice) = ("plain", "twice");
+    if library {
+        print!(" {:<26} {plain:<26} proved/plain", "proved");
+        println!(" {twice:<26} twice/plain proved/twice");
+    } else {
+        println!(" {plain:<26} {twice:<26} twice/plain");
+    }
+}
+
+/// The times of one input, as the heads say.
+fn print_times(best: &[f64], bytes: usize) {
+    let speed = |nanos| Speed { nanos, bytes };
+    match *best {
+        [proved, plain, twice] => {
+            print!(" {} {}", speed(proved), speed(plain));
+            print!(" {:>12.2} {}", proved / plain, speed(twice));
+            println!(" {:>11.2} {:>12.2}", twice / plain, proved / twice);
+        }
+        [plain, twice] => {
+            println!(" {} {} {:>11.2}", speed(plain), speed(twice), twice / plain);
+        }
+        _ => println!(),
+    }
+}
+
+/// Times each input and prints a line for it; whether all answers were equal.
+pub fn run(plain_only: bool) -> bool {
+    let readers = readers(plain_only);
+    print_heads(readers.len() == 3);
+    let timed: Vec<Reader> = readers.iter().map(|&(_, reader)| reader).collect();
     let mut equal = true;
     for input in inputs() {
-        let (answer, rows) = input.answer(plain::read);
-        if let Some(proved) = proved {
-            let (other, other_rows) = input.answer(proved);
-            if (other, &other_rows) != (answer, &rows) {
-                let how = if other == answer {
-                    "rows differ"
-                } else {
-                    "differ"
-                };
-                println!(
-                    "{}: proved {}, plain {}: {how}",
-                    input.name,
-                    shown(other),
-                    shown(answer)
-                );
-                equal = false;
-                continue;
-            }
-        }
+        let Some(answer) = common_answer(&input, &readers) else {
+            equal = false;
+            continue;
+        };
         let (table, bytes) = (input.table.len(), input.message.len());
-        print!(
-            "{:<22} {table:>6} {bytes:>6}  {:<12}",
-            input.name,
-            shown(answer)
-        );
-        let best = input.best(&readers);
-        for &nanos in &best {
-            print!(" {}", Speed { nanos, bytes });
-        }
-        match best[..] {
-            [proved, plain] => println!(" {:>8.2}", proved / plain),
-            _ => println!(),
-        }
+        let answer = shown(answer);
+        print!("{:<22} {table:>6} {bytes:>6}  {answer:<12}", input.name);
+        print_times(&input.best(&timed), bytes);
     }
     equal
 }
@@ -296,7 +326,9 @@ mod tests {
             let mut wanted = vec![LENT; 4 * MOST_ROWS + 3];
             let want = message::read_into(&input.table, &input.message, &mut wanted);
             let want = want.map_err(|refusal| (refusal.number, refusal.place));
-            assert_eq!(input.answer(plain::read), (want, wanted), "{}", input.name);
+            let wanted = (want, wanted);
+            assert_eq!(input.answer(plain::read), wanted, "{}", input.name);
+            assert_eq!(input.answer(plain::read_twice), wanted, "{}", input.name);
             answers.push(want.map_err(|(number, _)| number));
         }
         let wanted = [5, 103, 2_503, 256, 256, 17, 8_193];

@@ -5,6 +5,11 @@
 //! change before; a longest message needs some 150 KB of stack. Faults of the tokens (22) are
 //! looked for only where the reading stops: the tokens before that place are sound, and a message
 //! that is read to its end has no such fault.
+//!
+//! `read_twice` is the same reader in two passes over the message: the first only counts the rows,
+//! the second writes them where they are lent. It keeps none of its own.
+
+use std::ops::Range;
 
 /// A number and a place.
 type Refusal = (u32, usize);
@@ -13,6 +18,14 @@ type Refusal = (u32, usize);
 pub fn read(table: &[u8], message: &[u8], rows: &mut [u32]) -> Result<usize, Refusal> {
     with_schema(table, |schema| match schema {
         Some(schema) => read_by(schema, message, rows),
+        None => Err((20, 0)),
+    })
+}
+
+/// The same in two passes, without rows of its own.
+pub fn read_twice(table: &[u8], message: &[u8], rows: &mut [u32]) -> Result<usize, Refusal> {
+    with_schema(table, |schema| match schema {
+        Some(schema) => read_twice_by(schema, message, rows),
         None => Err((20, 0)),
     })
 }
@@ -55,8 +68,8 @@ fn with_tape<const N: usize>(
     message: &[u8],
     rows: &mut [u32],
 ) -> Result<usize, Refusal> {
-    let mut tape = [[0; 4]; N];
-    let count = Reader::new(schema, message, &mut tape).read()?;
+    let mut tape = [[0u16; 4]; N];
+    let count = Reader::new(schema, message, tape.as_mut_slice()).read()?;
     let Some(lent) = rows.get_mut(..4 * count) else {
         return Err((29, count));
     };
@@ -64,6 +77,20 @@ fn with_tape<const N: usize>(
         *number = u32::from(short);
     }
     lent[1] = u32::MAX;
+    Ok(count)
+}
+
+#[inline(never)]
+fn read_twice_by(schema: Schema, message: &[u8], rows: &mut [u32]) -> Result<usize, Refusal> {
+    if message.len() > MOST_BYTES {
+        return Err((21, MOST_BYTES));
+    }
+    let count = Reader::new(schema, message, &mut Unkept).read()?;
+    let Some(lent) = rows.as_chunks_mut::<4>().0.get_mut(..count) else {
+        return Err((29, count));
+    };
+    Reader::new(schema, message, &mut *lent).read()?;
+    lent[0][1] = u32::MAX;
     Ok(count)
 }
 
@@ -744,19 +771,64 @@ fn all_finite(records: &mut [Record]) -> bool {
 
 // ---- the message
 
-struct Reader<'a> {
+/// Where rows go. A row is a record, the parent's row, a start and an end.
+trait Tape {
+    fn put(&mut self, row: usize, numbers: [usize; 4]);
+
+    /// Gives a row its end.
+    fn end(&mut self, row: usize, end: usize);
+
+    /// Gives neighbours the same end.
+    fn end_all(&mut self, rows: Range<usize>, end: usize);
+}
+
+/// Rows in short numbers, or in those that are lent.
+impl<N: From<u16>> Tape for [[N; 4]] {
+    #[inline]
+    fn put(&mut self, row: usize, numbers: [usize; 4]) {
+        self[row] = numbers.map(|number| N::from(number as u16));
+    }
+
+    #[inline]
+    fn end(&mut self, row: usize, end: usize) {
+        self[row][3] = N::from(end as u16);
+    }
+
+    #[inline]
+    fn end_all(&mut self, rows: Range<usize>, end: usize) {
+        for row in &mut self[rows] {
+            row[3] = N::from(end as u16);
+        }
+    }
+}
+
+/// Rows that are only counted.
+struct Unkept;
+
+impl Tape for Unkept {
+    #[inline]
+    fn put(&mut self, _: usize, _: [usize; 4]) {}
+
+    #[inline]
+    fn end(&mut self, _: usize, _: usize) {}
+
+    #[inline]
+    fn end_all(&mut self, _: Range<usize>, _: usize) {}
+}
+
+struct Reader<'a, T: Tape + ?Sized> {
     schema: Schema<'a>,
     message: &'a [u8],
-    /// The rows so far, in short numbers.
-    tape: &'a mut [[u16; 4]],
+    tape: &'a mut T,
+    /// How many rows there are so far.
     rows: usize,
     /// Open braces.
     open: usize,
     fault: Refusal,
 }
 
-impl<'a> Reader<'a> {
-    fn new(schema: Schema<'a>, message: &'a [u8], tape: &'a mut [[u16; 4]]) -> Reader<'a> {
+impl<'a, T: Tape + ?Sized> Reader<'a, T> {
+    fn new(schema: Schema<'a>, message: &'a [u8], tape: &'a mut T) -> Reader<'a, T> {
         Reader {
             schema,
             message,
@@ -812,7 +884,7 @@ impl<'a> Reader<'a> {
 
     #[inline]
     fn push(&mut self, number: usize, parent: usize, start: usize, end: usize) {
-        self.tape[self.rows] = [number as u16, parent as u16, start as u16, end as u16];
+        self.tape.put(self.rows, [number, parent, start, end]);
         self.rows += 1;
     }
 
@@ -871,6 +943,16 @@ impl<'a> Reader<'a> {
         (end, self.schema.find(body, self.message, at, end))
     }
 
+    /// Passes over the `=` after the word that ends here, and the blanks round it.
+    #[inline(always)]
+    fn equals(&mut self, end: usize) -> Option<usize> {
+        let at = self.skip(end);
+        if self.byte(at) != b'=' {
+            return self.refuse(23, at);
+        }
+        Some(self.skip(at + 1))
+    }
+
     fn items(&mut self, number: usize, row: usize, at: usize, in_braces: bool) -> Option<usize> {
         let mut at = at;
         let mut seen = [0u64; MOST_RECORDS / 64];
@@ -896,11 +978,7 @@ impl<'a> Reader<'a> {
                 at = self.skip(end);
                 continue;
             }
-            at = self.skip(end);
-            if self.byte(at) != b'=' {
-                return self.refuse(23, at);
-            }
-            at = self.skip(at + 1);
+            at = self.equals(end)?;
             at = self.list(field, row, at)?;
         }
         if !self.ends(at, in_braces) {
@@ -922,7 +1000,8 @@ impl<'a> Reader<'a> {
         let record = self.record(field);
         let (mut at, mut count) = (at, 0);
         loop {
-            at = self.value(field, parent, at)?;
+            let end = self.value(field, parent, at)?;
+            at = self.skip(end);
             count += 1;
             if self.byte(at) != b',' {
                 break;
@@ -965,14 +1044,14 @@ impl<'a> Reader<'a> {
         Some(at)
     }
 
-    /// One value, up to the token after it.
+    /// Where the value ends that stands here.
     fn value(&mut self, field: usize, parent: usize, at: usize) -> Option<usize> {
         let number = usize::from(self.record(field).kind_at);
         let kind = self.record(number);
-        let row = self.rows;
-        let end = match kind.kind {
-            UNION => return self.choice(field, number, parent, at),
+        match kind.kind {
+            UNION => self.choice(field, number, parent, at),
             STRUCT => {
+                let row = self.rows;
                 if self.byte(at) != b'{' {
                     return self.wrong(at);
                 }
@@ -980,26 +1059,35 @@ impl<'a> Reader<'a> {
                 let inside = self.open(at)?;
                 let end = self.body(number, row, inside)? + 1;
                 self.open -= 1;
-                self.tape[row][3] = end as u16;
-                end
+                self.tape.end(row, end);
+                Some(end)
             }
             _ => {
                 let Some(end) = simple_end(self.message, at, kind) else {
                     return self.wrong(at);
                 };
                 self.push(field, parent, at, end);
-                end
+                Some(end)
             }
-        };
-        Some(self.skip(end))
+        }
     }
 
-    /// A union's value. A chain of choices is a loop: its rows are neighbours that end together.
+    /// The same for a union's int, whose word is of digits.
+    #[inline(always)]
+    fn digits(&mut self, int: usize, parent: usize, at: usize) -> Option<usize> {
+        let Some(end) = int_end(self.message, at, self.record(int)) else {
+            return self.refuse(24, at);
+        };
+        self.push(int, parent, at, end);
+        Some(end)
+    }
+
+    /// The same for a union. A chain of choices is a loop: its rows are neighbours with one end.
     fn choice(&mut self, field: usize, union: usize, parent: usize, at: usize) -> Option<usize> {
         let first = self.rows;
         let (mut field, mut union, mut parent, mut at) = (field, union, parent, at);
         let mut guess = union + 1;
-        let end = loop {
+        let (last, end) = loop {
             let row = self.rows;
             self.push(field, parent, at, 0);
             if class(self.byte(at)) != WORD {
@@ -1009,11 +1097,7 @@ impl<'a> Reader<'a> {
             if int != 0 && matches!(self.byte(at), b'-' | b'0'..=b'9') {
                 let end = word_end(self.message, at);
                 if is_digits(&self.message[at..end]) {
-                    if int_end(self.message, at, self.record(int)).is_none() {
-                        return self.refuse(24, at);
-                    }
-                    self.push(int, row, at, 0);
-                    break end;
+                    break (row, self.digits(int, row, at)?);
                 }
             }
             let (end, chosen) = self.tag(union, at, guess);
@@ -1023,30 +1107,18 @@ impl<'a> Reader<'a> {
             guess = chosen;
             let record = self.record(chosen);
             if record.kind == VOID {
-                self.push(chosen, row, at, 0);
-                break end;
+                self.push(chosen, row, at, end);
+                break (row, end);
             }
-            at = self.skip(end);
-            if self.byte(at) != b'=' {
-                return self.refuse(23, at);
-            }
-            at = self.skip(at + 1);
+            at = self.equals(end)?;
             let number = usize::from(record.kind_at);
             if self.record(number).kind != UNION {
-                let last = self.rows;
-                let next = self.value(chosen, row, at)?;
-                let end = self.tape[last][3];
-                for row in &mut self.tape[first..last] {
-                    row[3] = end;
-                }
-                return Some(next);
+                break (row, self.value(chosen, row, at)?);
             }
             (field, union, parent) = (chosen, number, row);
         };
-        for row in &mut self.tape[first..self.rows] {
-            row[3] = end as u16;
-        }
-        Some(self.skip(end))
+        self.tape.end_all(first..last + 1, end);
+        Some(end)
     }
 
     /// The rest of an unknown item after its word, up to the token after it.
@@ -1220,18 +1292,23 @@ mod tests {
     use crate::generate::Stream;
     use crate::{definition, frames, message, table};
 
+    type Reading = fn(&[u8], &[u8], &mut [u32]) -> Result<usize, Refusal>;
+
     /// What a number holds before a reader gets it.
     const LENT: u32 = 0xA5A5_A5A5;
 
-    /// Holds a reading against the reference, all lent numbers included.
+    /// Holds both readings against the reference, all lent numbers included.
     fn compare_read(table: &[u8], message: &[u8], room: usize) {
-        let (mut rows, mut wanted) = (vec![LENT; room], vec![LENT; room]);
-        let answer = read(table, message, &mut rows);
+        let mut wanted = vec![LENT; room];
         let want = message::read_into(table, message, &mut wanted);
         let want = want.map_err(|refusal| (refusal.number, refusal.place));
         let shown = || String::from_utf8_lossy(message).into_owned();
-        assert_eq!(answer, want, "{table:02x?} {} {room}", shown());
-        assert_eq!(rows, wanted, "{table:02x?} {} {room}", shown());
+        for (passes, reader) in [(1, read as Reading), (2, read_twice)] {
+            let mut rows = vec![LENT; room];
+            let answer = reader(table, message, &mut rows);
+            assert_eq!(answer, want, "{passes} {table:02x?} {} {room}", shown());
+            assert_eq!(rows, wanted, "{passes} {table:02x?} {} {room}", shown());
+        }
     }
 
     fn compare_table(bytes: &[u8]) {
