@@ -2,7 +2,7 @@
 use Prim.Native.Nat.{ℕ, zero, suc, _+_, _-_, _≤_, _<_}
 use mathlib.Core.Bool.{Bool, true, false, and-false}
 use mathlib.Core.List.{List, [], _∷_}
-use mathlib.Core.Path.{_≡_, refl, ap}
+use mathlib.Core.Path.{_≡_, refl, ap, _∙_}
 use native.Mathlib.Numerals.{add-one}
 use native.Mathlib.Omega.{arith}
 use borrow.Author.Tests.{eq-eqb, ne-eqb}
@@ -58,6 +58,12 @@ module _ (a b : List ℕ) (i : ℕ) where
   pub same-end : length a ≤ i → length b ≤ i → sameBytes (drop i a) (drop i b) ≡ true
   unfolding sameBytes
   same-end h k = rw (drop-of-length-le a h, drop-of-length-le b k)
+
+-- at the last byte, which is the same
+pub same-last : (a b : List ℕ) (i last : ℕ) → last ≤ i → i ≤ last → last + 1 ≡ length a → length a ≡ length b → getD a last 0 ≡ getD b last 0 → sameBytes (drop i a) (drop i b) ≡ true
+same-last a b i last h l m k e =
+    let q : i ≡ last = omega arith in
+    rw q (same-more a b last (omega arith) (omega arith) e ∙ same-end a b (last + 1) (omega arith) (omega arith))
 
 pub same-length : (a b : List ℕ) → (length a ≡ length b → ⊥) → sameBytes a b ≡ false
 unfolding sameBytes

@@ -9,12 +9,12 @@ use lib.ListN.{length, getD, take, drop, length-append}
 use lib.Seq.{sets, take-at}
 use borrow.Author.Tests.{lt-ltb, le-ltb}
 use Rattle.classes.specs.Lists.{pick}
-use Rattle.numbers.specs.Limits.{parameterLimit, textLimit, none16}
-use Rattle.schema.specs.Record.{Record}
+use Rattle.numbers.specs.Limits.{parameterLimit, textLimit}
+use Rattle.schema.specs.Record.{Record, Before}
 use Rattle.definition_rules.specs.Words.{kindIsCompound}
 use Rattle.definition_rules.specs.Declarations.{Noted, declarationsOf}
 use Rattle.definition_rules.specs.Records.{recordsOf, topNames}
-use Rattle.definition_rules.specs.Table.{encode, just, decode}
+use Rattle.definition_rules.specs.Table.{encode, numberUp, just, decode}
 use Rattle.definition_rules.specs.Finite.{finites, isEndless}
 use Rattle.definition_rules.specs.Faults.{spotsWhere, recordSpots, rule7Broken, tagRepeated, rootNoStruct, dangling, repeatedNames, faults5, faults6, faults7, faults8, faults9, faults10}
 use Rattle.definition_rules.specs.Compile.{Check, check, Finding, clean, fault, leastOf, findingOf, firstFault, Verdict, refused, table, verdictOf, Answer, compiled, refusal, answerOf, lentAfter}
@@ -28,11 +28,12 @@ use Rattle.records.proofs.Laws.{length-records}
 use Rattle.walk.specs.Walked.{Counted, Uncounted, Walked}
 use Rattle.walk.specs.declared.Walk.{Walk}
 use Rattle.walk.specs.declared.Walk.the-variants.{Count, Bad}
-use Rattle.record_checks.specs.Rounds.{Found}
+use Rattle.record_checks.specs.Sweeps.{Found}
 use Rattle.record_faults.specs.RecordFaults.{faultAt}
 use Rattle.record_faults.proofs.FaultLaws.{spots-from}
 use Rattle.writer.specs.Written.{Wrote, recordsIn as writtenRecords}
 use Rattle.writer.proofs.Widths.{Fit, labels-short}
+use Rattle.writer.proofs.Parents.{parents-fit}
 use Rattle.writer.proofs.ReadBack.{Held, held}
 use Rattle.writer.proofs.WriteLaws.{copied}
 use Rattle.definition.specs.Answers.{recordChecks, declarationChecks, recordsFrom, verdictFrom}
@@ -151,9 +152,9 @@ module _ (text cs : List ℕ) (n : ℕ) where
   later-clean a b e = later clean a b e
 
   -- what the writer made of declarations without a fault 5
-  pub wrote : (len : ℕ) (scratch after : List ℕ) → n ≤ parameterLimit → ((i : ℕ) → i < n → cellAt cs i 15 ≤ none16) → Nowhere ≡ leastPlace (faults5 kept) → length scratch ≡ 22528 → Wrote (writtenRecords text cs n) len scratch after → Held (writtenRecords text cs n) n len scratch after
+  pub wrote : (len : ℕ) (scratch after : List ℕ) → n ≤ parameterLimit → ((i : ℕ) → i < n → Before i (numberUp (cellAt cs i 15))) → Nowhere ≡ leastPlace (faults5 kept) → length scratch ≡ 22528 → Wrote (writtenRecords text cs n) len scratch after → Held (writtenRecords text cs n) n len scratch after
   wrote len scratch after few parents e long w =
-      held text cs n len scratch after (record { few = few; parents = parents; labels = labels-short text cs n (sym e) }) (omega arith) w
+      held text cs n len scratch after (record { few = few; parents = parents-fit cs n parents few; labels = labels-short text cs n (sym e) }) (omega arith) w
 
 -- the front of what was written
 pub front : (p s : List ℕ) (len : ℕ) → p ≡ part s 0 len → p ≡ take len s

@@ -7,8 +7,9 @@ use native.Mathlib.Omega.{arith}
 use lib.Dec.{ltb}
 use lib.ListN.{length, drop, drop-of-length-le}
 use borrow.Author.Tests.{lt-ltb, le-ltb}
-use Rattle.numbers.specs.Limits.{textLimit, parameterLimit, none16}
-use Rattle.schema.specs.Record.{Record}
+use Rattle.numbers.specs.Limits.{textLimit, parameterLimit}
+use Rattle.schema.specs.Record.{Record, Before}
+use Rattle.definition_rules.specs.Table.{numberUp}
 use Rattle.definition_rules.specs.Scan.{Item, itemsOf, tokensOf, placeIf}
 use Rattle.definition_rules.specs.Declarations.{Spots, Noted, noted, Outcome, stuckAt, complete, parseTokens, declarationsOf}
 use Rattle.definition_rules.specs.Records.{recordsOf, topNames}
@@ -21,7 +22,7 @@ use Rattle.declared.specs.declared.Place.{Place}
 use Rattle.declared.specs.declared.Place.the-variants.{Nowhere, At}
 use Rattle.declared.specs.Cells.{cellAt, notedFrom}
 use Rattle.declared.specs.Places.{leastPlace}
-use Rattle.writer.proofs.Parents.{parents-fit}
+use Rattle.writer.proofs.Parents.{parents-before}
 use Rattle.forms.specs.Placed.{placedBy, placed}
 use Rattle.forms.specs.declared.Formed.{Formed}
 use Rattle.forms.specs.declared.Formed.the-variants.{Stuck, Over, Complete}
@@ -163,9 +164,9 @@ module _ (text : List ℕ) where
         records-are : (ns : List Noted) → outcomeOf text ≡ complete ns → recordsOfText text ≡ recordsOf (declarationsOf ns)
         records-are ns e = unfold notedOf in (ap (λ o. recordsOf (declarationsOf (notedOf o))) e)
 
-    -- the parents of the declarations fit their records
-    pub parents : (cells : List ℕ) (n : ℕ) → CompleteIn text cells n → (i : ℕ) → i < n → cellAt cells i 15 ≤ none16
-    parents cells n s = parents-fit text cells n (tokensOf items) (s .list) (s .few) (s .is) (ap declarationsOf (s .kept) ∙ declared-placed (placeAt text items) (s .list))
+    -- the declarations stand after those whose bodies they are in
+    pub parents : (cells : List ℕ) (n : ℕ) → CompleteIn text cells n → (i : ℕ) → i < n → Before i (numberUp (cellAt cells i 15))
+    parents cells n s = parents-before text cells n (tokensOf items) (s .list) (s .is) (ap declarationsOf (s .kept) ∙ declared-placed (placeAt text items) (s .list))
 
 -- ---- the promise
 

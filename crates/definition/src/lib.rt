@@ -6,9 +6,9 @@ ghost use mathlib.Core.Path.{_≡_};
 ghost use mathlib.Core.List.{List};
 ghost use Prim.Native.Nat.{ℕ, _≤_, _<_};
 ghost use lib.ListN.{length};
-ghost use Rattle.numbers.specs.Limits.{parameterLimit, textLimit, none16};
-ghost use Rattle.schema.specs.Record.{Record};
-ghost use Rattle.definition_rules.specs.Table.{just, decode};
+ghost use Rattle.numbers.specs.Limits.{parameterLimit, textLimit};
+ghost use Rattle.schema.specs.Record.{Record, Before, Nested};
+ghost use Rattle.definition_rules.specs.Table.{numberUp, just, decode};
 ghost use Rattle.definition_rules.specs.Compile.{firstFault, answerOf, lentAfter, compileAnswer, tableAfter};
 ghost use Rattle.table_rules.specs.Endless.{EndlessPromise};
 ghost use Rattle.declared.specs.Cells.{cellAt, notedFrom};
@@ -59,7 +59,7 @@ fn blank_marks() -> [bool; 256]
 // Numbers 7 to 10, over the declarations and the records that were written for them.
 fn record_fault(text: &[u8], cells: &[u32], table: &[u8], unpacked: &[u32], n: usize) -> Stop
     requires { ⌜ (n ≤ parameterLimit) × Linked (now table) (now unpacked) n 0 ⌝ }
-    ensures { λ r. ⌜ found r ≡ firstFault (recordChecks (recordsAt (now (table .entry)) (now (unpacked .entry)) n) (notedFrom (now (text .entry)) (now (cells .entry)) n 0)) ⌝ }
+    ensures { λ r. ⌜ (Nested (recordsAt (now (table .entry)) (now (unpacked .entry)) n) → found r ≡ firstFault (recordChecks (recordsAt (now (table .entry)) (now (unpacked .entry)) n) (notedFrom (now (text .entry)) (now (cells .entry)) n 0))) ⌝ }
 {
     let mut have = blank_marks();
     match record_faults::least_fault(cells, table, unpacked, &have, n, 7) {
@@ -84,8 +84,8 @@ fn record_fault(text: &[u8], cells: &[u32], table: &[u8], unpacked: &[u32], n: u
         }
         Place::Nowhere => {}
     }
-    let mut next = blank_marks();
-    record_checks::finites(table, unpacked, n, &mut have, &mut next);
+    let mut rest = blank_marks();
+    record_checks::finites(table, unpacked, n, &mut have, &mut rest);
     match record_faults::least_fault(cells, table, unpacked, &have, n, 10) {
         Place::At(p) => Stop::Fault(10, p),
         Place::Nowhere => Stop::Clear,
@@ -95,7 +95,7 @@ fn record_fault(text: &[u8], cells: &[u32], table: &[u8], unpacked: &[u32], n: u
 // The same, over the table in which the records were written. A table of these records is walked to its end.
 fn written_fault(text: &[u8], cells: &[u32], table: &[u8], n: usize) -> Stop
     requires { ⌜ n ≤ parameterLimit ⌝ }
-    ensures { λ r. ⌜ ((rs : List Record) → decode (now (table .entry)) ≡ just rs → length rs ≡ n → found r ≡ firstFault (recordChecks rs (notedFrom (now (text .entry)) (now (cells .entry)) n 0))) ⌝ }
+    ensures { λ r. ⌜ ((rs : List Record) → decode (now (table .entry)) ≡ just rs → length rs ≡ n → Nested rs → found r ≡ firstFault (recordChecks rs (notedFrom (now (text .entry)) (now (cells .entry)) n 0))) ⌝ }
 {
     let mut unpacked = blank_records();
     match walk::unpack(table, &mut unpacked) {
@@ -111,7 +111,7 @@ fn written_fault(text: &[u8], cells: &[u32], table: &[u8], n: usize) -> Stop
 // so that the lent table is touched only when nothing can be refused any more.
 fn compile_declarations(text: &[u8], cells: &[u32], n: usize, table: &mut [u8]) -> Compiled
     requires { ⌜ (n ≤ parameterLimit) × (length (now text) ≤ textLimit) ⌝ }
-    requires { ⌜ ((i : ℕ) → i < n → cellAt (now cells) i 15 ≤ none16) ⌝ }
+    requires { ⌜ ((i : ℕ) → i < n → Before i (numberUp (cellAt (now cells) i 15))) ⌝ }
     ensures { λ r. ⌜ answer r ≡ answerOf (length (now (table .entry))) (verdictFrom (now (text .entry)) (now (cells .entry)) n) ⌝ }
     ensures { λ _. ⌜ now (table .exit) ≡ lentAfter (verdictFrom (now (text .entry)) (now (cells .entry)) n) (now (table .entry)) ⌝ }
 {

@@ -2,5 +2,6 @@
 pub mod Parents
 -- loops over records
 mod Any
--- number 10: its rounds
-mod Gathering
+-- number 10: bodies as they are gathered, and sweeps
+mod Bodies
+mod Sweeping

@@ -1,3 +1,3 @@
--- What a record is asked about another one, and the rounds that find finite values.
+-- What a record is asked about another one, and the sweeps that find finite values.
 pub mod Besides
-pub mod Rounds
+pub mod Sweeps

@@ -1,16 +1,16 @@
 // The checks of a definition that read only records. In all of them unpacked holds the table's records, n is how many
 // there are, and i is the number of the record that is judged.
 ghost use mathlib.Core.Path.{_≡_};
-ghost use mathlib.Core.Bool.{false};
-ghost use mathlib.Core.List.{[]};
+ghost use mathlib.Core.Bool.{Bool, false};
+ghost use mathlib.Core.List.{List};
 ghost use Prim.Native.Nat.{_≤_};
 ghost use lib.ListN.{length, getD, set};
-ghost use Rattle.schema.specs.Record.{isTop};
+ghost use Rattle.schema.specs.Record.{isTop, Nested};
 ghost use Rattle.definition_rules.specs.Finite.{canDoWithout, endsNeeds, isEndless};
 ghost use Rattle.definition_rules.specs.Faults.{voidMany, anyBefore, parentKind, beside as isBeside, misplacedField, misplacedAlternative, misplacedUntagged, numberTag, voidTop, pluginUndotted, rule7Broken, rootNoStruct};
 ghost use Rattle.records.specs.Stored.{recordIn, recordsAt};
 ghost use Rattle.record_checks.specs.Besides.{isSuch};
-ghost use Rattle.record_checks.specs.Rounds.{stepOver, stepWith, gathered, Over, Kept, Empty, Found};
+ghost use Rattle.record_checks.specs.Sweeps.{stepBy, isNew, addIf, stepWith, gathered, Over, Swept, Empty, Found};
 
 // What is asked of the other records of a body, or of the other tops.
 enum Such {
@@ -217,13 +217,28 @@ fn ends_needs(table: &[u8], unpacked: &[u32], i: usize) -> bool
     records::untagged_at(table, unpacked, i) & (records::lo_count_at(table, unpacked, i) == 0)
 }
 
-// What a step gives the record i before any other is looked at: a struct asks for nothing yet, a union has no choice.
-fn alone(table: &[u8], unpacked: &[u32], have: &[bool], i: usize) -> bool
-    ensures { λ r. ⌜ r ≡ stepOver (now (have .entry)) i (recordIn (now (table .entry)) (now (unpacked .entry)) i) i [] ⌝ }
+// What the body of each record comes to before any record of it is looked at: a struct asks for nothing yet, a union has no choice.
+fn begin(table: &[u8], unpacked: &[u32], n: usize, rest: &mut [bool])
+    requires { ⌜ n ≤ length (now rest) ⌝ }
+    ensures { λ _. ⌜ ((have : List Bool) → Over (now (table .entry)) (now (unpacked .entry)) n have n (now (rest .exit))) ⌝ }
+{
+    let mut i: usize = 0;
+    while i < n {
+        rest[i] = records::kind_at(table, unpacked, i) != 9;
+        i += 1;
+    }
+}
+
+// A step gives the record i a value, where rest has what its body comes to.
+fn has_value(table: &[u8], unpacked: &[u32], have: &[bool], rest: &[bool], i: usize) -> bool
+    ensures { λ r. ⌜ r ≡ stepBy (now (have .entry)) (getD (now (rest .entry)) i false) (recordIn (now (table .entry)) (now (unpacked .entry)) i) ⌝ }
 {
     let k = records::kind_at(table, unpacked, i);
+    if k == 8 {
+        return has(rest, i);
+    }
     if k == 9 {
-        return false;
+        return has(rest, i);
     }
     if k == 10 {
         let t = records::target_at(table, unpacked, i);
@@ -232,17 +247,19 @@ fn alone(table: &[u8], unpacked: &[u32], have: &[bool], i: usize) -> bool
     true
 }
 
-// The marks before any record is joined to the one it stands in.
-fn begin(table: &[u8], unpacked: &[u32], n: usize, have: &[bool], next: &mut [bool])
-    requires { ⌜ n ≤ length (now next) ⌝ }
-    ensures { λ _. ⌜ Over (now (table .entry)) (now (unpacked .entry)) n (now (have .entry)) n (now (next .exit)) ⌝ }
+// Adds i where a step gives it a value, and says whether it was added.
+fn add_if(table: &[u8], unpacked: &[u32], have: &mut [bool], rest: &[bool], i: usize) -> bool
+    ensures { λ r. ⌜ r ≡ isNew (now (have .entry)) (getD (now (rest .entry)) i false) i (recordIn (now (table .entry)) (now (unpacked .entry)) i) ⌝ }
+    ensures { λ _. ⌜ now (have .exit) ≡ addIf (isNew (now (have .entry)) (getD (now (rest .entry)) i false) i (recordIn (now (table .entry)) (now (unpacked .entry)) i)) (now (have .entry)) i ⌝ }
 {
-    let mut i: usize = 0;
-    while i < n {
-        let mark = alone(table, unpacked, have, i);
-        next[i] = mark;
-        i += 1;
+    if has(have, i) {
+        return false;
     }
+    if has_value(table, unpacked, have, rest, i) {
+        put(have, i, true);
+        return true;
+    }
+    false
 }
 
 // What a step gives the record p by i, which stands in its body, and by those after i, which give it rest.
@@ -260,43 +277,32 @@ fn joined(table: &[u8], unpacked: &[u32], have: &[bool], p: usize, i: usize, res
     rest
 }
 
-// Joins i to what next has for the record that i stands in.
-fn gather_one(table: &[u8], unpacked: &[u32], have: &[bool], next: &mut [bool], i: usize)
-    ensures { λ _. ⌜ now (next .exit) ≡ gathered (now (table .entry)) (now (unpacked .entry)) (now (have .entry)) i (recordIn (now (table .entry)) (now (unpacked .entry)) i .parent) (now (next .entry)) ⌝ }
+// Joins i to what rest has for the record that i stands in.
+fn join(table: &[u8], unpacked: &[u32], have: &[bool], rest: &mut [bool], i: usize)
+    ensures { λ _. ⌜ now (rest .exit) ≡ gathered (now (table .entry)) (now (unpacked .entry)) (now (have .entry)) i (recordIn (now (table .entry)) (now (unpacked .entry)) i .parent) (now (rest .entry)) ⌝ }
 {
     let p = records::parent_at(table, unpacked, i);
     if p == 65_535 {
         return;
     }
-    let rest = has(next, p);
-    let mark = joined(table, unpacked, have, p, i, rest);
-    put(next, p, mark);
+    let after = has(rest, p);
+    let mark = joined(table, unpacked, have, p, i, after);
+    put(rest, p, mark);
 }
 
-// What a step gives each record, gathered from the last record to the first.
-fn gather(table: &[u8], unpacked: &[u32], n: usize, have: &[bool], next: &mut [bool])
-    requires { ⌜ n ≤ length (now next) ⌝ }
-    ensures { λ _. ⌜ Over (now (table .entry)) (now (unpacked .entry)) n (now (have .entry)) 0 (now (next .exit)) ⌝ }
+// A sweep in place, from the last record to the first, and whether it added any. A body's records stand after its own, so that
+// rest has the whole body when its record is met.
+fn sweep(table: &[u8], unpacked: &[u32], n: usize, have: &mut [bool], rest: &mut [bool]) -> bool
+    requires { ⌜ n ≤ length (now rest) ⌝ }
+    ensures { λ r. ⌜ (Nested (recordsAt (now (table .entry)) (now (unpacked .entry)) n) → Swept (recordsAt (now (table .entry)) (now (unpacked .entry)) n) (now (have .entry)) (now (have .exit)) r) ⌝ }
 {
-    begin(table, unpacked, n, have, next);
+    begin(table, unpacked, n, rest);
+    let mut more = false;
     let mut i = n;
     while 0 < i {
         i -= 1;
-        gather_one(table, unpacked, have, next, i);
-    }
-}
-
-// Copies the first n marks, and says whether any was another before.
-fn keep(n: usize, next: &[bool], have: &mut [bool]) -> bool
-    requires { ⌜ (n ≤ length (now next)) × (n ≤ length (now have)) ⌝ }
-    ensures { λ r. ⌜ Kept n (now (next .entry)) (now (have .entry)) (now (have .exit)) r ⌝ }
-{
-    let mut more = false;
-    let mut i: usize = 0;
-    while i < n {
-        more = more | (have[i] != next[i]);
-        have[i] = next[i];
-        i += 1;
+        more = more | add_if(table, unpacked, have, rest, i);
+        join(table, unpacked, have, rest, i);
     }
     more
 }
@@ -311,21 +317,20 @@ fn clear(have: &mut [bool])
     }
 }
 
-// Which records have a finite value, if there is room for all: at most n rounds of steps, until one changes nothing.
-pub fn finites(table: &[u8], unpacked: &[u32], n: usize, have: &mut [bool], next: &mut [bool])
-    ensures { λ _. ⌜ (n ≤ length (now (have .entry)) → n ≤ length (now (next .entry)) → Found (recordsAt (now (table .entry)) (now (unpacked .entry)) n) (now (have .exit))) ⌝ }
+// Which records have a finite value, if there is room for all: sweeps in place until nothing changes, or as many as records.
+pub fn finites(table: &[u8], unpacked: &[u32], n: usize, have: &mut [bool], rest: &mut [bool])
+    ensures { λ _. ⌜ (Nested (recordsAt (now (table .entry)) (now (unpacked .entry)) n) → n ≤ length (now (have .entry)) → n ≤ length (now (rest .entry)) → Found (recordsAt (now (table .entry)) (now (unpacked .entry)) n) (now (have .exit))) ⌝ }
 {
     if have.len() < n {
         return;
     }
-    if next.len() < n {
+    if rest.len() < n {
         return;
     }
     clear(have);
     let mut k: usize = 0;
     while k < n {
-        gather(table, unpacked, n, have, next);
-        if keep(n, next, have) {
+        if sweep(table, unpacked, n, have, rest) {
             k += 1;
         } else {
             return;

@@ -1,9 +1,9 @@
 -- One record of a compiled table.
 use mathlib.Core.Bool.{Bool, true, false}
 use mathlib.Core.List.{List, []}
-use Prim.Native.Nat.{ℕ}
+use Prim.Native.Nat.{ℕ, _<_}
 use lib.Dec.{eqb}
-use lib.ListN.{getD}
+use lib.ListN.{length, getD}
 use Rattle.numbers.specs.Limits.{none16, bias}
 
 -- "Parent is the enclosing struct's or union's number .. 65,535 is "none""
@@ -43,3 +43,12 @@ blank = record { kind = 1; parent = top; untagged = false; extension = false; pl
 unfoldable pub recordAt : List Record → ℕ → Record
 unfolding blank
 recordAt table p = getD table p blank
+
+-- the i-th record stands after the one whose body it is in
+unfoldable pub Before : ℕ → Up → Type 0
+Before i top = Unit {0}
+Before i (under p) = p < i
+
+-- as in every table
+unfoldable pub Nested : List Record → Type 0
+Nested rs = (i : ℕ) → i < length rs → Before i (recordAt rs i .parent)

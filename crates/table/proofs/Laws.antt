@@ -1,6 +1,6 @@
 -- The compiler's checks over all records, and the rules over the bytes.
 use mathlib.Core.Path.{_≡_, refl, ap, sym, _∙_}
-use mathlib.Core.Bool.{Bool, true, false, _&&_}
+use mathlib.Core.Bool.{Bool, true, false, not, _&&_, _||_}
 use mathlib.Core.List.{List, [], _∷_}
 use Prim.Native.Nat.{ℕ, suc, _+_, _-_, _^_, _≤_, _<_}
 use native.Mathlib.Numerals.{add-one}
@@ -18,15 +18,13 @@ use Rattle.table_rules.proofs.Theorems.{rules-iff}
 use Rattle.table_rules.specs.RecordRules.{noneBroken, recordChecks, recordRules, rulesOf, tableRules}
 use Rattle.records.specs.Stored.{recordIn, recordsFrom, recordsAt}
 use Rattle.records.proofs.Laws.{length-records, records-more, records-end, records-all}
-use Rattle.record_checks.specs.Rounds.{Found}
+use Rattle.record_checks.specs.Sweeps.{Found}
 use Rattle.definition_rules.specs.Faults.{voidMany, rule7Broken, tagRepeated, rootNoStruct}
 use Rattle.tags.specs.Lists.{Linked, Links}
 use Rattle.tags.proofs.Searching.{links-records}
 use Rattle.walk.specs.declared.Walk.{Walk}
 use Rattle.walk.specs.declared.Walk.the-variants.{Count, Bad}
 use Rattle.walk.specs.Walked.{Enough, Counted, Uncounted, Walked}
-use Rattle.table.specs.declared.Check.{Check}
-use Rattle.table.specs.declared.Check.the-variants.{Voids, Rule7, Tags, Root, Finite}
 use Rattle.table.specs.Checks.{isBroken, Fine, Checked}
 
 -- ---- one check over all records
@@ -54,55 +52,41 @@ unfolding noneBroken isEndless
 none-found rs have f i [] = refl
 none-found rs have f i (q ∷ qs) = rw (f i, none-found rs have f (suc i) qs)
 
-module _ (a b c d e : Bool) where
-  first-no : a ≡ false → a && (b && (c && (d && e))) ≡ false
-  first-no p = rw p
-
-  second-no : a ≡ true → b ≡ false → a && (b && (c && (d && e))) ≡ false
-  second-no p q = rw (p, q)
-
-  third-no : a ≡ true → b ≡ true → c ≡ false → a && (b && (c && (d && e))) ≡ false
-  third-no p q r = rw (p, q, r)
-
-  fourth-no : a ≡ true → b ≡ true → c ≡ true → d ≡ false → a && (b && (c && (d && e))) ≡ false
-  fourth-no p q r s = rw (p, q, r, s)
-
-  last-so : a ≡ true → b ≡ true → c ≡ true → d ≡ true → a && (b && (c && (d && e))) ≡ e
-  last-so p q r s = rw (p, q, r, s)
-
--- the checks one after the other, as the code asks them
-module _ (rs : List Record) (have : List Bool) where
-  abbrev fine : Check → Type 0
-  fine k = noneBroken (isBroken k rs have) 0 rs ≡ true
-
-  abbrev broken : Check → Type 0
-  broken k = noneBroken (isBroken k rs have) 0 rs ≡ false
-
-  pub broken-voids : broken Voids → recordChecks rs ≡ false
-  unfolding recordChecks isBroken
-  broken-voids p = first-no (noneBroken voidMany 0 rs) (noneBroken (rule7Broken rs) 0 rs) (noneBroken (tagRepeated rs) 0 rs) (noneBroken rootNoStruct 0 rs) (noneBroken (isEndless (finites rs)) 0 rs) p
-
-  pub broken-rule7 : fine Voids → broken Rule7 → recordChecks rs ≡ false
-  unfolding recordChecks isBroken
-  broken-rule7 p q = second-no (noneBroken voidMany 0 rs) (noneBroken (rule7Broken rs) 0 rs) (noneBroken (tagRepeated rs) 0 rs) (noneBroken rootNoStruct 0 rs) (noneBroken (isEndless (finites rs)) 0 rs) p q
-
-  pub broken-tags : fine Voids → fine Rule7 → broken Tags → recordChecks rs ≡ false
-  unfolding recordChecks isBroken
-  broken-tags p q r = third-no (noneBroken voidMany 0 rs) (noneBroken (rule7Broken rs) 0 rs) (noneBroken (tagRepeated rs) 0 rs) (noneBroken rootNoStruct 0 rs) (noneBroken (isEndless (finites rs)) 0 rs) p q r
-
-  pub broken-root : fine Voids → fine Rule7 → fine Tags → broken Root → recordChecks rs ≡ false
-  unfolding recordChecks isBroken
-  broken-root p q r s = fourth-no (noneBroken voidMany 0 rs) (noneBroken (rule7Broken rs) 0 rs) (noneBroken (tagRepeated rs) 0 rs) (noneBroken rootNoStruct 0 rs) (noneBroken (isEndless (finites rs)) 0 rs) p q r s
-
-  pub all-finite : (after : List Bool) → fine Voids → fine Rule7 → fine Tags → fine Root → Found rs after → noneBroken (isBroken Finite rs after) 0 rs ≡ recordChecks rs
-  unfolding recordChecks isBroken
-  all-finite after p q r s f = none-found rs after f 0 rs ∙ sym (last-so (noneBroken voidMany 0 rs) (noneBroken (rule7Broken rs) 0 rs) (noneBroken (tagRepeated rs) 0 rs) (noneBroken rootNoStruct 0 rs) (noneBroken (isEndless (finites rs)) 0 rs) p q r s)
-
--- ---- the rules
-
 and-no : (a : Bool) → a && false ≡ false
 and-no true = refl
 and-no false = refl
+
+all-four : (a b c d w x y z : Bool) → not (a || (b || (c || d))) && (w && (x && (y && z))) ≡ (not a && w) && ((not b && x) && ((not c && y) && (not d && z)))
+all-four true b c d w x y z = refl
+all-four false true c d w x y z = rw (and-no w)
+all-four false false true d w x y z = rw (and-no x, and-no w)
+all-four false false false true w x y z = rw (and-no y, and-no x, and-no w)
+all-four false false false false w x y z = refl
+
+fifth : (w x y z e : Bool) → (w && (x && (y && z))) && e ≡ w && (x && (y && (z && e)))
+fifth true true true z e = refl
+fifth true true false z e = refl
+fifth true false y z e = refl
+fifth false x y z e = refl
+
+module _ (rs : List Record) where
+  -- four checks in one go over the records
+  four : (i : ℕ) (qs : List Record) → noneBroken (isBroken rs) i qs ≡ noneBroken voidMany i qs && (noneBroken (rule7Broken rs) i qs && (noneBroken (tagRepeated rs) i qs && noneBroken rootNoStruct i qs))
+  unfolding noneBroken isBroken
+  four i [] = refl
+  four i (q ∷ qs) = rw (four (suc i) qs) (all-four (voidMany i q) (rule7Broken rs i q) (tagRepeated rs i q) (rootNoStruct i q) _ _ _ _)
+
+  checks-are : noneBroken (isBroken rs) 0 rs && noneBroken (isEndless (finites rs)) 0 rs ≡ recordChecks rs
+  unfolding recordChecks
+  checks-are = ap (λ b. b && noneBroken (isEndless (finites rs)) 0 rs) (four 0 rs) ∙ fifth (noneBroken voidMany 0 rs) (noneBroken (rule7Broken rs) 0 rs) (noneBroken (tagRepeated rs) 0 rs) (noneBroken rootNoStruct 0 rs) _
+
+  pub checks-broken : noneBroken (isBroken rs) 0 rs ≡ false → recordChecks rs ≡ false
+  checks-broken e = sym checks-are ∙ rw e
+
+  pub checks-finite : (have : List Bool) → noneBroken (isBroken rs) 0 rs ≡ true → Found rs have → noneBroken (isEndless have) 0 rs ≡ recordChecks rs
+  checks-finite have e f = none-found rs have f 0 rs ∙ (sym (rw e) ∙ checks-are)
+
+-- ---- the rules
 
 pub some-few : (t unpacked : List ℕ) (n : ℕ) → (n ≡ 0 → ⊥) → n ≤ 256 → (leb 1 (length (recordsAt t unpacked n)) ≡ true) × (leb (length (recordsAt t unpacked n)) parameterLimit ≡ true)
 some-few t unpacked n h l = rw (length-records t unpacked n 0) (le-leb 1 n (omega arith), le-leb n 256 l)

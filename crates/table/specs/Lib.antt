@@ -1,2 +1,2 @@
--- The compiler's checks by name.
+-- The compiler's checks of records alone, and what the check of a table says.
 pub mod Checks

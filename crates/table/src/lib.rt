@@ -3,6 +3,8 @@ ghost use mathlib.Core.Path.{_≡_};
 ghost use Prim.Native.Nat.{_≤_, _<_};
 ghost use lib.ListN.{length};
 ghost use Rattle.numbers.specs.Limits.{parameterLimit};
+ghost use Rattle.schema.specs.Record.{Nested};
+ghost use Rattle.definition_rules.specs.Finite.{isEndless};
 ghost use mathlib.Core.Bool.{true};
 ghost use mathlib.Core.Logic.{_↔_};
 ghost use Rattle.table_rules.specs.Compilable.{Compilable};
@@ -13,44 +15,45 @@ ghost use Rattle.walk.specs.Walked.{Enough};
 ghost use Rattle.table.specs.Checks.{isBroken, Checked};
 use walk::Walk;
 
-// What the compiler asks of records alone.
-enum Check {
-    Voids,
-    Rule7,
-    Tags,
-    Root,
-    Finite,
-}
-
 // ---- the compiler's checks
 
-fn is_broken(
-    table: &[u8],
-    unpacked: &[u32],
-    n: usize,
-    have: &[bool],
-    i: usize,
-    check: Check,
-) -> bool
+// What the compiler asks of the record i alone, but for its values.
+fn is_broken(table: &[u8], unpacked: &[u32], n: usize, i: usize) -> bool
     requires { ⌜ (i < n) × Linked (now table) (now unpacked) n 0 ⌝ }
-    ensures { λ r. ⌜ r ≡ isBroken check (recordsAt (now (table .entry)) (now (unpacked .entry)) n) (now (have .entry)) i (recordIn (now (table .entry)) (now (unpacked .entry)) i) ⌝ }
+    ensures { λ r. ⌜ r ≡ isBroken (recordsAt (now (table .entry)) (now (unpacked .entry)) n) i (recordIn (now (table .entry)) (now (unpacked .entry)) i) ⌝ }
 {
-    match check {
-        Check::Voids => record_checks::void_many(table, unpacked, i),
-        Check::Rule7 => record_checks::rule7_broken(table, unpacked, n, i),
-        Check::Tags => tags::tag_again(table, unpacked, n, i),
-        Check::Root => record_checks::root_no_struct(table, unpacked, i),
-        Check::Finite => record_checks::is_endless(table, unpacked, have, i),
+    if record_checks::void_many(table, unpacked, i) {
+        return true;
     }
+    if record_checks::rule7_broken(table, unpacked, n, i) {
+        return true;
+    }
+    if tags::tag_again(table, unpacked, n, i) {
+        return true;
+    }
+    record_checks::root_no_struct(table, unpacked, i)
 }
 
-fn none_broken(table: &[u8], unpacked: &[u32], n: usize, have: &[bool], check: Check) -> bool
+fn none_broken(table: &[u8], unpacked: &[u32], n: usize) -> bool
     requires { ⌜ Linked (now table) (now unpacked) n 0 ⌝ }
-    ensures { λ r. ⌜ r ≡ noneBroken (isBroken check (recordsAt (now (table .entry)) (now (unpacked .entry)) n) (now (have .entry))) 0 (recordsAt (now (table .entry)) (now (unpacked .entry)) n) ⌝ }
+    ensures { λ r. ⌜ r ≡ noneBroken (isBroken (recordsAt (now (table .entry)) (now (unpacked .entry)) n)) 0 (recordsAt (now (table .entry)) (now (unpacked .entry)) n) ⌝ }
 {
     let mut i: usize = 0;
     while i < n {
-        if is_broken(table, unpacked, n, have, i, check) {
+        if is_broken(table, unpacked, n, i) {
+            return false;
+        }
+        i += 1;
+    }
+    true
+}
+
+fn none_endless(table: &[u8], unpacked: &[u32], n: usize, have: &[bool]) -> bool
+    ensures { λ r. ⌜ r ≡ noneBroken (isEndless (now (have .entry))) 0 (recordsAt (now (table .entry)) (now (unpacked .entry)) n) ⌝ }
+{
+    let mut i: usize = 0;
+    while i < n {
+        if record_checks::is_endless(table, unpacked, have, i) {
             return false;
         }
         i += 1;
@@ -66,24 +69,15 @@ fn none_yet() -> [bool; 256]
 
 fn checks_fine(table: &[u8], unpacked: &[u32], n: usize) -> bool
     requires { ⌜ (n ≤ 256) × Linked (now table) (now unpacked) n 0 ⌝ }
-    ensures { λ r. ⌜ r ≡ recordChecks (recordsAt (now (table .entry)) (now (unpacked .entry)) n) ⌝ }
+    ensures { λ r. ⌜ (Nested (recordsAt (now (table .entry)) (now (unpacked .entry)) n) → r ≡ recordChecks (recordsAt (now (table .entry)) (now (unpacked .entry)) n)) ⌝ }
 {
+    if !none_broken(table, unpacked, n) {
+        return false;
+    }
     let mut have = none_yet();
-    if !none_broken(table, unpacked, n, &have, Check::Voids) {
-        return false;
-    }
-    if !none_broken(table, unpacked, n, &have, Check::Rule7) {
-        return false;
-    }
-    if !none_broken(table, unpacked, n, &have, Check::Tags) {
-        return false;
-    }
-    if !none_broken(table, unpacked, n, &have, Check::Root) {
-        return false;
-    }
-    let mut next = none_yet();
-    record_checks::finites(table, unpacked, n, &mut have, &mut next);
-    none_broken(table, unpacked, n, &have, Check::Finite)
+    let mut rest = none_yet();
+    record_checks::finites(table, unpacked, n, &mut have, &mut rest);
+    none_endless(table, unpacked, n, &have)
 }
 
 fn rules(table: &[u8], unpacked: &[u32], n: usize) -> bool

@@ -2,7 +2,7 @@
 use mathlib.Core.Path.{_≡_, refl, ap, subst, sym, _∙_}
 use mathlib.Core.Bool.{Bool, true, false, not, _&&_, _||_}
 use mathlib.Core.List.{List, [], _∷_}
-use Prim.Native.Nat.{ℕ, suc, _+_, _-_, _≤_, _<_}
+use Prim.Native.Nat.{ℕ, zero, suc, _+_, _-_, _≤_, _<_}
 use native.Mathlib.Omega.{arith}
 use lib.Dec.{leb, eqb, ltb}
 use lib.ListN.{length, drop, length-drop}
@@ -16,7 +16,7 @@ use Rattle.numbers.specs.Decimal.{numberOf, isNatural}
 use Rattle.numbers.specs.Range.{numberWhen, readCount, cutRange, onSides, lowOf, highOf, bothRead, readUpper, readCountRange, MaybeNumber, unread, number, Sides, uncut, sides, MaybeRange, noRange, range}
 use Rattle.definition_rules.specs.Scan.{itemsOf, tokensOf, badPlaces, deepPlaces, placeIf, Item}
 use Rattle.definition_rules.specs.Forms.{typeRun, RangeAllowed, HeadAllowed, MaybeRun, absent, given, Tag, ownName, tagless, explicit, Heading, heading, parameter, tops, Form, plain, compound, lastTop, moreTops, topLevel}
-use Rattle.schema.specs.Record.{Up, top, under, Record, isTop, sameUp}
+use Rattle.schema.specs.Record.{Up, top, under, Record, isTop, sameUp, recordAt, Before, Nested}
 use Rattle.definition_rules.specs.Declarations.{declare, treeDeclarations, parentOf, parseTokens, declarationsOf, Declaration, declaration, Noted, noted, inFields, groupOpened, inGroup, groupsClosed, Frame, frame, Outcome, stuckAt, complete, Spots}
 use Rattle.definition_rules.specs.Finite.{finites, isEndless}
 use Rattle.definition_rules.specs.Table.{upNumber, encode, decode, Maybe, none, just}
@@ -331,6 +331,37 @@ storables T rs A (declaration u e (heading w g n c t p) ∷ ds) σ k d o h f =
       (up-low k σ u d (omega arith) (o .0), omega (arith, x .range-mid, x .range-hi), omega (arith, x .range-hi)),
       storables T rs A ds _ (suc k) (desc-push k (isCompound (typeRun (heading w g n c t p))) (inExtension e (closedTo u σ)) (desc-extension k e (closedTo u σ) (desc-closed k u σ d))) (o .2) (omega arith) (f .1),
     )
+
+-- ---- ordered records stand after those whose bodies they are in
+
+up-before : (k : ℕ) (σ : List Frame) (u : Up) → Desc k σ → sameUp (parentOf (closedTo u σ)) u ≡ true → Before k u
+unfolding Before
+up-before k σ top d z = tt
+up-before k σ (under j) d z = by (closedTo (under j) σ) refl z
+  where
+    by : (ρ : List Frame) → closedTo (under j) σ ≡ ρ → sameUp (parentOf ρ) (under j) ≡ true → j < k
+    by [] e z = unfold sameUp parentOf in (bool-no z)
+    by (frame a m ∷ ρ) e z = closed-at σ k j a m ρ d e .1
+
+stands : (σ : List Frame) (r : Record) → standsIn σ r ≡ true → sameUp (parentOf σ) (r .parent) ≡ true
+unfolding standsIn
+stands σ r e = and-both _ _ e .0
+
+before-from : (σ : List Frame) (k : ℕ) (rs : List Record) → Desc k σ → ordered σ k rs ≡ true → (i : ℕ) → i < length rs → Before (k + i) (recordAt rs i .parent)
+unfolding ordered recordAt
+before-from σ k [] d o i h = absurd (omega arith)
+before-from σ k (r ∷ rs) d o zero h =
+    let z : k ≡ k + 0 = omega arith in
+    subst (λ (j : ℕ). Before j (r .parent)) z (up-before k σ (r .parent) d (stands (closedTo (r .parent) σ) r (and-both (standsIn (closedTo (r .parent) σ) r) _ o .0)))
+before-from σ k (r ∷ rs) d o (suc i) h =
+    let z : suc k + i ≡ k + suc i = omega arith in
+    subst (λ (j : ℕ). Before j (recordAt rs i .parent)) z (before-from _ (suc k) rs (desc-push k (kindIsCompound (r .kind)) _ (desc-extension k (r .extension) _ (desc-closed k (r .parent) σ d))) (and-both (standsIn (closedTo (r .parent) σ) r) _ o .1) i (omega arith))
+
+pub ordered-nested : (rs : List Record) → ordered [] 0 rs ≡ true → Nested rs
+unfolding Nested
+ordered-nested rs o i h =
+    let z : 0 + i ≡ i = omega arith in
+    subst (λ (j : ℕ). Before j (recordAt rs i .parent)) z (before-from [] 0 rs (unfold Desc in tt) o i h)
 
 -- ---- the checks, taken apart
 

@@ -9,6 +9,7 @@ use Rattle.schema.specs.Token.{Token, word, string, equals, comma, opening, clo
 use Rattle.message_rules.specs.Scan.{tokensOf}
 use Rattle.message_rules.specs.Verdict.{startOr}
 use Rattle.tokens.specs.Cursor.{part, cutAt, lexemesAt, Step}
+use Rattle.tokens.specs.declared.Cursor.{Cursor}
 use Rattle.tokens.specs.declared.Head.{Head}
 
 -- the token of a kind from a to e
@@ -43,6 +44,10 @@ pub record HeadAt (base : ℕ) (s : List ℕ) (lo : ℕ) (h : Head) : Type 0 whe
   pub some : (h .kind ≡ 0 → ⊥) → Step (cutAt base s lo) base s lo (tokenOf (h .kind) s (h .start) (h .past .at)) (h .start) (h .past .at)
   pub within : h .start ≤ length s
   pub place : base + h .start ≡ startOr (base + length s) (lexemesAt base s lo)
+
+-- the head of a token from a to v
+abbrev pub headOf : ℕ → ℕ → Cursor → Head
+headOf k a v = record { kind = k; start = a; past = v }
 
 -- the head of a mark, a token of one byte
 abbrev pub markHead : ℕ → ℕ → Head

@@ -7,7 +7,7 @@ ghost use Rattle.numbers.specs.Limits.{openLimit};
 ghost use Rattle.classes.specs.Bytes.{isBlank, isWordByte, isPlain, isStringByte};
 ghost use Rattle.message_rules.specs.Scan.{cut, scanFault};
 ghost use Rattle.tokens.specs.Cursor.{rowEnd, cutAt, restAt, Reads};
-ghost use Rattle.tokens.specs.Head.{HeadAt, markHead, LacksComma};
+ghost use Rattle.tokens.specs.Head.{HeadAt, headOf, markHead, LacksComma};
 ghost use Rattle.tokens.specs.Scanned.{foundOf};
 ghost use Rattle.tokens.specs.Digits.{Led, DigitsEnd, DigitsAt};
 ghost use Rattle.tokens.specs.Turn.{ScanTurn, Plains, PlainEnd};
@@ -159,51 +159,30 @@ fn mark(kind: u8, at: usize) -> Head
     }
 }
 
+// The head of a token from start to past.
+fn head_of(kind: u8, start: usize, past: Cursor) -> Head
+    ensures { λ r. ⌜ r ≡ headOf kind start past ⌝ }
+{
+    Head {
+        kind: kind,
+        start: start,
+        past: past,
+    }
+}
+
 impl Cursor {
     fn head_of_next(self, s: &[u8]) -> Head
         ensures { λ r. ⌜ ((base : ℕ) → HeadAt base (now (s .entry)) (self .at) r) ⌝ }
     {
         match self.next(s) {
-            Lexeme::Word(a, v) => Head {
-                kind: WORD,
-                start: a,
-                past: v,
-            },
-            Lexeme::Text(a, v) => Head {
-                kind: STRING,
-                start: a,
-                past: v,
-            },
-            Lexeme::Equals(a, v) => Head {
-                kind: EQUALS,
-                start: a,
-                past: v,
-            },
-            Lexeme::Comma(a, v) => Head {
-                kind: COMMA,
-                start: a,
-                past: v,
-            },
-            Lexeme::Opening(a, v) => Head {
-                kind: OPENING,
-                start: a,
-                past: v,
-            },
-            Lexeme::Closing(a, v) => Head {
-                kind: CLOSING,
-                start: a,
-                past: v,
-            },
-            Lexeme::End => Head {
-                kind: NONE,
-                start: s.len(),
-                past: self,
-            },
-            Lexeme::Bad(_) => Head {
-                kind: NONE,
-                start: s.len(),
-                past: self,
-            },
+            Lexeme::Word(a, v) => head_of(WORD, a, v),
+            Lexeme::Text(a, v) => head_of(STRING, a, v),
+            Lexeme::Equals(a, v) => head_of(EQUALS, a, v),
+            Lexeme::Comma(a, v) => head_of(COMMA, a, v),
+            Lexeme::Opening(a, v) => head_of(OPENING, a, v),
+            Lexeme::Closing(a, v) => head_of(CLOSING, a, v),
+            Lexeme::End => head_of(NONE, s.len(), self),
+            Lexeme::Bad(_) => head_of(NONE, s.len(), self),
         }
     }
 

@@ -1,5 +1,6 @@
 use native.Mathlib.Omega.{arith}
-use mathlib.Core.Path.{sym, ap, _∙_}
+use mathlib.Core.Path.{sym, ap, subst, _∙_}
+use Rattle.schema.specs.Record.{Nested}
 use Rattle.definition_rules.specs.Compile.{firstFault}
 use Rattle.declared.specs.Cells.{notedFrom}
 use Rattle.definition.specs.Answers.{recordChecks}
@@ -8,56 +9,39 @@ use Rattle.tags.proofs.Searching.{links-records}
 use borrow.Author.Needs.{needs}
 use Rattle.definition.proofs.written_fault.Statement.{statement}
 use Rattle.definition.proofs.written_fault.Tie as tie
-use Rattle.definition.proofs.written_fault.Reads as reads
-use Rattle.definition.proofs.written_fault.Lts as lts
-use Rattle.definition.proofs.blank_records.Reads as blank-records-reads
-use Rattle.definition.proofs.record_fault.Reads as record-fault-reads
-use Rattle.tags.proofs.link.Reads as link-reads
-use Rattle.walk.proofs.unpack.Reads as unpack-reads
 
--- src/lib.rt:100:20
 blank-records-requires : tie.Need-blank-records-requires
 blank-records-requires c κs = search needs
 
--- src/lib.rt:101:31
 slice-aggregate-unpack : tie.Need-slice-aggregate-unpack
 slice-aggregate-unpack c = search needs
 
--- src/lib.rt:101:11
 unpack-requires : tie.Need-unpack-requires
 unpack-requires c κs = search needs
 
--- src/lib.rt:103:31
 enum-told : tie.Need-enum-told
 enum-told c = search needs
 
--- src/lib.rt:103:31
 slice-aggregate-link : tie.Need-slice-aggregate-link
 slice-aggregate-link c = search needs
 
--- src/lib.rt:103:13
 link-requires : tie.Need-link-requires
 link-requires c κs = search needs
 
--- src/lib.rt:104:46
 slice-aggregate-record-fault : tie.Need-slice-aggregate-record-fault
 slice-aggregate-record-fault c = search needs
 
--- src/lib.rt:104:13
 record-fault-requires : tie.Need-record-fault-requires
 record-fault-requires c κs = (c .before .before .before .before .before .before .before .before .before .before .before .before .before .pre, (c .before .before .link .ensures (c .before .before .before .before .before .before .before .before .before .before .before .before .before .pre) (omega (arith, c .before .before .before .before .before .before .before .unpack .kept .1 .0, c .before .before .before .before .before .before .before .before .before .blank-records .ensures, c .before .before .before .before .before .before .before .before .before .before .before .before .before .pre))) .linked)
 
--- src/lib.rt:106:22
 enum-told-2 : tie.Need-enum-told-2
 enum-told-2 c = search needs
 
--- src/lib.rt:96:1
 returns : tie.Need-returns
-returns c = λ rs d l. c .record-fault .ensures ∙ ap (λ x. firstFault (recordChecks x (notedFrom (c .before .before .before .before .before .before .before .before .before .before .before .before .before .before .args .text .now) (c .before .before .before .before .before .before .before .before .before .before .before .before .before .before .args .cells .now) (c .before .before .before .before .before .before .before .before .before .before .before .before .before .before .args .n) 0))) (links-records (c .before .before .before .before .before .before .before .before .before .before .before .before .before .before .args .table .now) _ _ _ (c .before .before .before .link .ensures (c .before .before .before .before .before .before .before .before .before .before .before .before .before .before .pre) (omega (arith, c .before .before .before .before .before .before .before .before .unpack .kept .1 .0, c .before .before .before .before .before .before .before .before .before .before .blank-records .ensures, c .before .before .before .before .before .before .before .before .before .before .before .before .before .before .pre))) ∙ unpacked-all (c .before .before .before .before .before .before .before .before .before .before .before .before .before .before .args .table .now) (c .before .before .before .before .before .before .before .before .unpack .last .1 .0) (c .before .before .before .before .before .before .before .before .before .before .before .before .before .before .args .n) rs d l _ _ (c .before .before .before .before .before .before .before .before .unpack .ensures (λ k a b. omega (arith, c .before .before .before .before .before .before .before .before .before .before .blank-records .ensures))) (c .before .before .before .before .before .enum-told .given .1))
+returns c = λ rs d l w. c .record-fault .ensures (subst Nested (sym (links-records (c .before .before .before .before .before .before .before .before .before .before .before .before .before .before .args .table .now) _ _ _ (c .before .before .before .link .ensures (c .before .before .before .before .before .before .before .before .before .before .before .before .before .before .pre) (omega (arith, c .before .before .before .before .before .before .before .before .unpack .kept .1 .0, c .before .before .before .before .before .before .before .before .before .before .blank-records .ensures, c .before .before .before .before .before .before .before .before .before .before .before .before .before .before .pre))) ∙ unpacked-all (c .before .before .before .before .before .before .before .before .before .before .before .before .before .before .args .table .now) (c .before .before .before .before .before .before .before .before .unpack .last .1 .0) (c .before .before .before .before .before .before .before .before .before .before .before .before .before .before .args .n) rs d l _ _ (c .before .before .before .before .before .before .before .before .unpack .ensures (λ k a b. omega (arith, c .before .before .before .before .before .before .before .before .before .before .blank-records .ensures))) (c .before .before .before .before .before .enum-told .given .1))) w) ∙ ap (λ x. firstFault (recordChecks x (notedFrom (c .before .before .before .before .before .before .before .before .before .before .before .before .before .before .args .text .now) (c .before .before .before .before .before .before .before .before .before .before .before .before .before .before .args .cells .now) (c .before .before .before .before .before .before .before .before .before .before .before .before .before .before .args .n) 0))) (links-records (c .before .before .before .before .before .before .before .before .before .before .before .before .before .before .args .table .now) _ _ _ (c .before .before .before .link .ensures (c .before .before .before .before .before .before .before .before .before .before .before .before .before .before .pre) (omega (arith, c .before .before .before .before .before .before .before .before .unpack .kept .1 .0, c .before .before .before .before .before .before .before .before .before .before .blank-records .ensures, c .before .before .before .before .before .before .before .before .before .before .before .before .before .before .pre))) ∙ unpacked-all (c .before .before .before .before .before .before .before .before .before .before .before .before .before .before .args .table .now) (c .before .before .before .before .before .before .before .before .unpack .last .1 .0) (c .before .before .before .before .before .before .before .before .before .before .before .before .before .before .args .n) rs d l _ _ (c .before .before .before .before .before .before .before .before .unpack .ensures (λ k a b. omega (arith, c .before .before .before .before .before .before .before .before .before .before .blank-records .ensures))) (c .before .before .before .before .before .enum-told .given .1))
 
--- src/lib.rt:96:1
 returns-2 : tie.Need-returns-2
-returns-2 c = λ rs d l. unpacked-some (c .before .before .before .before .before .before .before .before .before .args .table .now) (c .before .before .before .unpack .last .1 .0) (c .before .before .before .before .before .before .before .before .before .args .n) rs d l _ (c .before .before .before .before .before .before .before .before .before .pre) (c .before .before .before .unpack .ensures (λ k a b. omega (arith, c .before .before .before .before .before .blank-records .ensures))) (c .enum-told2 .given .1)
+returns-2 c = λ rs d l w. unpacked-some (c .before .before .before .before .before .before .before .before .before .args .table .now) (c .before .before .before .unpack .last .1 .0) (c .before .before .before .before .before .before .before .before .before .args .n) rs d l _ (c .before .before .before .before .before .before .before .before .before .pre) (c .before .before .before .unpack .ensures (λ k a b. omega (arith, c .before .before .before .before .before .blank-records .ensures))) (c .enum-told2 .given .1)
 
 pub written-fault-spec : {M : Type 1} → statement M
 written-fault-spec =

@@ -1,30 +1,30 @@
 use borrow.Author.Needs.{needs}
 use mathlib.Core.Path.{_≡_, refl}
 use mathlib.Core.Bool.{Bool, false}
-use mathlib.Core.List.{[]}
+use mathlib.Core.List.{List, []}
 use Prim.Native.Nat.{ℕ, _-_, _≤_, _<_}
 use native.Mathlib.Omega.{arith}
 use lib.ListN.{length, getD, length-set}
 use Rattle.records.specs.Stored.{recordIn}
-use Rattle.record_checks.specs.Rounds.{stepOver}
-use Rattle.record_checks.proofs.Gathering.{set-below, over-start}
+use Rattle.record_checks.specs.Sweeps.{bodyOver}
+use Rattle.record_checks.proofs.Bodies.{set-below, body-empty, over-start}
 use Rattle.record_checks.proofs.begin.Statement.{statement}
 use Rattle.record_checks.proofs.begin.Tie as tie
 
 abbrev Inv-loop : tie.InvT-loop
-Inv-loop table unpacked n have next₀ i₀ next i = ((k : ℕ) → k < i → getD next k false ≡ stepOver have k (recordIn table unpacked k) k []) × (length next ≡ length next₀)
+Inv-loop table unpacked n rest₀ i₀ rest i = ((have : List Bool) (k : ℕ) → k < i → getD rest k false ≡ bodyOver have k (recordIn table unpacked k) k []) × (length rest ≡ length rest₀)
 
 abbrev μ-loop : tie.MeasureT-loop
-μ-loop table unpacked n have next₀ i₀ next i = n - i
+μ-loop table unpacked n rest₀ i₀ rest i = n - i
 
 loop-holds : tie.Need-loop-holds Inv-loop μ-loop
-loop-holds c = ((λ k h. absurd (omega arith)), refl)
+loop-holds c = ((λ have k h. absurd (omega arith)), refl)
 
-alone-requires : tie.Need-alone-requires Inv-loop μ-loop
-alone-requires c κs = search needs
+kind-at-requires : tie.Need-kind-at-requires Inv-loop μ-loop
+kind-at-requires c κs = search needs
 
-slice-write-next : tie.Need-slice-write-next Inv-loop μ-loop
-slice-write-next c = search needs
+slice-write-rest : tie.Need-slice-write-rest Inv-loop μ-loop
+slice-write-rest c = search needs
 
 add-i : tie.Need-add-i Inv-loop μ-loop
 add-i c = search needs
@@ -33,13 +33,13 @@ loop-less : tie.Need-loop-less Inv-loop μ-loop
 loop-less c = search needs
 
 loop-again : tie.Need-loop-again Inv-loop μ-loop
-loop-again c = (set-below (c .before .before .loop .next) (c .before .before .loop .i) (c .alone .result) (omega arith) (λ (k : ℕ) (b : Bool). b ≡ stepOver (c .before .before .before .before .before .before .before .args .have .now) k (recordIn (c .before .before .before .before .before .before .before .args .table .now) (c .before .before .before .before .before .before .before .args .unpacked .now) k) k []) (c .before .before .loop .inv .0) (c .alone .ensures), simp length-set (c .before .before .loop .inv .1))
+loop-again c = ((λ have. set-below (c .before .before .loop .rest) (c .before .before .loop .i) _ (omega arith) (λ (k : ℕ) (b : Bool). b ≡ bodyOver have k (recordIn (c .before .before .before .before .before .before .args .table .now) (c .before .before .before .before .before .before .args .unpacked .now) k) k []) (c .before .before .loop .inv .0 have) (rw (c .kind-at .ensures) (body-empty have (c .before .before .loop .i) (recordIn (c .before .before .before .before .before .before .args .table .now) (c .before .before .before .before .before .before .args .unpacked .now) (c .before .before .loop .i))))), simp length-set (c .before .before .loop .inv .1))
 
 same-length : tie.Need-same-length Inv-loop μ-loop
 same-length c = search needs
 
 returns : tie.Need-returns Inv-loop μ-loop
-returns c = over-start (c .before .before .before .before .before .before .args .table .now) (c .before .before .before .before .before .before .args .unpacked .now) (c .before .before .before .before .before .before .args .n) (c .before .before .before .before .before .before .args .have .now) (c .before .loop .i) (c .before .loop .next) (c .loop-test .left) (c .before .loop .inv .0)
+returns c = λ have. over-start (c .before .before .before .before .before .args .table .now) (c .before .before .before .before .before .args .unpacked .now) (c .before .before .before .before .before .args .n) have (c .before .loop .i) (c .before .loop .rest) (c .loop-test .left) (c .before .loop .inv .0 have)
 
 pub begin-spec : {M : Type 1} → statement M
 begin-spec =
@@ -48,8 +48,8 @@ begin-spec =
     Inv-loop
     μ-loop
     loop-holds
-    alone-requires
-    slice-write-next
+    kind-at-requires
+    slice-write-rest
     add-i
     loop-less
     loop-again

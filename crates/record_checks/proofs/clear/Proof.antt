@@ -4,7 +4,7 @@ use mathlib.Core.Bool.{Bool, false}
 use Prim.Native.Nat.{ℕ, _-_, _<_}
 use native.Mathlib.Omega.{arith}
 use lib.ListN.{length, getD, length-set}
-use Rattle.record_checks.proofs.Gathering.{set-below, clear-end}
+use Rattle.record_checks.proofs.Bodies.{set-below, clear-end}
 use Rattle.record_checks.proofs.clear.Statement.{statement}
 use Rattle.record_checks.proofs.clear.Tie as tie
 

@@ -1,6 +1,6 @@
 use borrow.Author.Tests.{eq-eqb, ne-eqb}
 use Rattle.classes.specs.Lists.{pick}
-use Rattle.record_checks.specs.Rounds.{stepWith}
+use Rattle.record_checks.specs.Sweeps.{stepWith}
 use borrow.Author.Needs.{needs}
 use Rattle.record_checks.proofs.joined.Statement.{statement}
 use Rattle.record_checks.proofs.joined.Tie as tie

@@ -5,55 +5,39 @@ use native.Mathlib.Omega.{arith}
 use borrow.Author.Needs.{needs}
 use Rattle.table.proofs.checked.Statement.{statement}
 use Rattle.table.proofs.checked.Tie as tie
-use Rattle.table.proofs.checked.Reads as reads
-use Rattle.table.proofs.checked.Lts as lts
-use Rattle.table.proofs.rules.Reads as rules-reads
-use Rattle.tags.proofs.link.Reads as link-reads
-use Rattle.walk.proofs.unpack.Reads as unpack-reads
 
--- src/lib.rt:109:11
 unpack-requires : tie.Need-unpack-requires
 unpack-requires c κs = search needs
 
--- src/lib.rt:110:21
 enum-known-n : tie.Need-enum-known-n
 enum-known-n c = search needs
 
--- src/lib.rt:111:13
 link-requires : tie.Need-link-requires
 link-requires c κs = search needs
 
--- src/lib.rt:112:16
 rules-requires : tie.Need-rules-requires
 rules-requires c κs = ((walked-count (c .before .before .before .before .before .before .before .before .before .before .before .before .before .before .args .table .now) (c .before .before .before .before .before .before .before .before .before .before .unpack .last .1 .0) (c .before .before .before .before .before .before .before .before .before .before .unpack .result) _ (c .before .before .before .before .before .before .before .before .before .before .unpack .ensures (c .before .before .before .before .before .before .before .before .before .before .before .before .before .before .pre)) (c .before .before .before .before .before .before .n .given .1)) .few, (c .before .before .before .link .ensures ((walked-count (c .before .before .before .before .before .before .before .before .before .before .before .before .before .before .args .table .now) (c .before .before .before .before .before .before .before .before .before .before .unpack .last .1 .0) (c .before .before .before .before .before .before .before .before .before .before .unpack .result) _ (c .before .before .before .before .before .before .before .before .before .before .unpack .ensures (c .before .before .before .before .before .before .before .before .before .before .before .before .before .before .pre)) (c .before .before .before .before .before .before .n .given .1)) .few) (omega (arith, c .before .before .before .before .before .before .before .before .before .before .unpack .kept .1 .0, (c .before .before .before .before .before .before .before .before .before .before .before .before .before .before .pre _ ((walked-count (c .before .before .before .before .before .before .before .before .before .before .before .before .before .before .args .table .now) (c .before .before .before .before .before .before .before .before .before .before .unpack .last .1 .0) (c .before .before .before .before .before .before .before .before .before .before .unpack .result) _ (c .before .before .before .before .before .before .before .before .before .before .unpack .ensures (c .before .before .before .before .before .before .before .before .before .before .before .before .before .before .pre)) (c .before .before .before .before .before .before .n .given .1)) .few) ((walked-count (c .before .before .before .before .before .before .before .before .before .before .before .before .before .before .args .table .now) (c .before .before .before .before .before .before .before .before .before .before .unpack .last .1 .0) (c .before .before .before .before .before .before .before .before .before .before .unpack .result) _ (c .before .before .before .before .before .before .before .before .before .before .unpack .ensures (c .before .before .before .before .before .before .before .before .before .before .before .before .before .before .pre)) (c .before .before .before .before .before .before .n .given .1)) .long))))) .linked)
 
--- src/lib.rt:113:17
 same-length : tie.Need-same-length
 same-length c = search needs
 
--- src/lib.rt:113:17
 returns : tie.Need-returns
 unfolding Checked
 returns c = record { kept = sym ((c .before .rules .ensures ∙ table-counted (c .before .before .before .before .before .before .before .before .before .before .before .before .before .before .before .before .args .table .now) (c .before .before .before .before .before .link .last .1 .0) _ (linked-counted (c .before .before .before .before .before .before .before .before .before .before .before .before .before .before .before .before .args .table .now) _ _ _ (c .before .before .before .before .before .link .ensures ((walked-count (c .before .before .before .before .before .before .before .before .before .before .before .before .before .before .before .before .args .table .now) (c .before .before .before .before .before .before .before .before .before .before .before .before .unpack .last .1 .0) (c .before .before .before .before .before .before .before .before .before .before .before .before .unpack .result) _ (c .before .before .before .before .before .before .before .before .before .before .before .before .unpack .ensures (c .before .before .before .before .before .before .before .before .before .before .before .before .before .before .before .before .pre)) (c .before .before .before .before .before .before .before .before .n .given .1)) .few) (omega (arith, c .before .before .before .before .before .before .before .before .before .before .before .before .unpack .kept .1 .0, (c .before .before .before .before .before .before .before .before .before .before .before .before .before .before .before .before .pre _ ((walked-count (c .before .before .before .before .before .before .before .before .before .before .before .before .before .before .before .before .args .table .now) (c .before .before .before .before .before .before .before .before .before .before .before .before .unpack .last .1 .0) (c .before .before .before .before .before .before .before .before .before .before .before .before .unpack .result) _ (c .before .before .before .before .before .before .before .before .before .before .before .before .unpack .ensures (c .before .before .before .before .before .before .before .before .before .before .before .before .before .before .before .before .pre)) (c .before .before .before .before .before .before .before .before .n .given .1)) .few) ((walked-count (c .before .before .before .before .before .before .before .before .before .before .before .before .before .before .before .before .args .table .now) (c .before .before .before .before .before .before .before .before .before .before .before .before .unpack .last .1 .0) (c .before .before .before .before .before .before .before .before .before .before .before .before .unpack .result) _ (c .before .before .before .before .before .before .before .before .before .before .before .before .unpack .ensures (c .before .before .before .before .before .before .before .before .before .before .before .before .before .before .before .before .pre)) (c .before .before .before .before .before .before .before .before .n .given .1)) .long))))) (walked-count (c .before .before .before .before .before .before .before .before .before .before .before .before .before .before .before .before .args .table .now) (c .before .before .before .before .before .before .before .before .before .before .before .before .unpack .last .1 .0) (c .before .before .before .before .before .before .before .before .before .before .before .before .unpack .result) _ (c .before .before .before .before .before .before .before .before .before .before .before .before .unpack .ensures (c .before .before .before .before .before .before .before .before .before .before .before .before .before .before .before .before .pre)) (c .before .before .before .before .before .before .before .before .n .given .1))))) ∙ c .if1 .taken; counted = (linked-counted (c .before .before .before .before .before .before .before .before .before .before .before .before .before .before .before .before .args .table .now) _ _ _ (c .before .before .before .before .before .link .ensures ((walked-count (c .before .before .before .before .before .before .before .before .before .before .before .before .before .before .before .before .args .table .now) (c .before .before .before .before .before .before .before .before .before .before .before .before .unpack .last .1 .0) (c .before .before .before .before .before .before .before .before .before .before .before .before .unpack .result) _ (c .before .before .before .before .before .before .before .before .before .before .before .before .unpack .ensures (c .before .before .before .before .before .before .before .before .before .before .before .before .before .before .before .before .pre)) (c .before .before .before .before .before .before .before .before .n .given .1)) .few) (omega (arith, c .before .before .before .before .before .before .before .before .before .before .before .before .unpack .kept .1 .0, (c .before .before .before .before .before .before .before .before .before .before .before .before .before .before .before .before .pre _ ((walked-count (c .before .before .before .before .before .before .before .before .before .before .before .before .before .before .before .before .args .table .now) (c .before .before .before .before .before .before .before .before .before .before .before .before .unpack .last .1 .0) (c .before .before .before .before .before .before .before .before .before .before .before .before .unpack .result) _ (c .before .before .before .before .before .before .before .before .before .before .before .before .unpack .ensures (c .before .before .before .before .before .before .before .before .before .before .before .before .before .before .before .before .pre)) (c .before .before .before .before .before .before .before .before .n .given .1)) .few) ((walked-count (c .before .before .before .before .before .before .before .before .before .before .before .before .before .before .before .before .args .table .now) (c .before .before .before .before .before .before .before .before .before .before .before .before .unpack .last .1 .0) (c .before .before .before .before .before .before .before .before .before .before .before .before .unpack .result) _ (c .before .before .before .before .before .before .before .before .before .before .before .before .unpack .ensures (c .before .before .before .before .before .before .before .before .before .before .before .before .before .before .before .before .pre)) (c .before .before .before .before .before .before .before .before .n .given .1)) .long))))) (walked-count (c .before .before .before .before .before .before .before .before .before .before .before .before .before .before .before .before .args .table .now) (c .before .before .before .before .before .before .before .before .before .before .before .before .unpack .last .1 .0) (c .before .before .before .before .before .before .before .before .before .before .before .before .unpack .result) _ (c .before .before .before .before .before .before .before .before .before .before .before .before .unpack .ensures (c .before .before .before .before .before .before .before .before .before .before .before .before .before .before .before .before .pre)) (c .before .before .before .before .before .before .before .before .n .given .1))); linked = (c .before .before .before .before .before .link .ensures ((walked-count (c .before .before .before .before .before .before .before .before .before .before .before .before .before .before .before .before .args .table .now) (c .before .before .before .before .before .before .before .before .before .before .before .before .unpack .last .1 .0) (c .before .before .before .before .before .before .before .before .before .before .before .before .unpack .result) _ (c .before .before .before .before .before .before .before .before .before .before .before .before .unpack .ensures (c .before .before .before .before .before .before .before .before .before .before .before .before .before .before .before .before .pre)) (c .before .before .before .before .before .before .before .before .n .given .1)) .few) (omega (arith, c .before .before .before .before .before .before .before .before .before .before .before .before .unpack .kept .1 .0, (c .before .before .before .before .before .before .before .before .before .before .before .before .before .before .before .before .pre _ ((walked-count (c .before .before .before .before .before .before .before .before .before .before .before .before .before .before .before .before .args .table .now) (c .before .before .before .before .before .before .before .before .before .before .before .before .unpack .last .1 .0) (c .before .before .before .before .before .before .before .before .before .before .before .before .unpack .result) _ (c .before .before .before .before .before .before .before .before .before .before .before .before .unpack .ensures (c .before .before .before .before .before .before .before .before .before .before .before .before .before .before .before .before .pre)) (c .before .before .before .before .before .before .before .before .n .given .1)) .few) ((walked-count (c .before .before .before .before .before .before .before .before .before .before .before .before .before .before .before .before .args .table .now) (c .before .before .before .before .before .before .before .before .before .before .before .before .unpack .last .1 .0) (c .before .before .before .before .before .before .before .before .before .before .before .before .unpack .result) _ (c .before .before .before .before .before .before .before .before .before .before .before .before .unpack .ensures (c .before .before .before .before .before .before .before .before .before .before .before .before .before .before .before .before .pre)) (c .before .before .before .before .before .before .before .before .n .given .1)) .long))))) .linked }
 
--- src/lib.rt:117:22
 enum-told : tie.Need-enum-told
 enum-told c = search needs
 
--- src/lib.rt:105:1
 same-length-2 : tie.Need-same-length-2
 same-length-2 c = search needs
 
--- src/lib.rt:105:1
 returns-2 : tie.Need-returns-2
 unfolding Checked
 returns-2 c = sym ((c .before .rules .ensures ∙ table-counted (c .before .before .before .before .before .before .before .before .before .before .before .before .before .before .before .before .args .table .now) (c .before .before .before .before .before .link .last .1 .0) _ (linked-counted (c .before .before .before .before .before .before .before .before .before .before .before .before .before .before .before .before .args .table .now) _ _ _ (c .before .before .before .before .before .link .ensures ((walked-count (c .before .before .before .before .before .before .before .before .before .before .before .before .before .before .before .before .args .table .now) (c .before .before .before .before .before .before .before .before .before .before .before .before .unpack .last .1 .0) (c .before .before .before .before .before .before .before .before .before .before .before .before .unpack .result) _ (c .before .before .before .before .before .before .before .before .before .before .before .before .unpack .ensures (c .before .before .before .before .before .before .before .before .before .before .before .before .before .before .before .before .pre)) (c .before .before .before .before .before .before .before .before .n .given .1)) .few) (omega (arith, c .before .before .before .before .before .before .before .before .before .before .before .before .unpack .kept .1 .0, (c .before .before .before .before .before .before .before .before .before .before .before .before .before .before .before .before .pre _ ((walked-count (c .before .before .before .before .before .before .before .before .before .before .before .before .before .before .before .before .args .table .now) (c .before .before .before .before .before .before .before .before .before .before .before .before .unpack .last .1 .0) (c .before .before .before .before .before .before .before .before .before .before .before .before .unpack .result) _ (c .before .before .before .before .before .before .before .before .before .before .before .before .unpack .ensures (c .before .before .before .before .before .before .before .before .before .before .before .before .before .before .before .before .pre)) (c .before .before .before .before .before .before .before .before .n .given .1)) .few) ((walked-count (c .before .before .before .before .before .before .before .before .before .before .before .before .before .before .before .before .args .table .now) (c .before .before .before .before .before .before .before .before .before .before .before .before .unpack .last .1 .0) (c .before .before .before .before .before .before .before .before .before .before .before .before .unpack .result) _ (c .before .before .before .before .before .before .before .before .before .before .before .before .unpack .ensures (c .before .before .before .before .before .before .before .before .before .before .before .before .before .before .before .before .pre)) (c .before .before .before .before .before .before .before .before .n .given .1)) .long))))) (walked-count (c .before .before .before .before .before .before .before .before .before .before .before .before .before .before .before .before .args .table .now) (c .before .before .before .before .before .before .before .before .before .before .before .before .unpack .last .1 .0) (c .before .before .before .before .before .before .before .before .before .before .before .before .unpack .result) _ (c .before .before .before .before .before .before .before .before .before .before .before .before .unpack .ensures (c .before .before .before .before .before .before .before .before .before .before .before .before .before .before .before .before .pre)) (c .before .before .before .before .before .before .before .before .n .given .1))))) ∙ c .if1 .left
 
--- src/lib.rt:105:1
 same-length-3 : tie.Need-same-length-3
 same-length-3 c = search needs
 
--- src/lib.rt:105:1
 returns-3 : tie.Need-returns-3
 unfolding Checked
 returns-3 c = table-bad (c .before .before .before .before .before .before .before .before .args .table .now) (walked-bad (c .before .before .before .before .before .before .before .before .args .table .now) (c .before .before .before .before .unpack .last .1 .0) (c .before .before .before .before .unpack .result) (c .before .before .before .before .unpack .ensures (c .before .before .before .before .before .before .before .before .pre)) (c .enum-told .given .1))

@@ -7,43 +7,33 @@ use Rattle.table.specs.Checks.{isBroken}
 use Rattle.table.proofs.Laws.{none-start, none-end, none-no, none-more}
 use Rattle.table.proofs.none_broken.Statement.{statement}
 use Rattle.table.proofs.none_broken.Tie as tie
-use Rattle.table.proofs.none_broken.Reads as reads
-use Rattle.table.proofs.none_broken.Lts as lts
-use Rattle.table.proofs.is_broken.Reads as is-broken-reads
 
 abbrev Inv-loop : tie.InvT-loop
-Inv-loop table unpacked n have check i₀ i = noneBroken (isBroken check (recordsAt table unpacked n) have) 0 (recordsAt table unpacked n) ≡ noneBroken (isBroken check (recordsAt table unpacked n) have) i (recordsFrom table unpacked (n - i) i)
+Inv-loop table unpacked n i₀ i = noneBroken (isBroken (recordsAt table unpacked n)) 0 (recordsAt table unpacked n) ≡ noneBroken (isBroken (recordsAt table unpacked n)) i (recordsFrom table unpacked (n - i) i)
 
 abbrev μ-loop : tie.MeasureT-loop
-μ-loop table unpacked n have check i₀ i = n - i
+μ-loop table unpacked n i₀ i = n - i
 
--- src/lib.rt:45:5
 loop-holds : tie.Need-loop-holds Inv-loop μ-loop
-loop-holds c = none-start (isBroken (c .before .before .before .args .check) (recordsAt (c .before .before .before .args .table .now) (c .before .before .before .args .unpacked .now) (c .before .before .before .args .n)) (c .before .before .before .args .have .now)) (c .before .before .before .args .table .now) (c .before .before .before .args .unpacked .now) (c .before .before .before .args .n)
+loop-holds c = none-start (isBroken (recordsAt (c .before .before .args .table .now) (c .before .before .args .unpacked .now) (c .before .before .args .n))) (c .before .before .args .table .now) (c .before .before .args .unpacked .now) (c .before .before .args .n)
 
--- src/lib.rt:46:12
 is-broken-requires : tie.Need-is-broken-requires Inv-loop μ-loop
 is-broken-requires c κs = search needs
 
--- src/lib.rt:47:13
 returns : tie.Need-returns Inv-loop μ-loop
-returns c = sym (c .before .before .before .loop .inv ∙ none-no (isBroken (c .before .before .before .before .before .before .before .args .check) (recordsAt (c .before .before .before .before .before .before .before .args .table .now) (c .before .before .before .before .before .before .before .args .unpacked .now) (c .before .before .before .before .before .before .before .args .n)) (c .before .before .before .before .before .before .before .args .have .now)) (c .before .before .before .before .before .before .before .args .table .now) (c .before .before .before .before .before .before .before .args .unpacked .now) (c .before .before .before .before .before .before .before .args .n) _ (c .before .before .loop-test .taken) (sym (c .before .is-broken .ensures) ∙ c .if1 .taken))
+returns c = sym (c .before .before .before .loop .inv ∙ none-no (isBroken (recordsAt (c .before .before .before .before .before .before .args .table .now) (c .before .before .before .before .before .before .args .unpacked .now) (c .before .before .before .before .before .before .args .n))) (c .before .before .before .before .before .before .args .table .now) (c .before .before .before .before .before .before .args .unpacked .now) (c .before .before .before .before .before .before .args .n) _ (c .before .before .loop-test .taken) (sym (c .before .is-broken .ensures) ∙ c .if1 .taken))
 
--- src/lib.rt:49:9
 add-i : tie.Need-add-i Inv-loop μ-loop
 add-i c = search needs
 
--- src/lib.rt:45:5
 loop-less : tie.Need-loop-less Inv-loop μ-loop
 loop-less c = search needs
 
--- src/lib.rt:45:5
 loop-again : tie.Need-loop-again Inv-loop μ-loop
-loop-again c = c .before .before .before .loop .inv ∙ none-more (isBroken (c .before .before .before .before .before .before .before .args .check) (recordsAt (c .before .before .before .before .before .before .before .args .table .now) (c .before .before .before .before .before .before .before .args .unpacked .now) (c .before .before .before .before .before .before .before .args .n)) (c .before .before .before .before .before .before .before .args .have .now)) (c .before .before .before .before .before .before .before .args .table .now) (c .before .before .before .before .before .before .before .args .unpacked .now) (c .before .before .before .before .before .before .before .args .n) _ (c .before .before .loop-test .taken) (sym (c .before .is-broken .ensures) ∙ c .if1 .left)
+loop-again c = c .before .before .before .loop .inv ∙ none-more (isBroken (recordsAt (c .before .before .before .before .before .before .args .table .now) (c .before .before .before .before .before .before .args .unpacked .now) (c .before .before .before .before .before .before .args .n))) (c .before .before .before .before .before .before .args .table .now) (c .before .before .before .before .before .before .args .unpacked .now) (c .before .before .before .before .before .before .args .n) _ (c .before .before .loop-test .taken) (sym (c .before .is-broken .ensures) ∙ c .if1 .left)
 
--- src/lib.rt:40:1
 returns-2 : tie.Need-returns-2 Inv-loop μ-loop
-returns-2 c = sym (c .before .loop .inv ∙ none-end (isBroken (c .before .before .before .before .before .args .check) (recordsAt (c .before .before .before .before .before .args .table .now) (c .before .before .before .before .before .args .unpacked .now) (c .before .before .before .before .before .args .n)) (c .before .before .before .before .before .args .have .now)) (c .before .before .before .before .before .args .table .now) (c .before .before .before .before .before .args .unpacked .now) (c .before .before .before .before .before .args .n) _ (c .loop-test .left))
+returns-2 c = sym (c .before .loop .inv ∙ none-end (isBroken (recordsAt (c .before .before .before .before .args .table .now) (c .before .before .before .before .args .unpacked .now) (c .before .before .before .before .args .n))) (c .before .before .before .before .args .table .now) (c .before .before .before .before .args .unpacked .now) (c .before .before .before .before .args .n) _ (c .loop-test .left))
 
 pub none-broken-spec : {M : Type 1} → statement M
 none-broken-spec =

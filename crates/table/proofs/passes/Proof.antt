@@ -3,35 +3,25 @@ use Rattle.table.proofs.Laws.{checked-fine, checked-bad}
 use borrow.Author.Needs.{needs}
 use Rattle.table.proofs.passes.Statement.{statement}
 use Rattle.table.proofs.passes.Tie as tie
-use Rattle.table.proofs.passes.Reads as reads
-use Rattle.table.proofs.passes.Lts as lts
-use Rattle.table.proofs.checked.Reads as checked-reads
 
--- src/lib.rt:121:11
 checked-requires : tie.Need-checked-requires
 checked-requires c κs = search needs
 
--- src/lib.rt:122:27
 enum-told : tie.Need-enum-told
 enum-told c = search needs
 
--- src/lib.rt:123:22
 enum-told-2 : tie.Need-enum-told-2
 enum-told-2 c = search needs
 
--- src/lib.rt:117:1
 same-length : tie.Need-same-length
 same-length c = search needs
 
--- src/lib.rt:117:1
 returns : tie.Need-returns
 returns c = sym (checked-fine _ _ (c .before .before .before .before .checked .result) _ (c .before .before .before .before .checked .ensures) (c .enum-told .given .1) .kept)
 
--- src/lib.rt:117:1
 same-length-2 : tie.Need-same-length-2
 same-length-2 c = search needs
 
--- src/lib.rt:117:1
 returns-2 : tie.Need-returns-2
 returns-2 c = sym (checked-bad _ _ (c .before .before .before .before .checked .result) (c .before .before .before .before .checked .ensures) (c .enum-told2 .given .1))
 

@@ -4,41 +4,28 @@ use Rattle.table.proofs.Laws.{few-enough, many-enough, promised}
 use borrow.Author.Needs.{needs}
 use Rattle.table.proofs.table_ok.Statement.{statement}
 use Rattle.table.proofs.table_ok.Tie as tie
-use Rattle.table.proofs.table_ok.Reads as reads
-use Rattle.table.proofs.table_ok.Lts as lts
-use Rattle.table.proofs.few_cells.Reads as few-cells-reads
-use Rattle.table.proofs.many_cells.Reads as many-cells-reads
-use Rattle.table.proofs.passes.Reads as passes-reads
 
--- src/lib.rt:147:23
 few-cells-requires : tie.Need-few-cells-requires
 few-cells-requires c κs = search needs
 
--- src/lib.rt:148:30
 slice-aggregate-passes : tie.Need-slice-aggregate-passes
 slice-aggregate-passes c = search needs
 
--- src/lib.rt:148:9
 passes-requires : tie.Need-passes-requires
 passes-requires c κs = few-enough _ _ (c .before .before .if1 .taken) (c .before .few-cells .ensures)
 
--- src/lib.rt:148:9
 returns : tie.Need-returns
 returns c = promised (c .before .before .before .before .before .before .args .table .now) _ (λ i. omega (arith, c .before .before .before .before .before .shared-slice-known .given i)) (c .before .passes .ensures)
 
--- src/lib.rt:150:20
 many-cells-requires : tie.Need-many-cells-requires
 many-cells-requires c κs = search needs
 
--- src/lib.rt:151:19
 slice-aggregate-passes-2 : tie.Need-slice-aggregate-passes-2
 slice-aggregate-passes-2 c = search needs
 
--- src/lib.rt:151:5
 passes-requires-2 : tie.Need-passes-requires-2
 passes-requires-2 c κs = many-enough _ _ (c .before .many-cells .ensures)
 
--- src/lib.rt:142:1
 returns-2 : tie.Need-returns-2
 returns-2 c = promised (c .before .before .before .before .before .before .args .table .now) _ (λ i. omega (arith, c .before .before .before .before .before .shared-slice-known .given i)) (c .before .passes2 .ensures)
 

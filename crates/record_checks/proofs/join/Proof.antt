@@ -1,8 +1,8 @@
-use Rattle.record_checks.specs.Rounds.{gathered}
+use Rattle.record_checks.specs.Sweeps.{gathered}
 use Rattle.record_checks.proofs.Parents.{parent-top, parent-under}
 use borrow.Author.Needs.{needs}
-use Rattle.record_checks.proofs.gather_one.Statement.{statement}
-use Rattle.record_checks.proofs.gather_one.Tie as tie
+use Rattle.record_checks.proofs.join.Statement.{statement}
+use Rattle.record_checks.proofs.join.Tie as tie
 
 parent-at-requires : tie.Need-parent-at-requires
 parent-at-requires c κs = search needs
@@ -27,8 +27,8 @@ returns-2 : tie.Need-returns-2
 unfolding gathered
 returns-2 c = rw (parent-under (c .before .before .before .before .before .before .before .before .before .before .before .before .before .args .table .now) (c .before .before .before .before .before .before .before .before .before .before .before .before .before .args .unpacked .now) (c .before .before .before .before .before .before .before .before .before .before .before .before .before .args .i) _ (c .before .before .before .before .before .before .before .before .parent-at .ensures) (c .before .before .before .before .before .before .before .if1 .left), c .before .before .put .ensures, c .before .before .before .before .joined .ensures, c .before .before .before .before .before .has .ensures)
 
-pub gather-one-spec : {M : Type 1} → statement M
-gather-one-spec =
+pub join-spec : {M : Type 1} → statement M
+join-spec =
     tie.close
     (tie.spec
     parent-at-requires
