@@ -15,6 +15,7 @@ use Rattle.schema.specs.Record.{top, under}
 use Rattle.schema.specs.Schema.{isUnder}
 use Rattle.definition_rules.specs.Table.{upNumber, numberUp}
 use Rattle.records.specs.Stored.{storedAt, headCells, recordCells, cellPlace, cellIn, keptIn, recordIn, Unpacked}
+use Rattle.records.proofs.Laws.{record-agree}
 
 pub up-number : (x : ℕ) → upNumber (numberUp x) ≡ x
 unfolding upNumber numberUp pick
@@ -140,7 +141,7 @@ module _ (t : List ℕ) (o : ℕ) (cs after : List ℕ) (i : ℕ) where
       same j k b d = sym (cell-there after j k (omega arith)) ∙ (rw e (stores-before (numbersAt t o) cs (cellPlace i 0) (cellPlace j k) (omega arith)) ∙ cell-there cs j k (omega arith))
 
       others : (j : ℕ) → j < i → recordIn t after j ≡ recordIn t cs j
-      others j b = unfold recordIn in (rw (same j 0 b (omega arith), same j 1 b (omega arith), same j 2 b (omega arith), same j 3 b (omega arith), same j 4 b (omega arith), same j 5 b (omega arith), same j 6 b (omega arith), same j 7 b (omega arith), same j 8 b (omega arith), same j 9 b (omega arith)))
+      others j b = record-agree t cs after j (λ k d. same j k b d)
 
 pub unpacked-all : (t : List ℕ) (o : ℕ) (cs after : List ℕ) (i a b c d e f g h j : ℕ) → a ≡ le16 t (o + 2) → b ≡ le16 t (o + 4) → c ≡ le16 t (o + 6) → d ≡ le16 t (o + 8) → e ≡ le16 t (o + 10) → f ≡ leInt t (o + 12) → g ≡ leInt t (o + 16) → h ≡ le16 t (o + 20) → j ≡ le16 t (o + 22) → after ≡ keptAll cs i o a b c d e f g h j → i < parameterLimit → headCells + recordCells * (i + 1) ≤ length cs → Unpacked t o cs i after
 unpacked-all t o cs after i a b c d e f g h j qa qb qc qd qe qf qg qh qj z l m =
