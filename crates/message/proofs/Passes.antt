@@ -32,10 +32,10 @@ use Rattle.rows.proofs.Stores.{rows-append}
 use Rattle.tags.specs.Lists.{Linked}
 use Rattle.lookup.specs.Questions.{schemaAt}
 use Rattle.lookup.proofs.Laws.{schema-is}
-use Rattle.turns.specs.declared.Frame.{Frame}
-use Rattle.turns.specs.declared.Got.{Got}
-use Rattle.turns.specs.declared.Got.the-variants as got
-use Rattle.turns.specs.Ends.{Room, Ended, Ends}
+use Rattle.values.specs.declared.Frame.{Frame}
+use Rattle.values.specs.declared.Got.{Got}
+use Rattle.values.specs.declared.Got.the-variants as got
+use Rattle.values.specs.Ends.{Room, Ended, Ends}
 use Rattle.message.specs.Reads.{answerOf, rootFrame, reading, Rows, Counted, Fills}
 use Rattle.message.specs.declared.Verdict.{Verdict}
 use Rattle.message.specs.declared.Verdict.the-variants.{Accepted, Refused}

@@ -10,9 +10,9 @@ use Rattle.message_rules.specs.Scan.{cut, tokensOf}
 use Rattle.schema.specs.Parse.{parse}
 use Rattle.message_rules.specs.Rows.{Row, cells}
 use Rattle.message_rules.specs.Verdict.{RoomFree, fault, rows, outcome, Answer, accepted, refusal}
-use Rattle.turns.specs.declared.Frame.{Frame}
-use Rattle.turns.specs.declared.Got.{Got}
-use Rattle.turns.specs.declared.Got.the-variants as got
+use Rattle.values.specs.declared.Frame.{Frame}
+use Rattle.values.specs.declared.Got.{Got}
+use Rattle.values.specs.declared.Got.the-variants as got
 use Rattle.message.specs.declared.Verdict.{Verdict}
 use Rattle.message.specs.declared.Verdict.the-variants.{Accepted, Refused}
 

@@ -15,8 +15,8 @@ ghost use Rattle.message_rules.specs.Promise.{ReadPromise};
 ghost use Rattle.message.specs.Reads.{answerOf, rootFrame, reading, Counted, Fills};
 use rows::Row;
 use tokens::Scanned;
-use turns::Frame;
-use turns::Got;
+use values::Frame;
+use values::Got;
 use walk::Walk;
 
 // The rows' count, or a number and a place.

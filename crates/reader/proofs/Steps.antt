@@ -38,17 +38,20 @@ use Rattle.schema.specs.Schema.{isUntaggedOf}
 use Rattle.records.specs.Stored.{recordsAt}
 use Rattle.lookup.proofs.Laws.{untagged-all, untagged-next, untagged-none, untagged-below, next-in}
 use Rattle.lookup.proofs.Marked.{marks-none}
-use Rattle.turns.specs.declared.Frame.{Frame}
-use Rattle.turns.specs.declared.Got.{Got}
-use Rattle.turns.specs.declared.Got.the-variants.{Done, Refused}
-use Rattle.turns.specs.Ends.{Room, Read, Moved, Ended, Ends, EndedValue, EndsValue}
+use Rattle.values.specs.declared.Frame.{Frame}
+use Rattle.values.specs.declared.Got.{Got}
+use Rattle.values.specs.declared.Got.the-variants.{Done, Refused}
+use Rattle.values.specs.Ends.{Room, Read, Moved, Ended, Ends, EndedValue, EndsValue}
 use Rattle.lookup.specs.IntList.{IntsOf}
 use Rattle.lookup.specs.declared.Ints.{Ints}
-use Rattle.turns.specs.Quickly.{QuickValue, QuickOn}
-use Rattle.turns.specs.Going.{Going, Chain}
-use Rattle.turns.specs.Turns.{Values, endOf, Shut, ShutAt, Deeper, Whole, Grows, VoidItem, ListItem, Passes}
-use Rattle.turns.proofs.GoingLaws.{stopped-before, stopped-then, stopped-same, then-refused, then-got, read-same, going-same, going-start, going-stopped, going-on, going-read, going-step, chain-start, chain-stopped, chain-on, chain-read}
-use Rattle.turns.proofs.Parts.{stop-here}
+use Rattle.lists.specs.Quickly.{QuickValue, QuickOn}
+use Rattle.values.specs.Going.{Going, Chain}
+use Rattle.values.specs.Values.{Values, endOf, Shut, ShutAt}
+use Rattle.choices.specs.Choices.{Deeper, Whole}
+use Rattle.lists.specs.Lists.{Grows}
+use Rattle.bodies.specs.Bodies.{VoidItem, ListItem, Passes}
+use Rattle.values.proofs.GoingLaws.{stopped-before, stopped-then, stopped-same, then-refused, then-got, read-same, going-same, going-start, going-stopped, going-on, going-read, going-step, chain-start, chain-stopped, chain-on, chain-read}
+use Rattle.values.proofs.Parts.{stop-here}
 use Rattle.reader.specs.Turning.{valuesOf, here, Fewer, Turned, ElementAt, FieldAt, Itemed, ItemTurn, PlainAt, closedRows, endPlace, isUnion, movedOf, fieldOf, underOf, innerOf, deeperOf, openRow, Twice, WholeAt}
 use Rattle.reader.specs.declared.Taken.{Taken}
 use Rattle.reader.specs.declared.Taken.the-variants as taken

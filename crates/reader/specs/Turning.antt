@@ -16,11 +16,11 @@ use Rattle.tokens.specs.Cursor.{lexemesAt}
 use Rattle.unknown.specs.Along.{tokensAt, Stopped}
 use Rattle.rows.specs.Filled.{withEnds}
 use Rattle.lookup.specs.Seen.{Marks}
-use Rattle.turns.specs.declared.Frame.{Frame}
-use Rattle.turns.specs.declared.Got.{Got}
-use Rattle.turns.specs.declared.Got.the-variants.{Done, Refused}
-use Rattle.turns.specs.Ends.{Moved, Ends, EndsValue}
-use Rattle.turns.specs.Going.{Going}
+use Rattle.values.specs.declared.Frame.{Frame}
+use Rattle.values.specs.declared.Got.{Got}
+use Rattle.values.specs.declared.Got.the-variants.{Done, Refused}
+use Rattle.values.specs.Ends.{Moved, Ends, EndsValue}
+use Rattle.values.specs.Going.{Going}
 use Rattle.reader.specs.declared.Taken.{Taken}
 use Rattle.reader.specs.declared.Taken.the-variants as taken
 use Rattle.reader.specs.declared.Turn.{Turn}

@@ -11,21 +11,21 @@ ghost use Rattle.schema.specs.Parse.{structAt, wholeValue, wholeList, itemsAt, 
 ghost use Rattle.lookup.specs.Questions.{schemaAt};
 ghost use Rattle.lookup.specs.IntList.{IntsOf};
 ghost use Rattle.lookup.specs.Seen.{Marks};
-ghost use Rattle.turns.specs.Ends.{Room, Ends, EndsValue};
+ghost use Rattle.values.specs.Ends.{Room, Ends, EndsValue};
 ghost use Rattle.reader.specs.Turning.{valuesOf, here, TakenAt, ElementAt, FieldAt, ItemTurn, Marked, PlainAt, closedRows, endPlace, WholeAt, isUnion, movedOf, nextOf, fieldOf, underOf, innerOf, deeperOf, openRow};
+use bodies::Item;
+use bodies::Start;
+use choices::Choice;
+use lists::After;
+use lists::Quick;
 use lookup::Found;
 use lookup::Ints;
 use lookup::Shape;
 use rows::Row;
 use tokens::Cursor;
-use turns::After;
-use turns::Choice;
-use turns::Frame;
-use turns::Got;
-use turns::Item;
-use turns::Opened;
-use turns::Quick;
-use turns::Start;
+use values::Frame;
+use values::Got;
+use values::Opened;
 
 // One turn of a loop: on from a cursor with the next row, or out.
 pub enum Turn {
@@ -213,7 +213,7 @@ fn choice(table: &[u8], unpacked: &[u32], n: usize, s: &[u8], rows: &mut [u32], 
             let got = value(table, unpacked, n, s, rows, g);
             return close_chain(rows, f.base, f.row, g.row, got);
         }
-        match turns::choose(table, unpacked, n, s, g, u) {
+        match choices::choose(table, unpacked, n, s, g, u) {
             Choice::Deeper(q, a, v) => {
                 open_row(rows, g, a);
                 g = under(g, v.at, q);
@@ -245,11 +245,11 @@ fn braced(
     requires { ⌜ f .parameter < n ⌝ }
     ensures { λ r. ⌜ EndsValue (structAt (bodyAt (schemaAt (now (table .entry)) (now (unpacked .entry)) n) (f .depth) true) u (here (now (s .entry)) f)) (now (s .entry)) f (now (rows .entry)) (now (rows .exit)) r ⌝ }
 {
-    match turns::open_brace(s, f) {
+    match values::open_brace(s, f) {
         Opened::In(a, v) => {
             let e = v.at;
             match body(table, unpacked, n, &s[e..], rows, inner(f, e, u), true) {
-                Got::Done(w, m) => turns::shut(s, rows, f, a, e + w.at, m),
+                Got::Done(w, m) => values::shut(s, rows, f, a, e + w.at, m),
                 Got::Refused(k, p) => Got::Refused(k, p),
             }
         }
@@ -265,11 +265,11 @@ fn value(table: &[u8], unpacked: &[u32], n: usize, s: &[u8], rows: &mut [u32], f
 {
     let u = lookup::core(table, unpacked, n, f.parameter);
     match lookup::kind(table, unpacked, n, u) {
-        Shape::Void => turns::no_value(s, f),
-        Shape::Simple => turns::simple(table, unpacked, n, s, rows, f, u),
+        Shape::Void => values::no_value(s, f),
+        Shape::Simple => values::simple(table, unpacked, n, s, rows, f, u),
         Shape::Struct => braced(table, unpacked, n, s, rows, f, u),
-        Shape::Union => turns::no_value(s, f),
-        Shape::Reference => turns::no_value(s, f),
+        Shape::Union => values::no_value(s, f),
+        Shape::Reference => values::no_value(s, f),
     }
 }
 
@@ -299,7 +299,7 @@ fn list_value(
     requires { ⌜ IntsOf (schemaAt (now table) (now unpacked) n) (f .parameter) e ⌝ }
     ensures { λ r. ⌜ TakenAt (schemaAt (now (table .entry)) (now (unpacked .entry)) n) (now (s .entry)) f c (now (rows .entry)) (now (rows .exit)) r ⌝ }
 {
-    match turns::quick_int(table, unpacked, n, s, rows, f, c, e) {
+    match lists::quick_int(table, unpacked, n, s, rows, f, c, e) {
         Quick::On(v, m) => Taken::On(v, m),
         Quick::Value(v, m) => Taken::Done(v, m),
         Quick::Slow => match choice(table, unpacked, n, s, rows, f) {
@@ -327,7 +327,7 @@ fn element(
 {
     match list_value(table, unpacked, n, s, rows, f, c, e) {
         Taken::On(v, m) => Taken::On(v, m),
-        Taken::Done(v, m) => match turns::after_value(
+        Taken::Done(v, m) => match lists::after_value(
             table,
             unpacked,
             n,
@@ -386,7 +386,7 @@ fn item(
     requires { ⌜ Marked (now seen) ⌝ }
     ensures { λ r. ⌜ ((ks : List ℕ) → Marks (now (seen .entry)) ks → ItemTurn (schemaAt (now (table .entry)) (now (unpacked .entry)) n) (now (s .entry)) f inside ks (now (seen .exit)) (now (rows .entry)) (now (rows .exit)) r) ⌝ }
 {
-    match turns::item_at(table, unpacked, n, s, f, inside, seen) {
+    match bodies::item_at(table, unpacked, n, s, f, inside, seen) {
         Item::End => Turn::Out(Got::Done(Cursor { at: f.at }, f.row)),
         Item::Void(q, a, v) => {
             lookup::mark(seen, q);
@@ -454,7 +454,7 @@ fn field(
     requires { ⌜ f .parameter < n ⌝ }
     ensures { λ r. ⌜ FieldAt (schemaAt (now (table .entry)) (now (unpacked .entry)) n) (now (s .entry)) f inside (now (rows .entry)) (now (rows .exit)) r ⌝ }
 {
-    match turns::field_at(table, unpacked, n, s, f, inside) {
+    match bodies::field_at(table, unpacked, n, s, f, inside) {
         Start::List => match list(table, unpacked, n, s, rows, f) {
             Got::Done(v, m) => Turn::On(v, m),
             Got::Refused(k, p) => Turn::Out(Got::Refused(k, p)),

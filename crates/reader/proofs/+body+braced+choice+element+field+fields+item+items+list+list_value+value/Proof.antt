@@ -13,7 +13,7 @@ use Rattle.lookup.specs.Questions.{schemaAt, shapeOf}
 use Rattle.lookup.proofs.Marked.{marks-more}
 use Rattle.lookup.specs.IntList.{IntsOf}
 use Rattle.unknown.proofs.AlongLaws.{part-end}
-use Rattle.turns.proofs.Parts.{found-at, found-none}
+use Rattle.values.proofs.Parts.{found-at, found-none}
 use Rattle.reader.specs.Turning.{Marked, endPlace}
 use Rattle.reader.proofs.Steps.{Listing, listing-start, listing-room, listing-named, listing-ints, listing-depth, listing-turn, listing-on, listing-done, listing-refused, Iteming, iteming-start, iteming-room, iteming-depth, iteming-turn, iteming-on, iteming-out, Fielding, fielding-start, fielding-room, fielding-depth, fielding-items, fielding-on, fielding-out, Choosing, choosing-start, choosing-room, choosing-base, choosing-depth, choosing-value, choosing-whole, choosing-stopped, choosing-on, deeper-less, plain-fits, whole-fits, next-between, body-none, body-ends, room-deeper, room-inner, braced-within, braced-ends, braced-refused, quick-ended, quick-element, element-more, element-last, element-after, element-refused, field-on, field-refused, field-none, items-none, item-void, item-list, item-refused, item-passed, plain-none, plain-simple, plain-struct, isPlace}
 use Prim.Native.Nat.{ℕ, _<_}
@@ -52,6 +52,11 @@ use Rattle.reader.proofs.+body+braced+choice+element+field+fields+item+
 use Rattle.reader.proofs.value.Reads as value
 use Rattle.reader.proofs.value.Kinds as value-kinds
 use Rattle.reader.proofs.+body+braced+choice+element+field+fields+item+items+list+list_value+value.Lts-value as value-lts
+use Rattle.bodies.proofs.field_at.Reads as field-at-reads
+use Rattle.bodies.proofs.item_at.Reads as item-at-reads
+use Rattle.choices.proofs.choose.Reads as choose-reads
+use Rattle.lists.proofs.after_value.Reads as after-value-reads
+use Rattle.lists.proofs.quick_int.Reads as quick-int-reads
 use Rattle.lookup.proofs.core.Reads as core-reads
 use Rattle.lookup.proofs.ints_of.Reads as ints-of-reads
 use Rattle.lookup.proofs.kind.Reads as kind-reads
@@ -70,15 +75,10 @@ use Rattle.reader.proofs.under.Reads as under-reads
 use Rattle.reader.proofs.whole.Reads as whole-reads
 use Rattle.rows.proofs.put_row.Reads as put-row-reads
 use Rattle.tokens.proofs.Cursor.head.Reads as head-reads
-use Rattle.turns.proofs.after_value.Reads as after-value-reads
-use Rattle.turns.proofs.choose.Reads as choose-reads
-use Rattle.turns.proofs.field_at.Reads as field-at-reads
-use Rattle.turns.proofs.item_at.Reads as item-at-reads
-use Rattle.turns.proofs.no_value.Reads as no-value-reads
-use Rattle.turns.proofs.open_brace.Reads as open-brace-reads
-use Rattle.turns.proofs.quick_int.Reads as quick-int-reads
-use Rattle.turns.proofs.shut.Reads as shut-reads
-use Rattle.turns.proofs.simple.Reads as simple-reads
+use Rattle.values.proofs.no_value.Reads as no-value-reads
+use Rattle.values.proofs.open_brace.Reads as open-brace-reads
+use Rattle.values.proofs.shut.Reads as shut-reads
+use Rattle.values.proofs.simple.Reads as simple-reads
 use Rattle.reader.proofs.+body+braced+choice+element+field+fields+item+items+list+list_value+value.{
   statement,
 }

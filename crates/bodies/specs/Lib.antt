@@ -1,0 +1,2 @@
+-- What the decisions in a body ensure.
+pub mod Bodies

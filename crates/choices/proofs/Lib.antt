@@ -1,0 +1,2 @@
+-- laws that the functions' proofs cite
+mod Parts

@@ -1,0 +1,2 @@
+-- What the decisions at a union ensure.
+pub mod Choices

@@ -1,0 +1,3 @@
+-- laws that the functions' proofs cite
+mod Parts
+mod Quicks

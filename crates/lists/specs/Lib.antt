@@ -1,0 +1,3 @@
+-- What the decisions in a list ensure.
+pub mod Lists
+pub mod Quickly

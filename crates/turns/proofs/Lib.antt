@@ -1,4 +1,0 @@
--- Laws that other crates' proofs may cite.
-pub mod GoingLaws
-pub mod Parts
-pub mod Quicks
