@@ -61,13 +61,13 @@ unfolding pick
 pick-grows true a b c d f g e = f e
 pick-grows false a b c d f g e = g e
 
-module _ (s t : List Bool) (h : Sub s t) where
+module _ (s t : List Bool) (h : (i : ℕ) → getD s i false ≡ true → getD t i false ≡ true) where
   struct-grows : (p i : ℕ) (rs : List Record) → structStep s p i rs ≡ true → structStep t p i rs ≡ true
   unfolding structStep
   struct-grows p i [] e = e
   struct-grows p i (r ∷ rs) e =
       pick-grows (isUnder p (r .parent)) _ _ _ _
-      (pick-grows (endsNeeds r) _ _ _ _ (λ z. z) (and-grows (canDoWithout r || getD s i false) _ (canDoWithout r || getD t i false) _ (or-grows (canDoWithout r) _ (canDoWithout r) _ (λ z. z) (sub-at s t h i)) (struct-grows p (suc i) rs)))
+      (pick-grows (endsNeeds r) _ _ _ _ (λ z. z) (and-grows (canDoWithout r || getD s i false) _ (canDoWithout r || getD t i false) _ (or-grows (canDoWithout r) _ (canDoWithout r) _ (λ z. z) (h i)) (struct-grows p (suc i) rs)))
       (struct-grows p (suc i) rs) e
 
   union-grows : (p i : ℕ) (rs : List Record) → unionStep s p i rs ≡ true → unionStep t p i rs ≡ true
@@ -75,20 +75,20 @@ module _ (s t : List Bool) (h : Sub s t) where
   union-grows p i [] e = e
   union-grows p i (r ∷ rs) e =
       or-grows (isUnder p (r .parent) && getD s i false) _ (isUnder p (r .parent) && getD t i false) _
-      (and-grows (isUnder p (r .parent)) _ (isUnder p (r .parent)) _ (λ z. z) (sub-at s t h i))
+      (and-grows (isUnder p (r .parent)) _ (isUnder p (r .parent)) _ (λ z. z) (h i))
       (union-grows p (suc i) rs) e
 
-  step-grows : (rs : List Record) (i : ℕ) (r : Record) → finiteStep rs s i r ≡ true → finiteStep rs t i r ≡ true
+  pub step-grows : (rs : List Record) (i : ℕ) (r : Record) → finiteStep rs s i r ≡ true → finiteStep rs t i r ≡ true
   unfolding finiteStep
   step-grows rs i r e =
       pick-grows (eqb (r .kind) 8) _ _ _ _ (struct-grows i 0 rs)
       (pick-grows (eqb (r .kind) 9) _ _ _ _ (union-grows i 0 rs)
-      (pick-grows (eqb (r .kind) 10) _ _ _ _ (sub-at s t h (r .target)) (λ z. z))) e
+      (pick-grows (eqb (r .kind) 10) _ _ _ _ (h (r .target)) (λ z. z))) e
 
-  round-grows : (all : List Record) (i : ℕ) (rs : List Record) → Sub (round all s i rs) (round all t i rs)
-  unfolding round Sub
-  round-grows all i [] = tt
-  round-grows all i (r ∷ rs) = (step-grows all i r, round-grows all (suc i) rs)
+round-grows : (s t : List Bool) → Sub s t → (all : List Record) (i : ℕ) (rs : List Record) → Sub (round all s i rs) (round all t i rs)
+unfolding round Sub
+round-grows s t h all i [] = tt
+round-grows s t h all i (r ∷ rs) = (step-grows s t (sub-at s t h) all i r, round-grows s t h all (suc i) rs)
 
 round-length : (all : List Record) (have : List Bool) (i : ℕ) (rs : List Record) → length (round all have i rs) ≡ length rs
 unfolding round

@@ -11,11 +11,10 @@ use lib.Seq.{getD-set-same, getD-set-other}
 use borrow.Author.Tests.{eqb-true, eqb-false, ltb-true, ltb-false}
 use Rattle.classes.specs.Lists.{pick}
 use Rattle.schema.specs.Record.{Record, recordAt, blank, Nested}
-use Rattle.schema.specs.Schema.{isUnder}
 use Rattle.schema.proofs.CountLaws.{clash-bool}
-use Rattle.definition_rules.specs.Finite.{canDoWithout, endsNeeds, structStep, unionStep, finiteStep, round, rounds, finites}
+use Rattle.definition_rules.specs.Finite.{finiteStep, round, rounds, finites}
 use Rattle.definition_rules.proofs.FirstFault.{Either, left, right}
-use Rattle.definition_rules.proofs.FiniteLaws.{sub-at, finites-closed}
+use Rattle.definition_rules.proofs.FiniteLaws.{sub-at, step-grows, finites-closed}
 use Rattle.records.specs.Stored.{recordIn, recordsAt}
 use Rattle.records.proofs.Laws.{length-records}
 use Rattle.record_checks.specs.Sweeps.{stepBy, isNew, addIf, gathered, Over, isAdded, added, swept, sweepAdds, Swept, Empty, Found}
@@ -42,46 +41,6 @@ set-case s k i e = go (eqb i k) refl
     go : (b : Bool) → eqb i k ≡ b → Either (i ≡ k) (getD s i false ≡ true)
     go true z = left (eqb-true i k z)
     go false z = right (sym (getD-set-other s k i true false (eqb-false i k z)) ∙ e)
-
--- ---- a step grows with the set
-
-and-up : (a b c d : Bool) → Up a c → Up b d → Up (a && b) (c && d)
-and-up true b c d f g e = rw (f refl) (g e)
-and-up false b c d f g e = clash-bool e
-
-or-up : (a b c d : Bool) → Up a c → Up b d → Up (a || b) (c || d)
-or-up true b c d f g e = rw (f refl)
-or-up false b true d f g e = refl
-or-up false b false d f g e = g e
-
-pick-up : (x a b c d : Bool) → Up a c → Up b d → Up (pick x a b) (pick x c d)
-unfolding pick
-pick-up true a b c d f g e = f e
-pick-up false a b c d f g e = g e
-
-module _ (s t : List Bool) (h : In s t) where
-  struct-up : (p i : ℕ) (rs : List Record) → Up (structStep s p i rs) (structStep t p i rs)
-  unfolding structStep
-  struct-up p i [] e = e
-  struct-up p i (r ∷ rs) e =
-      pick-up (isUnder p (r .parent)) _ _ _ _
-      (pick-up (endsNeeds r) _ _ _ _ (λ z. z) (and-up (canDoWithout r || getD s i false) _ (canDoWithout r || getD t i false) _ (or-up (canDoWithout r) _ (canDoWithout r) _ (λ z. z) (h i)) (struct-up p (suc i) rs)))
-      (struct-up p (suc i) rs) e
-
-  union-up : (p i : ℕ) (rs : List Record) → Up (unionStep s p i rs) (unionStep t p i rs)
-  unfolding unionStep
-  union-up p i [] e = e
-  union-up p i (r ∷ rs) e =
-      or-up (isUnder p (r .parent) && getD s i false) _ (isUnder p (r .parent) && getD t i false) _
-      (and-up (isUnder p (r .parent)) _ (isUnder p (r .parent)) _ (λ z. z) (h i))
-      (union-up p (suc i) rs) e
-
-  step-up : (rs : List Record) (i : ℕ) (r : Record) → Up (finiteStep rs s i r) (finiteStep rs t i r)
-  unfolding finiteStep
-  step-up rs i r e =
-      pick-up (eqb (r .kind) 8) _ _ _ _ (struct-up i 0 rs)
-      (pick-up (eqb (r .kind) 9) _ _ _ _ (union-up i 0 rs)
-      (pick-up (eqb (r .kind) 10) _ _ _ _ (h (r .target)) (λ z. z))) e
 
 -- ---- a round, place by place
 
@@ -154,7 +113,7 @@ module _ (rs : List Record) where
     added-within h w = go (getD have i false) (stepAt have i) refl
       where
         new : stepAt have i ≡ true → (k : ℕ) → Either (k ≡ i) (getD have k false ≡ true) → getD (finites rs) k false ≡ true
-        new e k (left z) = rw z (closed-at i h (step-up have (finites rs) w rs i (recordAt rs i) e))
+        new e k (left z) = rw z (closed-at i h (step-grows have (finites rs) w rs i (recordAt rs i) e))
         new e k (right z) = w k z
 
         go : (b d : Bool) → stepAt have i ≡ d → In (pick (pick b false d) (set have i true) have) (finites rs)
@@ -172,7 +131,7 @@ module _ (rs : List Record) where
   swept-got : (i : ℕ) (have : List Bool) (k : ℕ) → k < i → i ≤ length have → Up (stepAt have k) (getD (swept rs i have) k false)
   unfolding swept
   swept-got zero have k h l e = absurd (omega arith)
-  swept-got (suc i) have k h l e = go (eqb k i) refl (λ m. swept-got i (added rs have i) k m (rw (added-length have i) (omega arith)) (step-up have (added rs have i) (added-grows have i) rs k (recordAt rs k) e))
+  swept-got (suc i) have k h l e = go (eqb k i) refl (λ m. swept-got i (added rs have i) k m (rw (added-length have i) (omega arith)) (step-grows have (added rs have i) (added-grows have i) rs k (recordAt rs k) e))
     where
       go : (b : Bool) → eqb k i ≡ b → (k < i → getD (swept rs i (added rs have i)) k false ≡ true) → getD (swept rs i (added rs have i)) k false ≡ true
       go true z f = let q = eqb-true k i z in swept-grows i (added rs have i) k (rw q (added-got have i (omega arith) (rw q at e)))
@@ -196,7 +155,7 @@ module _ (rs : List Record) where
   swept-ahead m have l w k e =
       let z = rw (rounds-more m rs none) at e in
       let h = round-in rs (rounds m rs none) 0 rs k z in
-      swept-got (length rs) have k h l (step-up (rounds m rs none) have w rs k (recordAt rs k) (sym (round-step (rounds m rs none) k h) ∙ z))
+      swept-got (length rs) have k h l (step-grows (rounds m rs none) have w rs k (recordAt rs k) (sym (round-step (rounds m rs none) k h) ∙ z))
 
   -- where a sweep adds nothing, no step does
   swept-still : (i : ℕ) (have : List Bool) → sweepAdds rs i have ≡ false → (swept rs i have ≡ have) × ((k : ℕ) → k < i → Up (stepAt have k) (getD have k false))
@@ -220,7 +179,7 @@ module _ (rs : List Record) where
   rounds-closed have c (suc m) k e =
       let z = rw (rounds-more m rs none) at e in
       let h = round-in rs (rounds m rs none) 0 rs k z in
-      c k h (step-up (rounds m rs none) have (rounds-closed have c m) rs k (recordAt rs k) (sym (round-step (rounds m rs none) k h) ∙ z))
+      c k h (step-grows (rounds m rs none) have (rounds-closed have c m) rs k (recordAt rs k) (sym (round-step (rounds m rs none) k h) ∙ z))
 
   both-in : (s t : List Bool) → In s t → In t s → (i : ℕ) → getD s i false ≡ getD t i false
   both-in s t f g i = go (getD s i false) (getD t i false) (f i) (g i)
