@@ -13,6 +13,7 @@ use Rattle.classes.proofs.Rows.{run-more, run-stop, run-end}
 use Rattle.classes.proofs.Segment.{segment}
 use Rattle.schema.specs.Token.{Token, word, equals, comma}
 use Rattle.schema.proofs.CountLaws.{clash-bool, and-both}
+use Rattle.schema.proofs.Inverse.{or-case}
 use Rattle.message_rules.specs.Scan.{lexeme, putFirst, isOpening, openAfter}
 use Rattle.message_rules.proofs.Spelling.{word-not-blank}
 use Rattle.tokens.specs.Cursor.{part, rowEnd, cutAt, restAt, Step}
@@ -67,29 +68,31 @@ plain-more s i j p h t = record { is = λ n. p .is n ∙ plain-one s n j h t; le
 
 -- ---- several at once
 
-pub common-plain : (b : ℕ) → (leb 42 b && leb b 122) && not (eqb b 63) ≡ true → isPlain b ≡ true
+pub common-plain : (b : ℕ) → ((leb 42 b && leb b 122) && not (eqb b 63)) || eqb b 32 ≡ true → isPlain b ≡ true
 unfolding isPlain isBlank isWordByte
-common-plain b e =
-    and-both (leb 42 b && leb b 122) (not (eqb b 63)) e (λ r n. and-both (leb 42 b) (leb b 122) r (λ x y.
-    sym (segment isPlain (63 ∷ []) {v = true} {b = b} 42 123 (tt, eqb-false b 63 (no (eqb b 63) n)) (leb-true 42 b x) (omega (arith, leb-true b 122 y)) tt)))
+common-plain b e = or-case ((leb 42 b && leb b 122) && not (eqb b 63)) (eqb b 32) e mark blank
   where
     no : (t : Bool) → not t ≡ true → t ≡ false
     no true z = clash-bool z
     no false z = refl
 
-pub plains-two : (s : List ℕ) (i : ℕ) (x y : Bool) → i + 2 ≤ length s → (x ≡ true → isPlain (getD s i 0) ≡ true) → (y ≡ true → isPlain (getD s (i + 1) 0) ≡ true) → x && y ≡ true → Plains s i 2
-plains-two s i x y h f g e = and-both x y e (λ a b. record { there = h; plain = λ k l u. go k (eqb k i) refl l u (f a) (g b) })
-  where
-    go : (k : ℕ) (t : Bool) → eqb k i ≡ t → i ≤ k → k < i + 2 → isPlain (getD s i 0) ≡ true → isPlain (getD s (i + 1) 0) ≡ true → isPlain (getD s k 0) ≡ true
-    go k true z l u p q = ap (λ j. isPlain (getD s j 0)) (eqb-true k i z) ∙ p
-    go k false z l u p q = let m = eqb-false k i z in ap (λ j. isPlain (getD s j 0)) (omega arith) ∙ q
+    mark : (leb 42 b && leb b 122) && not (eqb b 63) ≡ true → isPlain b ≡ true
+    mark e =
+        and-both (leb 42 b && leb b 122) (not (eqb b 63)) e (λ r n. and-both (leb 42 b) (leb b 122) r (λ x y.
+        sym (segment isPlain (63 ∷ []) {v = true} {b = b} 42 123 (tt, eqb-false b 63 (no (eqb b 63) n)) (leb-true 42 b x) (omega (arith, leb-true b 122 y)) tt)))
 
-pub plains-join : (s : List ℕ) (i n : ℕ) (x y : Bool) → (x ≡ true → Plains s i n) → (y ≡ true → Plains s (i + n) n) → x && y ≡ true → Plains s i (n + n)
-plains-join s i n x y f g e = and-both x y e (λ a b. let p = f a in let q = g b in record { there = omega (arith, q .there); plain = λ k l u. go k (ltb k (i + n)) refl l u p q })
+    blank : eqb b 32 ≡ true → isPlain b ≡ true
+    blank e = ap isPlain (eqb-true b 32 e)
+
+pub plains-none : (s : List ℕ) (i : ℕ) → i ≤ length s → Plains s i 0
+plains-none s i h = record { there = omega arith; plain = λ k l u. absurd (omega arith) }
+
+pub plains-more : (s : List ℕ) (i n : ℕ) (x y : Bool) → (x ≡ true → Plains s i n) → i + n < length s → (y ≡ true → isPlain (getD s (i + n) 0) ≡ true) → x && y ≡ true → Plains s i (n + 1)
+plains-more s i n x y f h g e = and-both x y e (λ a b. record { there = omega arith; plain = λ k l u. go k (ltb k (i + n)) refl l u (f a) (g b) })
   where
-    go : (k : ℕ) (t : Bool) → ltb k (i + n) ≡ t → i ≤ k → k < i + (n + n) → Plains s i n → Plains s (i + n) n → isPlain (getD s k 0) ≡ true
+    go : (k : ℕ) (t : Bool) → ltb k (i + n) ≡ t → i ≤ k → k < i + (n + 1) → Plains s i n → isPlain (getD s (i + n) 0) ≡ true → isPlain (getD s k 0) ≡ true
     go k true z l u p q = p .plain k l (ltb-true k (i + n) z)
-    go k false z l u p q = q .plain k (ltb-false k (i + n) z) (omega arith)
+    go k false z l u p q = let m = ltb-false k (i + n) z in let j : k ≡ i + n = omega arith in rw j q
 
 pub plain-many : (n : ℕ) (s : List ℕ) (i j : ℕ) → PlainEnd s i j → Plains s j n → PlainEnd s i (j + n)
 plain-many zero s i j p q = let z : j + 0 ≡ j = omega arith in rw z p

@@ -336,34 +336,26 @@ fn scan_turn(s: &[u8], u: Cursor, deep: usize) -> Turn
 fn is_common(b: u8) -> bool
     ensures { λ r. ⌜ (r ≡ true → isPlain b ≡ true) ⌝ }
 {
-    (b'*' <= b) & (b <= b'z') & (b != b'?')
+    ((b'*' <= b) & (b <= b'z') & (b != b'?')) | (b == b' ')
 }
 
-fn two(s: &[u8], i: usize) -> bool
-    requires { ⌜ i + 2 ≤ length (now s) ⌝ }
-    ensures { λ r. ⌜ (r ≡ true → Plains (now (s .entry)) i 2) ⌝ }
-{
-    is_common(s[i]) & is_common(s[i + 1])
-}
-
-fn four(s: &[u8], i: usize) -> bool
-    requires { ⌜ i + 4 ≤ length (now s) ⌝ }
-    ensures { λ r. ⌜ (r ≡ true → Plains (now (s .entry)) i 4) ⌝ }
-{
-    two(s, i) & two(s, i + 2)
-}
-
-// The next eight bytes are there and change nothing.
-fn eight(s: &[u8], i: usize) -> bool
-    ensures { λ r. ⌜ (r ≡ true → Plains (now (s .entry)) i 8) ⌝ }
+// The next sixteen bytes are there and change nothing. One test for all: no branch on a byte.
+fn sixteen(s: &[u8], i: usize) -> bool
+    ensures { λ r. ⌜ (r ≡ true → Plains (now (s .entry)) i 16) ⌝ }
 {
     if s.len() <= i {
         return false;
     }
-    if s.len() - i < 8 {
+    if s.len() - i < 16 {
         return false;
     }
-    four(s, i) & four(s, i + 4)
+    let mut ok = true;
+    let mut k: usize = 0;
+    while k < 16 {
+        ok = ok & is_common(s[i + k]);
+        k += 1;
+    }
+    ok
 }
 
 // Past the bytes from at on that change nothing for number 22.
@@ -372,8 +364,8 @@ fn plain_end(s: &[u8], at: usize) -> usize
 {
     let mut i = at;
     while i < s.len() {
-        if eight(s, i) {
-            i += 8;
+        if sixteen(s, i) {
+            i += 16;
         } else {
             let b = s[i];
             if classes::is_plain(b) {

@@ -17,17 +17,17 @@ abbrev μ-loop : tie.MeasureT-loop
 loop-holds : tie.Need-loop-holds Inv-loop μ-loop
 loop-holds c = plain-start _ _
 
-eight-requires : tie.Need-eight-requires Inv-loop μ-loop
-eight-requires c κs = search needs
+sixteen-requires : tie.Need-sixteen-requires Inv-loop μ-loop
+sixteen-requires c κs = search needs
 
 add-i : tie.Need-add-i Inv-loop μ-loop
-add-i c = omega (arith, (c .before .eight .ensures (c .if1 .taken)) .there)
+add-i c = omega (arith, (c .before .sixteen .ensures (c .if1 .taken)) .there)
 
 loop-less : tie.Need-loop-less Inv-loop μ-loop
-loop-less c = omega (arith, (c .before .eight .ensures (c .if1 .taken)) .there)
+loop-less c = omega (arith, (c .before .sixteen .ensures (c .if1 .taken)) .there)
 
 loop-again : tie.Need-loop-again Inv-loop μ-loop
-loop-again c = plain-many 8 _ _ _ (c .before .before .before .loop .inv) (c .before .eight .ensures (c .if1 .taken))
+loop-again c = plain-many 16 _ _ _ (c .before .before .before .loop .inv) (c .before .sixteen .ensures (c .if1 .taken))
 
 shared-slice-read-b : tie.Need-shared-slice-read-b Inv-loop μ-loop
 shared-slice-read-b c = search needs
@@ -57,7 +57,7 @@ plain-end-spec =
     Inv-loop
     μ-loop
     loop-holds
-    eight-requires
+    sixteen-requires
     add-i
     loop-less
     loop-again
