@@ -1,9 +1,10 @@
 -- A value of a list of ints that is plain digits.
 use mathlib.Core.Path.{_≡_}
 use mathlib.Core.List.{List, [], _∷_}
-use Prim.Native.Nat.{ℕ, _+_, _*_, _≤_}
+use Prim.Native.Nat.{ℕ, _+_, _*_, _≤_, _<_}
 use lib.Seq.{sets}
-use Rattle.numbers.specs.Limits.{bias, rowWidth}
+use Rattle.numbers.specs.Limits.{rowWidth}
+use Rattle.numbers.specs.Packed.{packedLimit}
 use Rattle.schema.specs.Schema.{Schema}
 use Rattle.schema.specs.Schema as schema
 use Rattle.schema.specs.Parse.{simpleAt}
@@ -16,10 +17,11 @@ use Rattle.values.specs.declared.Frame.{Frame}
 use Rattle.lists.specs.declared.Quick.{Quick}
 use Rattle.lists.specs.declared.Quick.the-variants.{On, Value, Slow}
 
--- the number lies in the range
-pub record Takes (e : Ints) (v : ℕ) : Type 0 where
-  pub least : e .least ≤ bias + v
-  pub most : bias + v ≤ e .most
+-- the packed digits lie in the range
+pub record Takes (e : Ints) (d : ℕ) : Type 0 where
+  pub least : e .least ≤ d
+  pub most : d ≤ e .most
+  pub few : d < packedLimit
 
 -- the row of an int from f .at to end
 abbrev pub intRow : Frame → ℕ → List ℕ → List ℕ

@@ -63,14 +63,11 @@ pub enum Quick {
     Slow,
 }
 
-// The number v is a value of the list.
-fn takes(e: Ints, v: u64) -> bool
-    ensures { λ r. ⌜ (r ≡ true → Takes e v) ⌝ }
+// The packed digits d are a value of the list.
+fn takes(e: Ints, d: u64) -> bool
+    ensures { λ r. ⌜ (r ≡ true → Takes e d) ⌝ }
 {
-    if 0xFFFF_FFFF < v {
-        return false;
-    }
-    numbers::lies_within(0x8000_0000 + v, e.least, e.most)
+    (e.least <= d) & (d <= e.most)
 }
 
 // The row of an int that ends at end.
@@ -111,15 +108,15 @@ pub fn quick_int(
     }
     match tokens::digits_at(s, f.at) {
         Digits::Other => Quick::Slow,
-        Digits::Before(end, v) => {
-            if takes(e, v) & lookup::may_grow(e.hi, c + 1) {
+        Digits::Before(end, d) => {
+            if takes(e, d) & (c + 1 < e.hi) {
                 int_row(rows, f, end);
                 return Quick::On(Cursor { at: end + 1 }, f.row + 1);
             }
             Quick::Slow
         }
-        Digits::Number(end, v) => {
-            if takes(e, v) {
+        Digits::Number(end, d) => {
+            if takes(e, d) {
                 int_row(rows, f, end);
                 return Quick::Value(Cursor { at: end }, f.row + 1);
             }

@@ -2,7 +2,7 @@
 // blank record's.
 ghost use mathlib.Core.Path.{_≡_};
 ghost use mathlib.Core.Bool.{true, false};
-ghost use Prim.Native.Nat.{_+_};
+ghost use Prim.Native.Nat.{ℕ, _+_, _-_, _<_};
 ghost use lib.ListN.{length, getD, set};
 ghost use Rattle.classes.specs.Bytes.{between};
 ghost use Rattle.numbers.specs.Limits.{bias};
@@ -109,12 +109,33 @@ pub fn optional(table: &[u8], unpacked: &[u32], n: usize, p: usize) -> bool
     records::extension_at(table, unpacked, p) | records::plugin_at(table, unpacked, p)
 }
 
-// What a list of ints takes: the range, counted from the least i32, and how many. Without on it is another list.
+// What a list of ints takes, in packed digits: from least to most; fewer than hi values may have one more. Without on it is
+// another list, or takes no natural number.
 pub struct Ints {
     pub on: bool,
-    pub least: u32,
-    pub most: u32,
+    pub least: u64,
+    pub most: u64,
     pub hi: usize,
+}
+
+// How far a number that is counted from the least i32 lies above 0.
+fn above_zero(x: u32) -> u32
+    ensures { λ r. ⌜ r ≡ x - bias ⌝ }
+{
+    if x < 0x8000_0000 {
+        return 0;
+    }
+    x - 0x8000_0000
+}
+
+// How many values a list may have, where no limit is more than any list has.
+fn most_values(hi: usize) -> usize
+    ensures { λ r. ⌜ ((c : ℕ) → c < r → mayGrow hi c ≡ true) ⌝ }
+{
+    if hi == 65_535 {
+        return 0xFFFF_FFFF;
+    }
+    hi
 }
 
 // What the list of p takes.
@@ -122,20 +143,21 @@ pub fn ints_of(table: &[u8], unpacked: &[u32], n: usize, p: usize) -> Ints
     ensures { λ r. ⌜ IntsOf (schemaAt (now (table .entry)) (now (unpacked .entry)) n) p r ⌝ }
 {
     let u = core(table, unpacked, n, p);
-    let most_values = hi(table, unpacked, n, p);
+    let most_count = most_values(hi(table, unpacked, n, p));
     if n <= u {
         return Ints {
             on: false,
             least: 0,
             most: 0,
-            hi: most_values,
+            hi: most_count,
         };
     }
+    let most = records::most_at(table, unpacked, u);
     Ints {
-        on: records::kind_at(table, unpacked, u) == 3,
-        least: records::least_at(table, unpacked, u),
-        most: records::most_at(table, unpacked, u),
-        hi: most_values,
+        on: (records::kind_at(table, unpacked, u) == 3) & (0x8000_0000 <= most),
+        least: numbers::packed(above_zero(records::least_at(table, unpacked, u))),
+        most: numbers::packed(above_zero(most)),
+        hi: most_count,
     }
 }
 

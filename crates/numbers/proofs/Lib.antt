@@ -4,3 +4,4 @@ pub mod Bytes
 pub mod Bits
 pub mod Digits
 pub mod Ranges
+pub mod Packing

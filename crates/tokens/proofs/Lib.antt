@@ -4,3 +4,4 @@ pub mod Steps
 pub mod Heads
 pub mod Plain
 pub mod Naturals
+pub mod Eight

@@ -9,13 +9,14 @@ use native.Mathlib.Nat.{add-zero}
 use lib.Dec.{eqb, leb, ltb}
 use lib.ListN.{length, getD, take, drop, length-drop, List·getD-eq-default}
 use lib.Seq.{drop-cons, getD-drop, getD-take, length-take-le}
-use borrow.Author.Tests.{lt-ltb, leb-true, ne-eqb}
+use borrow.Author.Tests.{lt-ltb, leb-true, ltb-true, ltb-false}
 use Rattle.classes.specs.Bytes.{between, isDigit, isBlank, isWordByte}
 use Rattle.classes.specs.Lists.{every, runOf}
-use Rattle.classes.proofs.Rows.{run-more, run-stop, run-within}
+use Rattle.classes.proofs.Rows.{run-more, run-stop, run-end}
 use Rattle.numbers.specs.Decimal.{readDigits, numberOf, isNatural}
+use Rattle.numbers.specs.Packed.{Packed, none, more}
 use Rattle.schema.specs.Token.{word, comma}
-use Rattle.schema.proofs.CountLaws.{clash-bool}
+use Rattle.schema.proofs.CountLaws.{clash-bool, and-both}
 use Rattle.table_rules.proofs.Words.{digit-word}
 use Rattle.message_rules.proofs.Spelling.{word-not-blank}
 use Rattle.tokens.specs.Cursor.{part, rowEnd, cutAt, restAt, Step}
@@ -67,31 +68,36 @@ part-none s i = let q : i - i ≡ 0 = omega arith in rw q
 
 digit-least : (b : ℕ) → isDigit b ≡ true → 48 ≤ b
 unfolding isDigit
-digit-least b e = leb-true 48 b (first (leb 48 b) (leb b 57) e)
-  where
-    first : (p q : Bool) → p && q ≡ true → p ≡ true
-    first true q z = refl
-    first false q z = clash-bool z
+digit-least b e = and-both (leb 48 b) (leb b 57) e (λ p q. leb-true 48 b p)
 
--- sum is the number of the digits from at to i
+-- the number of a digit
+digit-most : (b : ℕ) → isDigit b ≡ true → b - 48 < 10
+unfolding isDigit
+digit-most b e = and-both (leb 48 b) (leb b 57) e (λ p q. omega (arith, leb-true b 57 q))
+
+-- sum packs the digits from at to i
 pub record Summed (s : List ℕ) (at i sum : ℕ) : Type 0 where
+  pub number : ℕ
+  pub packs : Packed number sum
   pub ends : rowEnd isDigit s i ≡ rowEnd isDigit s at
-  pub sums : readDigits sum (part s i (rowEnd isDigit s at)) ≡ numberOf (part s at (rowEnd isDigit s at))
+  pub sums : readDigits number (part s i (rowEnd isDigit s at)) ≡ numberOf (part s at (rowEnd isDigit s at))
   pub least : at ≤ i
   pub within : at < i → i ≤ length s
 
 pub summed-start : (s : List ℕ) (at : ℕ) → Summed s at at 0
-summed-start s at = record { ends = refl; sums = refl; least = omega arith; within = λ l. absurd (omega arith) }
+summed-start s at = record { number = 0; packs = none; ends = refl; sums = refl; least = omega arith; within = λ l. absurd (omega arith) }
 
 pub digit-floor : (b : ℕ) (t : Bool) → t ≡ isDigit b → t ≡ true → 48 ≤ b
 digit-floor b t e f = digit-least b (sym e ∙ f)
 
-pub summed-more : (s : List ℕ) (at i sum next : ℕ) → Summed s at i sum → i < length s → isDigit (getD s i 0) ≡ true → next ≡ sum * 10 + (getD s i 0 - 48) → Summed s at (i + 1) next
+pub summed-more : (s : List ℕ) (at i sum next : ℕ) → Summed s at i sum → i < length s → isDigit (getD s i 0) ≡ true → next ≡ sum * 256 + (getD s i 0 - 48) → Summed s at (i + 1) next
 summed-more s at i sum next m h t q =
     let r = run-more isDigit s i h t in
     record {
+      number = m .number * 10 + (getD s i 0 - 48);
+      packs = rw q (more (getD s i 0 - 48) (digit-most (getD s i 0) t) (m .packs));
       ends = sym r ∙ m .ends;
-      sums = rw q (sym (ap (readDigits sum) (part-cons s i (rowEnd isDigit s at) h (omega (arith, m .ends, r))) ∙ unfold readDigits in refl) ∙ m .sums);
+      sums = sym (ap (readDigits (m .number)) (part-cons s i (rowEnd isDigit s at) h (omega (arith, m .ends, r))) ∙ unfold readDigits in refl) ∙ m .sums;
       least = omega (arith, m .least);
       within = λ l. omega (arith, h);
     }
@@ -108,9 +114,18 @@ natural-is (b ∷ []) e h k = first (isDigit b) e
     first false z = clash-bool z
 natural-is (b ∷ c ∷ l) e h k = rw (lt-ltb 48 b (k (omega arith)), e)
 
-module _ (s : List ℕ) (at i sum : ℕ) (m : Summed s at i sum) (stop : rowEnd isDigit s i ≡ i) where
+-- the row of digits ends where none stands
+digits-stop : (s : List ℕ) (i : ℕ) → isWordByte (getD s i 0) ≡ false → rowEnd isDigit s i ≡ i
+digits-stop s i c = go (ltb i (length s)) refl (isDigit (getD s i 0)) refl
+  where
+    go : (b : Bool) → ltb i (length s) ≡ b → (d : Bool) → isDigit (getD s i 0) ≡ d → rowEnd isDigit s i ≡ i
+    go b e true z = clash-bool (sym c ∙ digit-word (getD s i 0) z)
+    go true e false z = run-stop isDigit s i (ltb-true i (length s) e) z
+    go false e false z = run-end isDigit s i (ltb-false i (length s) e)
+
+module _ (s : List ℕ) (at i sum : ℕ) (m : Summed s at i sum) (none-here : isWordByte (getD s i 0) ≡ false) where
   end-is : rowEnd isDigit s at ≡ i
-  end-is = sym (m .ends) ∙ stop
+  end-is = sym (m .ends) ∙ digits-stop s i none-here
 
   digits-all : every isDigit (part s at i) ≡ true
   digits-all = let q : runOf isDigit (drop at s) ≡ i - at = omega (arith, end-is) in rw q at (every-run isDigit (drop at s))
@@ -122,22 +137,23 @@ module _ (s : List ℕ) (at i sum : ℕ) (m : Summed s at i sum) (stop : rowEnd 
       go true z = z
       go false z = absurd (omega (arith, run-stop isDigit s at (omega (arith, m .within l, l)) z, end-is, l))
 
-  word-end : isWordByte (getD s i 0) ≡ false → i ≡ rowEnd isWordByte s at
-  word-end c =
+  word-end : i ≡ rowEnd isWordByte s at
+  word-end =
       let q : runOf isDigit (drop at s) ≡ i - at = omega (arith, end-is) in
       let p : at + (i - at) ≡ i = omega (arith, m .least) in
-      let z : isWordByte (getD (drop at s) (runOf isDigit (drop at s)) 0) ≡ false = rw (q, getD-drop at s (i - at) 0, p) c in
+      let z : isWordByte (getD (drop at s) (runOf isDigit (drop at s)) 0) ≡ false = rw (q, getD-drop at s (i - at) 0, p) none-here in
       omega (arith, run-same isDigit isWordByte (drop at s) digit-word z, q, m .least)
 
-  counted : isWordByte (getD s i 0) ≡ false → Led s at i → Counted s at i sum
-  counted c v =
+  counted : Led s at i → Counted s at i sum
+  counted v =
       let h : at < length s = omega (arith, m .within (v .less), v .less) in
       let d : isWordByte (getD s at 0) ≡ true = digit-word (getD s at 0) (first-digit (v .less)) in
+      let n : m .number ≡ numberOf (part s at i) = sym (ap (readDigits (m .number)) (part-none s i) ∙ unfold readDigits in refl) ∙ (rw end-is at (m .sums)) in
       record {
         within = m .within (v .less);
         natural = natural-is (part s at i) digits-all (omega (arith, length-part, v .less)) (λ l. above l);
-        number = sym (ap (readDigits sum) (part-none s i) ∙ unfold readDigits in refl) ∙ (rw end-is at (m .sums));
-        first = λ base. subst (λ c. Step c base s at (word (part s at i)) at i) (sym (solid base s at h (word-not-blank (getD s at 0) d))) (step-word base s at h i d (word-end c));
+        packed = rw n at (m .packs);
+        first = λ base. subst (λ c. Step c base s at (word (part s at i)) at i) (sym (solid base s at h (word-not-blank (getD s at 0) d))) (step-word base s at h i d word-end);
       }
     where
       length-part : length (part s at i) ≡ i - at
@@ -151,19 +167,20 @@ module _ (s : List ℕ) (at i sum : ℕ) (m : Summed s at i sum) (stop : rowEnd 
           let k : getD s at 0 ≡ 48 → ⊥ = v .single (omega (arith, length-part, l)) in
           rw z (omega (arith, k, digit-least (getD s at 0) (first-digit (v .less))))
 
+module _ (s : List ℕ) (at i sum : ℕ) (m : Summed s at i sum) where
   counted-before : getD s i 0 ≡ 44 → Led s at i → CountedBefore s at i sum
   unfolding isBlank isWordByte
   counted-before c v =
       let h : i < length s = byte-in s i 44 (omega arith) c in
       record {
-        counted = counted (rw c) v;
+        counted = counted s at i sum m (rw c) v;
         second = λ base. subst (λ c. Step c base s i comma i (i + 1)) (sym (solid base s i h (rw c))) (step-comma base s i h c);
       }
 
   pub digits-counted : (b : ℕ) → b ≡ getD s i 0 → (r : Digits) → DigitsEnd s at i sum b r → DigitsAt s at r
   digits-counted b g Other d = tt
   digits-counted b g (Before e n) d = rw (d .0, d .1) (counted-before (sym g ∙ d .2) (rw (d .0) at (d .3)))
-  digits-counted b g (Number e n) d = rw (d .0, d .1) (counted (ap isWordByte (sym g) ∙ d .2) (rw (d .0) at (d .3)))
+  digits-counted b g (Number e n) d = rw (d .0, d .1) (counted s at i sum m (ap isWordByte (sym g) ∙ d .2) (rw (d .0) at (d .3)))
 
 -- past the end
 pub none-there : (s : List ℕ) (i : ℕ) → length s ≤ i → 0 ≡ getD s i 0

@@ -1,7 +1,8 @@
 // The tokens of a message, read by a cursor over its bytes, and number 22.
 ghost use mathlib.Core.Path.{_≡_};
 ghost use mathlib.Core.Bool.{true};
-ghost use Prim.Native.Nat.{ℕ, _+_, _≤_, _<_};
+ghost use Prim.Native.Nat.{ℕ, _+_, _-_, _*_, _/_, _^_, _≤_, _<_};
+ghost use lib.Bits.{bitXor};
 ghost use lib.ListN.{length};
 ghost use Rattle.numbers.specs.Limits.{openLimit};
 ghost use Rattle.classes.specs.Bytes.{isBlank, isWordByte, isPlain, isStringByte};
@@ -9,7 +10,7 @@ ghost use Rattle.message_rules.specs.Scan.{cut, scanFault};
 ghost use Rattle.tokens.specs.Cursor.{rowEnd, cutAt, restAt, Reads};
 ghost use Rattle.tokens.specs.Head.{HeadAt, headOf, markHead, LacksComma};
 ghost use Rattle.tokens.specs.Scanned.{foundOf};
-ghost use Rattle.tokens.specs.Digits.{Led, DigitsEnd, DigitsAt};
+ghost use Rattle.tokens.specs.Digits.{Led, DigitsEnd, DigitsAt, joined, Nines};
 ghost use Rattle.tokens.specs.Turn.{ScanTurn, Plains, PlainEnd};
 
 // How many braces may be open.
@@ -226,7 +227,7 @@ impl Cursor {
     }
 }
 
-// A word of digits without leading zero, its end and its number: Before where a comma stands at the end.
+// A word of digits without leading zero, its end and its digits packed: Before where a comma stands at the end.
 pub enum Digits {
     Other,
     Before(usize, u64),
@@ -250,7 +251,7 @@ fn is_led(s: &[u8], at: usize, i: usize) -> bool
     true
 }
 
-// The word of digits from at to i, whose number is sum, before the byte b.
+// The word of digits from at to i, packed in sum, before the byte b.
 fn digits_before(s: &[u8], at: usize, i: usize, sum: u64, b: u8) -> Digits
     requires { ⌜ (at < i → i ≤ length (now s)) ⌝ }
     ensures { λ r. ⌜ DigitsEnd (now (s .entry)) at i sum b r ⌝ }
@@ -267,8 +268,8 @@ fn digits_before(s: &[u8], at: usize, i: usize, sum: u64, b: u8) -> Digits
     Digits::Number(i, sum)
 }
 
-// The digits that stand at a place. Other where the word has other bytes, or is too long for an int.
-pub fn digits_at(s: &[u8], at: usize) -> Digits
+// The digits that stand at a place, byte by byte. Other where the word has other bytes, or more than eight digits.
+fn digits_by_byte(s: &[u8], at: usize) -> Digits
     ensures { λ r. ⌜ DigitsAt (now (s .entry)) at r ⌝ }
 {
     let mut sum: u64 = 0;
@@ -276,10 +277,10 @@ pub fn digits_at(s: &[u8], at: usize) -> Digits
     while i < s.len() {
         let b = s[i];
         if classes::is_digit(b) {
-            if 0xFFFF_FFFF < sum {
+            if 0x00FF_FFFF_FFFF_FFFF < sum {
                 return Digits::Other;
             }
-            sum = sum * 10 + wide(b - 48);
+            sum = sum * 256 + wide(b - 48);
             i += 1;
         } else {
             return digits_before(s, at, i, sum, b);
@@ -292,6 +293,92 @@ fn wide(b: u8) -> u64
     ensures { λ r. ⌜ (r ≡ b) × (r < 256) ⌝ }
 {
     b as u64
+}
+
+// A guess at how many of eight bytes are digits: those before the first byte without a bit that every digit has.
+fn digit_guess(s: &[u8], at: usize) -> usize
+    requires { ⌜ at + 8 ≤ length (now s) ⌝ }
+{
+    let w = wide(s[at])
+        | wide(s[at + 1]) << 8
+        | wide(s[at + 2]) << 16
+        | wide(s[at + 3]) << 24
+        | wide(s[at + 4]) << 32
+        | wide(s[at + 5]) << 40
+        | wide(s[at + 6]) << 48
+        | wide(s[at + 7]) << 56;
+    count(u64::trailing_zeros(!w & 0x1010_1010_1010_1010) / 8)
+}
+
+fn count(n: u32) -> usize {
+    n as usize
+}
+
+// Four bytes as one number, the first highest.
+fn four_at(s: &[u8], at: usize) -> u64
+    requires { ⌜ at + 4 ≤ length (now s) ⌝ }
+    ensures { λ r. ⌜ (r ≡ joined 4 (now (s .entry)) at) × (r < 4294967296) ⌝ }
+{
+    ((wide(s[at]) * 256 + wide(s[at + 1])) * 256 + wide(s[at + 2])) * 256 + wide(s[at + 3])
+}
+
+fn eight_at(s: &[u8], at: usize) -> u64
+    requires { ⌜ at + 8 ≤ length (now s) ⌝ }
+    ensures { λ r. ⌜ r ≡ joined 8 (now (s .entry)) at ⌝ }
+{
+    four_at(s, at) * 0x1_0000_0000 + four_at(s, at + 4)
+}
+
+// No byte of eight is more than 9.
+fn are_digits(d: u64) -> bool
+    ensures { λ r. ⌜ (r ≡ true → Nines d) ⌝ }
+{
+    (d & 0xF0F0_F0F0_F0F0_F0F0 == 0)
+        & (std::num::wrapping_add_u64(d, 0x0606_0606_0606_0606) & 0xF0F0_F0F0_F0F0_F0F0 == 0)
+}
+
+// The first c of eight bytes, their digits packed where they are digits.
+fn first_digits(s: &[u8], at: usize, c: usize) -> u64
+    requires { ⌜ (at + 8 ≤ length (now s)) × (0 < c) × (c < 8) ⌝ }
+    ensures { λ r. ⌜ r ≡ bitXor (joined 8 (now (s .entry)) at) 0x3030_3030_3030_3030 / 2 ^ (64 - 8 * c) ⌝ }
+{
+    (eight_at(s, at) ^ 0x3030_3030_3030_3030) >> (64 - 8 * c)
+}
+
+// The digits at a place by eight bytes at once, so that no branch depends on how many there are. Other where these bytes
+// aren't there, and for eight digits and more.
+fn digits_by_eight(s: &[u8], at: usize) -> Digits
+    ensures { λ r. ⌜ DigitsAt (now (s .entry)) at r ⌝ }
+{
+    if s.len() < 8 {
+        return Digits::Other;
+    }
+    if s.len() - 8 < at {
+        return Digits::Other;
+    }
+    let c = digit_guess(s, at);
+    if c == 0 {
+        return Digits::Other;
+    }
+    if 8 <= c {
+        return Digits::Other;
+    }
+    let d = first_digits(s, at, c);
+    if are_digits(d) {
+        return digits_before(s, at, at + c, d, s[at + c]);
+    }
+    Digits::Other
+}
+
+// The digits that stand at a place. Other where the word has other bytes, or more than eight digits.
+pub fn digits_at(s: &[u8], at: usize) -> Digits
+    ensures { λ r. ⌜ DigitsAt (now (s .entry)) at r ⌝ }
+{
+    match digits_by_eight(s, at) {
+        Digits::Other => digits_by_byte(s, at),
+        Digits::Before(e, d) => Digits::Before(e, d),
+        Digits::Number(e, d) => Digits::Number(e, d),
+    }
 }
 
 // Whether number 22 is due, and where.

@@ -21,11 +21,8 @@ enum-known-end c = search needs
 takes-requires : tie.Need-takes-requires
 takes-requires c κs = search needs
 
-add-may-grow : tie.Need-add-may-grow
-add-may-grow c = search needs
-
-may-grow-requires : tie.Need-may-grow-requires
-may-grow-requires c κs = search needs
+add-if2 : tie.Need-add-if2
+add-if2 c = search needs
 
 int-row-requires : tie.Need-int-row-requires
 int-row-requires c κs = omega (arith, (rw (c .before .before .before .before .before .end .given .1) at (c .before .before .before .before .before .before .before .digits-at .ensures)) .counted .within, (rw (c .before .before .before .before .before .end .given .1) at (c .before .before .before .before .before .before .before .digits-at .ensures)) .counted .first 0 .less, c .before .before .before .before .before .before .before .before .before .before .before .before .before .before .pre)
@@ -40,7 +37,7 @@ same-length : tie.Need-same-length
 same-length c = search needs
 
 returns-2 : tie.Need-returns-2
-returns-2 c = quick-on _ (now (c .before .before .before .before .before .before .before .before .before .before .before .before .before .before .before .before .before .before .args .s)) (c .before .before .before .before .before .before .before .before .before .before .before .before .before .before .before .before .before .before .args .f) (c .before .before .before .before .before .before .before .before .before .before .before .before .before .before .before .before .before .before .args .e) (c .before .before .before .before .before .before .before .before .before .before .before .before .before .before .before .before .before .before .pre .1 .1) (not-false _ (c .before .before .before .before .before .before .before .before .before .before .before .before .if1 .left)) _ _ _ _ _ (c .before .before .before .before .before .before .before .takes .result) (c .before .before .before .before .before .before .may-grow .result) (rw (c .before .before .before .before .before .before .before .before .before .end .given .1) at (c .before .before .before .before .before .before .before .before .before .before .before .digits-at .ensures)) (c .before .before .before .before .before .before .before .takes .ensures) (c .before .before .before .before .before .before .may-grow .ensures) (c .before .before .before .before .before .if2 .taken) (c .before .before .before .int-row .ensures)
+returns-2 c = quick-on _ (now (c .before .before .before .before .before .before .before .before .before .before .before .before .before .before .before .before .before .before .args .s)) (c .before .before .before .before .before .before .before .before .before .before .before .before .before .before .before .before .before .before .args .f) (c .before .before .before .before .before .before .before .before .before .before .before .before .before .before .before .before .before .before .args .e) (c .before .before .before .before .before .before .before .before .before .before .before .before .before .before .before .before .before .before .pre .1 .1) (not-false _ (c .before .before .before .before .before .before .before .before .before .before .before .before .if1 .left)) _ _ _ _ _ (c .before .before .before .before .before .before .before .takes .result) (rw (c .before .before .before .before .before .before .before .before .before .end .given .1) at (c .before .before .before .before .before .before .before .before .before .before .before .digits-at .ensures)) (c .before .before .before .before .before .before .before .takes .ensures) (c .before .before .before .before .before .if2 .taken) (c .before .before .before .int-row .ensures)
 
 enum-known-end-2 : tie.Need-enum-known-end-2
 enum-known-end-2 c = search needs
@@ -78,8 +75,7 @@ quick-int-spec =
     enum-told
     enum-known-end
     takes-requires
-    add-may-grow
-    may-grow-requires
+    add-if2
     int-row-requires
     add-t23
     add-t25

@@ -4,28 +4,20 @@ use Rattle.tags.specs.Lists.{foundOf}
 use borrow.Author.Needs.{needs}
 use Rattle.lookup.proofs.find.Statement.{statement}
 use Rattle.lookup.proofs.find.Tie as tie
-use Rattle.lookup.proofs.find.Reads as reads
-use Rattle.lookup.proofs.find.Lts as lts
-use Rattle.tags.proofs.find.Reads as find-reads
 
--- src/lib.rt:187:11
 find-requires : tie.Need-find-requires
 find-requires c κs = search needs
 
--- src/lib.rt:188:33
 enum-told : tie.Need-enum-told
 enum-told c = search needs
 
--- src/lib.rt:189:25
 enum-known-q : tie.Need-enum-known-q
 enum-known-q c = search needs
 
--- src/lib.rt:184:1
 returns : tie.Need-returns
 unfolding withFind
 returns c = ap foundOf (sym (c .enum-told .given .1)) ∙ c .before .before .find .ensures
 
--- src/lib.rt:184:1
 returns-2 : tie.Need-returns-2
 unfolding withFind
 returns-2 c = ap foundOf (sym (c .before .q .given .1)) ∙ c .before .before .before .find .ensures

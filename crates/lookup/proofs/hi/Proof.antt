@@ -6,20 +6,14 @@ use Rattle.lookup.proofs.Steps.{past, here}
 use borrow.Author.Needs.{needs}
 use Rattle.lookup.proofs.hi.Statement.{statement}
 use Rattle.lookup.proofs.hi.Tie as tie
-use Rattle.lookup.proofs.hi.Reads as reads
-use Rattle.lookup.proofs.hi.Lts as lts
-use Rattle.records.proofs.hi_count_at.Reads as hi-count-at-reads
 
--- src/lib.rt:90:9
 returns : tie.Need-returns
 unfolding blank schemaOf withFind
 returns c = past (λ (r : Record). r .hiCount) (now (c .before .before .before .args .table)) (now (c .before .before .before .args .unpacked)) (c .before .before .before .args .n) (c .before .before .before .args .p) (c .if1 .taken)
 
--- src/lib.rt:92:5
 hi-count-at-requires : tie.Need-hi-count-at-requires
 hi-count-at-requires c κs = search needs
 
--- src/lib.rt:86:1
 returns-2 : tie.Need-returns-2
 unfolding schemaOf withFind
 returns-2 c = here (λ (r : Record). r .hiCount) (now (c .before .before .before .before .args .table)) (now (c .before .before .before .before .args .unpacked)) (c .before .before .before .before .args .n) (c .before .before .before .before .args .p) (c .before .if1 .left) (c .hi-count-at .ensures)

@@ -11,109 +11,77 @@ use Rattle.lookup.proofs.Judging.{value-blank, value-bool, value-int, v
 use borrow.Author.Needs.{needs}
 use Rattle.lookup.proofs.judge.Statement.{statement}
 use Rattle.lookup.proofs.judge.Tie as tie
-use Rattle.lookup.proofs.judge.Reads as reads
-use Rattle.lookup.proofs.judge.Lts as lts
-use Rattle.calendar.proofs.is_date.Reads as is-date-reads
-use Rattle.calendar.proofs.is_time.Reads as is-time-reads
-use Rattle.lookup.proofs.form_then_range.Reads as form-then-range-reads
-use Rattle.lookup.proofs.int_in_range.Reads as int-in-range-reads
-use Rattle.lookup.proofs.is_bool.Reads as is-bool-reads
-use Rattle.lookup.proofs.length_in_range.Reads as length-in-range-reads
-use Rattle.numbers.proofs.is_int.Reads as is-int-reads
-use Rattle.records.proofs.kind_at.Reads as kind-at-reads
 
--- src/lib.rt:307:9
 returns : tie.Need-returns
 unfolding schemaOf withFind
 returns c = value-blank (now (c .before .before .before .before .args .text)) (c .before .before .before .before .args .quoted) ∙ past (λ (r : Record). valueNumber r (textToken (c .before .before .before .before .args .quoted) (now (c .before .before .before .before .args .text)))) (now (c .before .before .before .before .args .table)) (now (c .before .before .before .before .args .unpacked)) (c .before .before .before .before .args .n) (c .before .before .before .before .args .q) (c .if1 .taken)
 
--- src/lib.rt:309:9
 kind-at-requires : tie.Need-kind-at-requires
 kind-at-requires c κs = search needs
 
--- src/lib.rt:311:40
 is-bool-requires : tie.Need-is-bool-requires
 is-bool-requires c κs = search needs
 
--- src/lib.rt:311:14
 form-then-range-requires : tie.Need-form-then-range-requires
 form-then-range-requires c κs = search needs
 
--- src/lib.rt:313:23
 is-int-requires : tie.Need-is-int-requires
 is-int-requires c κs = search needs
 
--- src/lib.rt:314:13
 int-in-range-requires : tie.Need-int-in-range-requires
 int-in-range-requires c κs = search needs
 
--- src/lib.rt:312:14
 form-then-range-requires-2 : tie.Need-form-then-range-requires-2
 form-then-range-requires-2 c κs = search needs
 
--- src/lib.rt:316:38
 length-in-range-requires : tie.Need-length-in-range-requires
 length-in-range-requires c κs = search needs
 
--- src/lib.rt:316:14
 form-then-range-requires-3 : tie.Need-form-then-range-requires-3
 form-then-range-requires-3 c κs = search needs
 
--- src/lib.rt:317:39
 length-in-range-requires-2 : tie.Need-length-in-range-requires-2
 length-in-range-requires-2 c κs = search needs
 
--- src/lib.rt:317:14
 form-then-range-requires-4 : tie.Need-form-then-range-requires-4
 form-then-range-requires-4 c κs = search needs
 
--- src/lib.rt:318:40
 is-date-requires : tie.Need-is-date-requires
 is-date-requires c κs = search needs
 
--- src/lib.rt:318:14
 form-then-range-requires-5 : tie.Need-form-then-range-requires-5
 form-then-range-requires-5 c κs = search needs
 
--- src/lib.rt:319:40
 is-time-requires : tie.Need-is-time-requires
 is-time-requires c κs = search needs
 
--- src/lib.rt:319:14
 form-then-range-requires-6 : tie.Need-form-then-range-requires-6
 form-then-range-requires-6 c κs = search needs
 
--- src/lib.rt:303:1
 returns-2 : tie.Need-returns-2
 unfolding schemaOf withFind
 returns-2 c = here (λ (r : Record). valueNumber r (textToken (c .before .before .before .before .before .before .before .before .args .quoted) (now (c .before .before .before .before .before .before .before .before .args .text)))) (now (c .before .before .before .before .before .before .before .before .args .table)) (now (c .before .before .before .before .before .before .before .before .args .unpacked)) (c .before .before .before .before .before .before .before .before .args .n) (c .before .before .before .before .before .before .before .before .args .q) (c .before .before .before .before .if1 .left) (c .form-then-range .ensures ∙ rw (c .before .is-bool .ensures) (value-bool (recordIn (now (c .before .before .before .before .before .before .before .before .args .table)) (now (c .before .before .before .before .before .before .before .before .args .unpacked)) (c .before .before .before .before .before .before .before .before .args .q)) (now (c .before .before .before .before .before .before .before .before .args .text)) (c .before .before .before .before .before .before .before .before .args .quoted) ((sym (c .before .before .before .kind-at .ensures)) ∙ c .before .before .match .keys1)))
 
--- src/lib.rt:303:1
 returns-3 : tie.Need-returns-3
 unfolding schemaOf withFind
 returns-3 c = here (λ (r : Record). valueNumber r (textToken (c .before .before .before .before .before .before .before .before .before .args .quoted) (now (c .before .before .before .before .before .before .before .before .before .args .text)))) (now (c .before .before .before .before .before .before .before .before .before .args .table)) (now (c .before .before .before .before .before .before .before .before .before .args .unpacked)) (c .before .before .before .before .before .before .before .before .before .args .n) (c .before .before .before .before .before .before .before .before .before .args .q) (c .before .before .before .before .before .if1 .left) (c .form-then-range2 .ensures ∙ rw (c .before .before .is-int .ensures, c .before .int-in-range .ensures) (value-int (recordIn (now (c .before .before .before .before .before .before .before .before .before .args .table)) (now (c .before .before .before .before .before .before .before .before .before .args .unpacked)) (c .before .before .before .before .before .before .before .before .before .args .q)) (now (c .before .before .before .before .before .before .before .before .before .args .text)) (c .before .before .before .before .before .before .before .before .before .args .quoted) ((sym (c .before .before .before .before .kind-at .ensures)) ∙ c .before .before .before .match .keys2)))
 
--- src/lib.rt:303:1
 returns-4 : tie.Need-returns-4
 unfolding schemaOf withFind
 returns-4 c = here (λ (r : Record). valueNumber r (textToken (c .before .before .before .before .before .before .before .before .args .quoted) (now (c .before .before .before .before .before .before .before .before .args .text)))) (now (c .before .before .before .before .before .before .before .before .args .table)) (now (c .before .before .before .before .before .before .before .before .args .unpacked)) (c .before .before .before .before .before .before .before .before .args .n) (c .before .before .before .before .before .before .before .before .args .q) (c .before .before .before .before .if1 .left) (c .form-then-range3 .ensures ∙ rw (c .before .length-in-range .ensures) (value-ascii (recordIn (now (c .before .before .before .before .before .before .before .before .args .table)) (now (c .before .before .before .before .before .before .before .before .args .unpacked)) (c .before .before .before .before .before .before .before .before .args .q)) (now (c .before .before .before .before .before .before .before .before .args .text)) (c .before .before .before .before .before .before .before .before .args .quoted) ((sym (c .before .before .before .kind-at .ensures)) ∙ c .before .before .match .keys3)))
 
--- src/lib.rt:303:1
 returns-5 : tie.Need-returns-5
 unfolding schemaOf withFind
 returns-5 c = here (λ (r : Record). valueNumber r (textToken (c .before .before .before .before .before .before .before .before .args .quoted) (now (c .before .before .before .before .before .before .before .before .args .text)))) (now (c .before .before .before .before .before .before .before .before .args .table)) (now (c .before .before .before .before .before .before .before .before .args .unpacked)) (c .before .before .before .before .before .before .before .before .args .n) (c .before .before .before .before .before .before .before .before .args .q) (c .before .before .before .before .if1 .left) (c .form-then-range4 .ensures ∙ rw (c .before .length-in-range2 .ensures) (value-unquoted (recordIn (now (c .before .before .before .before .before .before .before .before .args .table)) (now (c .before .before .before .before .before .before .before .before .args .unpacked)) (c .before .before .before .before .before .before .before .before .args .q)) (now (c .before .before .before .before .before .before .before .before .args .text)) (c .before .before .before .before .before .before .before .before .args .quoted) ((sym (c .before .before .before .kind-at .ensures)) ∙ c .before .before .match .keys4)))
 
--- src/lib.rt:303:1
 returns-6 : tie.Need-returns-6
 unfolding schemaOf withFind
 returns-6 c = here (λ (r : Record). valueNumber r (textToken (c .before .before .before .before .before .before .before .before .args .quoted) (now (c .before .before .before .before .before .before .before .before .args .text)))) (now (c .before .before .before .before .before .before .before .before .args .table)) (now (c .before .before .before .before .before .before .before .before .args .unpacked)) (c .before .before .before .before .before .before .before .before .args .n) (c .before .before .before .before .before .before .before .before .args .q) (c .before .before .before .before .if1 .left) (c .form-then-range5 .ensures ∙ rw (c .before .is-date .ensures) (value-date (recordIn (now (c .before .before .before .before .before .before .before .before .args .table)) (now (c .before .before .before .before .before .before .before .before .args .unpacked)) (c .before .before .before .before .before .before .before .before .args .q)) (now (c .before .before .before .before .before .before .before .before .args .text)) (c .before .before .before .before .before .before .before .before .args .quoted) ((sym (c .before .before .before .kind-at .ensures)) ∙ c .before .before .match .keys5)))
 
--- src/lib.rt:303:1
 returns-7 : tie.Need-returns-7
 unfolding schemaOf withFind
 returns-7 c = here (λ (r : Record). valueNumber r (textToken (c .before .before .before .before .before .before .before .before .args .quoted) (now (c .before .before .before .before .before .before .before .before .args .text)))) (now (c .before .before .before .before .before .before .before .before .args .table)) (now (c .before .before .before .before .before .before .before .before .args .unpacked)) (c .before .before .before .before .before .before .before .before .args .n) (c .before .before .before .before .before .before .before .before .args .q) (c .before .before .before .before .if1 .left) (c .form-then-range6 .ensures ∙ rw (c .before .is-time .ensures) (value-time (recordIn (now (c .before .before .before .before .before .before .before .before .args .table)) (now (c .before .before .before .before .before .before .before .before .args .unpacked)) (c .before .before .before .before .before .before .before .before .args .q)) (now (c .before .before .before .before .before .before .before .before .args .text)) (c .before .before .before .before .before .before .before .before .args .quoted) ((sym (c .before .before .before .kind-at .ensures)) ∙ c .before .before .match .keys6)))
 
--- src/lib.rt:303:1
 returns-8 : tie.Need-returns-8
 unfolding schemaOf withFind
 returns-8 c = here (λ (r : Record). valueNumber r (textToken (c .before .before .before .before .before .before .args .quoted) (now (c .before .before .before .before .before .before .args .text)))) (now (c .before .before .before .before .before .before .args .table)) (now (c .before .before .before .before .before .before .args .unpacked)) (c .before .before .before .before .before .before .args .n) (c .before .before .before .before .before .before .args .q) (c .before .before .if1 .left) (value-none (recordIn (now (c .before .before .before .before .before .before .args .table)) (now (c .before .before .before .before .before .before .args .unpacked)) (c .before .before .before .before .before .before .args .q)) (now (c .before .before .before .before .before .before .args .text)) (c .before .before .before .before .before .before .args .quoted) (λ e. c .match .rest .0 .0 .0 .0 .0 .1 (c .before .kind-at .ensures ∙ e)) (λ e. c .match .rest .0 .0 .0 .0 .1 (c .before .kind-at .ensures ∙ e)) (λ e. c .match .rest .0 .0 .0 .1 (c .before .kind-at .ensures ∙ e)) (λ e. c .match .rest .0 .0 .1 (c .before .kind-at .ensures ∙ e)) (λ e. c .match .rest .0 .1 (c .before .kind-at .ensures ∙ e)) (λ e. c .match .rest .1 (c .before .kind-at .ensures ∙ e)))

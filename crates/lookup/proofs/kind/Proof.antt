@@ -5,35 +5,26 @@ use Rattle.lookup.proofs.Steps.{kind-simple}
 use borrow.Author.Needs.{needs}
 use Rattle.lookup.proofs.kind.Statement.{statement}
 use Rattle.lookup.proofs.kind.Tie as tie
-use Rattle.lookup.proofs.kind.Reads as reads
-use Rattle.lookup.proofs.kind.Lts as lts
-use Rattle.lookup.proofs.kind_number.Reads as kind-number-reads
 
--- src/lib.rt:47:9
 kind-number-requires : tie.Need-kind-number-requires
 kind-number-requires c κs = search needs
 
--- src/lib.rt:44:1
 returns : tie.Need-returns
 unfolding schemaOf withFind kindOf
 returns c = rw (sym (c .before .kind-number .ensures) ∙ c .match .keys1)
 
--- src/lib.rt:44:1
 returns-2 : tie.Need-returns-2
 unfolding schemaOf withFind kindOf
 returns-2 c = rw (sym (c .before .kind-number .ensures) ∙ c .match .keys2)
 
--- src/lib.rt:44:1
 returns-3 : tie.Need-returns-3
 unfolding schemaOf withFind kindOf
 returns-3 c = rw (sym (c .before .kind-number .ensures) ∙ c .match .keys3)
 
--- src/lib.rt:44:1
 returns-4 : tie.Need-returns-4
 unfolding schemaOf withFind kindOf
 returns-4 c = rw (sym (c .before .kind-number .ensures) ∙ c .match .keys4)
 
--- src/lib.rt:44:1
 returns-5 : tie.Need-returns-5
 unfolding schemaOf withFind
 returns-5 c = rw (sym (c .before .kind-number .ensures)) (sym (kind-simple _ (c .match .rest .0 .0 .0 .1) (c .match .rest .0 .0 .1) (c .match .rest .0 .1) (c .match .rest .1)))

@@ -6,20 +6,14 @@ use Rattle.lookup.proofs.Steps.{past, here}
 use borrow.Author.Needs.{needs}
 use Rattle.lookup.proofs.lo.Statement.{statement}
 use Rattle.lookup.proofs.lo.Tie as tie
-use Rattle.lookup.proofs.lo.Reads as reads
-use Rattle.lookup.proofs.lo.Lts as lts
-use Rattle.records.proofs.lo_count_at.Reads as lo-count-at-reads
 
--- src/lib.rt:80:9
 returns : tie.Need-returns
 unfolding blank schemaOf withFind
 returns c = past (λ (r : Record). r .loCount) (now (c .before .before .before .args .table)) (now (c .before .before .before .args .unpacked)) (c .before .before .before .args .n) (c .before .before .before .args .p) (c .if1 .taken)
 
--- src/lib.rt:82:5
 lo-count-at-requires : tie.Need-lo-count-at-requires
 lo-count-at-requires c κs = search needs
 
--- src/lib.rt:76:1
 returns-2 : tie.Need-returns-2
 unfolding schemaOf withFind
 returns-2 c = here (λ (r : Record). r .loCount) (now (c .before .before .before .before .args .table)) (now (c .before .before .before .before .args .unpacked)) (c .before .before .before .before .args .n) (c .before .before .before .before .args .p) (c .before .if1 .left) (c .lo-count-at .ensures)

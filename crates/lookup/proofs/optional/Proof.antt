@@ -7,25 +7,17 @@ use Rattle.lookup.proofs.Steps.{past, here}
 use borrow.Author.Needs.{needs}
 use Rattle.lookup.proofs.optional.Statement.{statement}
 use Rattle.lookup.proofs.optional.Tie as tie
-use Rattle.lookup.proofs.optional.Reads as reads
-use Rattle.lookup.proofs.optional.Lts as lts
-use Rattle.records.proofs.extension_at.Reads as extension-at-reads
-use Rattle.records.proofs.plugin_at.Reads as plugin-at-reads
 
--- src/lib.rt:107:9
 returns : tie.Need-returns
 unfolding blank schemaOf withFind
 returns c = past (λ (r : Record). r .extension || r .plugin) (now (c .before .before .before .args .table)) (now (c .before .before .before .args .unpacked)) (c .before .before .before .args .n) (c .before .before .before .args .p) (c .if1 .taken)
 
--- src/lib.rt:109:5
 extension-at-requires : tie.Need-extension-at-requires
 extension-at-requires c κs = search needs
 
--- src/lib.rt:109:45
 plugin-at-requires : tie.Need-plugin-at-requires
 plugin-at-requires c κs = search needs
 
--- src/lib.rt:103:1
 returns-2 : tie.Need-returns-2
 unfolding schemaOf withFind
 returns-2 c = here (λ (r : Record). r .extension || r .plugin) (now (c .before .before .before .before .before .args .table)) (now (c .before .before .before .before .before .args .unpacked)) (c .before .before .before .before .before .args .n) (c .before .before .before .before .before .args .p) (c .before .before .if1 .left) (rw (c .before .extension-at .ensures, c .plugin-at .ensures))

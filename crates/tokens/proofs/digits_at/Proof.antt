@@ -1,83 +1,40 @@
-use mathlib.Core.Path.{refl, sym, _∙_}
-use Prim.Native.Nat.{_-_}
-use lib.ListN.{length}
 use borrow.Author.Needs.{needs}
-use denote.Ref.{now}
-use Rattle.classes.specs.Bytes.{isDigit}
-use Rattle.classes.proofs.Rows.{run-stop, run-end}
-use Rattle.tokens.proofs.Naturals.{Summed, summed-start, summed-more, digit-floor, digits-counted, none-there}
 use Rattle.tokens.proofs.digits_at.Statement.{statement}
 use Rattle.tokens.proofs.digits_at.Tie as tie
 
-abbrev Inv-loop : tie.InvT-loop
-Inv-loop s at sum₀ i₀ sum i = Summed s at i sum
+digits-by-eight-requires : tie.Need-digits-by-eight-requires
+digits-by-eight-requires c κs = search needs
 
-abbrev μ-loop : tie.MeasureT-loop
-μ-loop s at sum₀ i₀ sum i = length s - i
+enum-told : tie.Need-enum-told
+enum-told c = search needs
 
-loop-holds : tie.Need-loop-holds Inv-loop μ-loop
-loop-holds c = summed-start _ _
+digits-by-byte-requires : tie.Need-digits-by-byte-requires
+digits-by-byte-requires c κs = search needs
 
-shared-slice-read-b : tie.Need-shared-slice-read-b Inv-loop μ-loop
-shared-slice-read-b c = search needs
+enum-known-e : tie.Need-enum-known-e
+enum-known-e c = search needs
 
-is-digit-requires : tie.Need-is-digit-requires Inv-loop μ-loop
-is-digit-requires c κs = search needs
+enum-known-e-2 : tie.Need-enum-known-e-2
+enum-known-e-2 c = search needs
 
-returns : tie.Need-returns Inv-loop μ-loop
-returns c = tt
+returns : tie.Need-returns
+returns c = search needs
 
-mul-sum : tie.Need-mul-sum Inv-loop μ-loop
-mul-sum c = search needs
+returns-2 : tie.Need-returns-2
+returns-2 c = rw (c .before .e .given .1) at (c .before .before .before .digits-by-eight .ensures)
 
-sub-wide : tie.Need-sub-wide Inv-loop μ-loop
-sub-wide c = digit-floor _ _ (c .before .before .is-digit .ensures) (c .before .if1 .taken)
-
-wide-requires : tie.Need-wide-requires Inv-loop μ-loop
-wide-requires c κs = search needs
-
-add-sum : tie.Need-add-sum Inv-loop μ-loop
-add-sum c = search needs
-
-add-i : tie.Need-add-i Inv-loop μ-loop
-add-i c = search needs
-
-loop-less : tie.Need-loop-less Inv-loop μ-loop
-loop-less c = search needs
-
-loop-again : tie.Need-loop-again Inv-loop μ-loop
-loop-again c = summed-more _ _ _ _ _ (c .before .before .before .before .before .before .loop .inv) (c .before .before .before .before .before .loop-test .taken) (sym (c .before .before .before .is-digit .ensures) ∙ c .before .before .if1 .taken) (rw (c .wide .ensures .0))
-
-digits-before-requires : tie.Need-digits-before-requires Inv-loop μ-loop
-digits-before-requires c κs = c .before .before .before .before .loop .inv .within
-
-returns-2 : tie.Need-returns-2 Inv-loop μ-loop
-returns-2 c = digits-counted _ _ _ _ (c .before .before .before .before .before .loop .inv) (run-stop isDigit _ _ (c .before .before .before .before .loop-test .taken) (sym (c .before .before .is-digit .ensures) ∙ c .before .if1 .left)) _ refl (c .digits-before .result) (c .digits-before .ensures)
-
-digits-before-requires-2 : tie.Need-digits-before-requires-2 Inv-loop μ-loop
-digits-before-requires-2 c κs = c .before .loop .inv .within
-
-returns-3 : tie.Need-returns-3 Inv-loop μ-loop
-returns-3 c = digits-counted _ _ _ _ (c .before .before .loop .inv) (run-end isDigit _ _ (c .before .loop-test .left)) _ (none-there (now (c .before .before .before .before .args .s)) _ (c .before .loop-test .left)) (c .digits-before2 .result) (c .digits-before2 .ensures)
+returns-3 : tie.Need-returns-3
+returns-3 c = rw (c .before .e2 .given .1) at (c .before .before .before .digits-by-eight .ensures)
 
 pub digits-at-spec : {M : Type 1} → statement M
 digits-at-spec =
     tie.close
     (tie.spec
-    Inv-loop
-    μ-loop
-    loop-holds
-    shared-slice-read-b
-    is-digit-requires
+    digits-by-eight-requires
+    enum-told
+    digits-by-byte-requires
+    enum-known-e
+    enum-known-e-2
     returns
-    mul-sum
-    sub-wide
-    wide-requires
-    add-sum
-    add-i
-    loop-less
-    loop-again
-    digits-before-requires
     returns-2
-    digits-before-requires-2
     returns-3)
