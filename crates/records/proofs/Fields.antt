@@ -143,6 +143,7 @@ module _ (t : List ℕ) (o : ℕ) (cs after : List ℕ) (i : ℕ) where
       others : (j : ℕ) → j < i → recordIn t after j ≡ recordIn t cs j
       others j b = record-agree t cs after j (λ k d. same j k b d)
 
-pub unpacked-all : (t : List ℕ) (o : ℕ) (cs after : List ℕ) (i a b c d e f g h j : ℕ) → a ≡ le16 t (o + 2) → b ≡ le16 t (o + 4) → c ≡ le16 t (o + 6) → d ≡ le16 t (o + 8) → e ≡ le16 t (o + 10) → f ≡ leInt t (o + 12) → g ≡ leInt t (o + 16) → h ≡ le16 t (o + 20) → j ≡ le16 t (o + 22) → after ≡ keptAll cs i o a b c d e f g h j → i < parameterLimit → headCells + recordCells * (i + 1) ≤ length cs → Unpacked t o cs i after
-unpacked-all t o cs after i a b c d e f g h j qa qb qc qd qe qf qg qh qj z l m =
-    unpacked t o cs after i l m (z ∙ (kept-all cs i o a b c d e f g h j l ∙ rw (qa, qb, qc, qd, qe, qf, qg, qh, qj)))
+-- the same, of the numbers that the code read
+pub unpacked-all : (t : List ℕ) (o : ℕ) (cs after : List ℕ) (i p a b c d e f g h j : ℕ) → p ≡ o → a ≡ le16 t (p + 2) → b ≡ le16 t (p + 4) → c ≡ le16 t (p + 6) → d ≡ le16 t (p + 8) → e ≡ le16 t (p + 10) → f ≡ leInt t (p + 12) → g ≡ leInt t (p + 16) → h ≡ le16 t (p + 20) → j ≡ le16 t (p + 22) → after ≡ keptAll cs i o a b c d e f g h j → i < parameterLimit → headCells + recordCells * (i + 1) ≤ length cs → Unpacked t o cs i after
+unpacked-all t o cs after i p a b c d e f g h j q qa qb qc qd qe qf qg qh qj z l m =
+    unpacked t o cs after i l m (z ∙ (kept-all cs i o a b c d e f g h j l ∙ rw (qa, qb, qc, qd, qe, qf, qg, qh, qj, q)))

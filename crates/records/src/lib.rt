@@ -34,18 +34,27 @@ fn wide(n: u32) -> usize
     n as usize
 }
 
-// The number in two bytes, which begin j bytes after a place.
-fn number_at(table: &[u8], at: u32, j: u8) -> u32
-    ensures { λ r. ⌜ r ≡ le16 (now (table .entry)) (at + j) ⌝ }
+// A byte as a u32.
+fn wide8(b: u8) -> u32
+    ensures { λ r. ⌜ (r ≡ b) × (r < 256) ⌝ }
 {
-    numbers::u16_at(table, wide(at) + j as usize) as u32
+    b as u32
 }
 
-// The i32 in four bytes, counted from the least.
-fn int_at(table: &[u8], at: u32, j: u8) -> u32
-    ensures { λ r. ⌜ r ≡ leInt (now (table .entry)) (at + j) ⌝ }
+// The number in two bytes that are there.
+fn pair(table: &[u8], at: usize) -> u32
+    requires { ⌜ at + 2 ≤ length (now table) ⌝ }
+    ensures { λ r. ⌜ (r ≡ le16 (now (table .entry)) at) × (r < 65536) ⌝ }
 {
-    numbers::int_at(table, wide(at) + j as usize)
+    wide8(table[at]) + 256 * wide8(table[at + 1])
+}
+
+// The i32 in four bytes that are there, counted from the least.
+fn int(table: &[u8], at: usize) -> u32
+    requires { ⌜ at + 4 ≤ length (now table) ⌝ }
+    ensures { λ r. ⌜ r ≡ leInt (now (table .entry)) at ⌝ }
+{
+    numbers::signed(pair(table, at) + 65536 * pair(table, at + 2))
 }
 
 // Keeps a number in the k-th cell of record i, where it is there.
@@ -61,20 +70,23 @@ fn keep(unpacked: &mut [u32], i: usize, k: u8, x: u32)
     }
 }
 
-// Unpacks the record whose bytes begin at a place into the cells of record i, where they are there.
+// Unpacks the record whose bytes begin at a place into the cells of record i, where they are there. Its numbers are in
+// the table, so none of them needs a test of its own.
 pub fn unpack(table: &[u8], at: u32, unpacked: &mut [u32], i: usize)
+    requires { ⌜ at + 24 ≤ length (now table) ⌝ }
     ensures { λ _. ⌜ (i < parameterLimit → headCells + recordCells * (i + 1) ≤ length (now (unpacked .entry)) → Unpacked (now (table .entry)) at (now (unpacked .entry)) i (now (unpacked .exit))) ⌝ }
 {
+    let from = wide(at);
     keep(unpacked, i, 0, at);
-    keep(unpacked, i, 1, number_at(table, at, 2));
-    keep(unpacked, i, 2, number_at(table, at, 4));
-    keep(unpacked, i, 3, number_at(table, at, 6));
-    keep(unpacked, i, 4, number_at(table, at, 8));
-    keep(unpacked, i, 5, number_at(table, at, 10));
-    keep(unpacked, i, 6, int_at(table, at, 12));
-    keep(unpacked, i, 7, int_at(table, at, 16));
-    keep(unpacked, i, 8, number_at(table, at, 20));
-    keep(unpacked, i, 9, number_at(table, at, 22));
+    keep(unpacked, i, 1, pair(table, from + 2));
+    keep(unpacked, i, 2, pair(table, from + 4));
+    keep(unpacked, i, 3, pair(table, from + 6));
+    keep(unpacked, i, 4, pair(table, from + 8));
+    keep(unpacked, i, 5, pair(table, from + 10));
+    keep(unpacked, i, 6, int(table, from + 12));
+    keep(unpacked, i, 7, int(table, from + 16));
+    keep(unpacked, i, 8, pair(table, from + 20));
+    keep(unpacked, i, 9, pair(table, from + 22));
 }
 
 // The last cell of a record, which links it to another.

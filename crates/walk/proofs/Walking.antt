@@ -80,6 +80,14 @@ look t at i = go (leb 24 (length t - at)) (eqb (le16 t at) (24 + le16 t (at + 22
         let l = leb-true _ _ s in
         rw (length-whole t at h e f l) (whole (omega arith) (omega arith) (λ g. whole-record t at g (omega arith) e f (omega arith)))
 
+-- the numbers of a whole record are in the table
+pub head-there : (t : List ℕ) (at s : ℕ) → at < length t → s ≡ lengthAt t at → (s ≡ 0 → ⊥) → at + 24 ≤ length t
+head-there t at s h e z = go s (rw e (look t at h)) z
+  where
+    go : (s : ℕ) → Look t at s → (s ≡ 0 → ⊥) → at + 24 ≤ length t
+    go s (whole i k f) z = omega arith
+    go s (nothing f) z = absurd (z refl)
+
 -- ---- records found, then what is left
 
 abbrev after : List Record → Maybe (List Record) → Maybe (List Record)

@@ -3,38 +3,28 @@ use Rattle.records.proofs.Fields.{cell-past, cell-there, cell-out}
 use borrow.Author.Needs.{needs}
 use Rattle.records.proofs.cell.Statement.{statement}
 use Rattle.records.proofs.cell.Tie as tie
-use Rattle.records.proofs.cell.Reads as reads
-use Rattle.records.proofs.cell.Lts as lts
 
--- src/lib.rt:22:9
 returns : tie.Need-returns
 returns c = cell-past (now (c .before .args .unpacked)) (c .before .args .i) (c .before .args .k) (c .if1 .taken)
 
--- src/lib.rt:24:22
 mul-at : tie.Need-mul-at
 mul-at c = search needs
 
--- src/lib.rt:24:14
 add-at : tie.Need-add-at
 add-at c = search needs
 
--- src/lib.rt:24:14
 add-at-2 : tie.Need-add-at-2
 add-at-2 c = search needs
 
--- src/lib.rt:26:16
 mul-result : tie.Need-mul-result
 mul-result c = search needs
 
--- src/lib.rt:26:16
 shared-slice-read-result : tie.Need-shared-slice-read-result
 shared-slice-read-result c = search needs
 
--- src/lib.rt:26:9
 returns-2 : tie.Need-returns-2
 returns-2 c = cell-there (now (c .before .before .before .args .unpacked)) (c .before .before .before .args .i) (c .before .before .before .args .k) (c .before .before .if1 .left)
 
--- src/lib.rt:18:1
 returns-3 : tie.Need-returns-3
 returns-3 c = cell-out (now (c .before .before .args .unpacked)) (c .before .before .args .i) (c .before .before .args .k) (c .before .if1 .left) (c .if2 .left)
 

@@ -3,15 +3,10 @@ use Rattle.records.specs.Stored.{recordIn}
 use borrow.Author.Needs.{needs}
 use Rattle.records.proofs.extension_at.Statement.{statement}
 use Rattle.records.proofs.extension_at.Tie as tie
-use Rattle.records.proofs.extension_at.Reads as reads
-use Rattle.records.proofs.extension_at.Lts as lts
-use Rattle.records.proofs.flags_at.Reads as flags-at-reads
 
--- src/lib.rt:107:10
 flags-at-requires : tie.Need-flags-at-requires
 flags-at-requires c κs = search needs
 
--- src/lib.rt:104:1
 returns : tie.Need-returns
 unfolding recordIn flag2
 returns c = rw (c .flags-at .ensures)

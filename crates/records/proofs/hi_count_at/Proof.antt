@@ -3,20 +3,13 @@ use Rattle.records.specs.Stored.{recordIn}
 use borrow.Author.Needs.{needs}
 use Rattle.records.proofs.hi_count_at.Statement.{statement}
 use Rattle.records.proofs.hi_count_at.Tie as tie
-use Rattle.records.proofs.hi_count_at.Reads as reads
-use Rattle.records.proofs.hi_count_at.Lts as lts
-use Rattle.records.proofs.cell.Reads as cell-reads
-use Rattle.records.proofs.wide.Reads as wide-reads
 
--- src/lib.rt:125:10
 cell-requires : tie.Need-cell-requires
 cell-requires c κs = search needs
 
--- src/lib.rt:125:5
 wide-requires : tie.Need-wide-requires
 wide-requires c κs = search needs
 
--- src/lib.rt:122:1
 returns : tie.Need-returns
 unfolding recordIn
 returns c = c .wide .ensures .0 ∙ c .before .cell .ensures

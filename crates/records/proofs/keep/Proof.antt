@@ -3,42 +3,31 @@ use Rattle.records.proofs.Fields.{kept-past, kept-there, kept-out}
 use borrow.Author.Needs.{needs}
 use Rattle.records.proofs.keep.Statement.{statement}
 use Rattle.records.proofs.keep.Tie as tie
-use Rattle.records.proofs.keep.Reads as reads
-use Rattle.records.proofs.keep.Lts as lts
 
--- src/lib.rt:56:9
 returns : tie.Need-returns
 returns c = kept-past (now (c .before .args .unpacked)) (c .before .args .i) (c .before .args .k) (c .before .args .x) (c .if1 .taken)
 
--- src/lib.rt:58:22
 mul-at : tie.Need-mul-at
 mul-at c = search needs
 
--- src/lib.rt:58:14
 add-at : tie.Need-add-at
 add-at c = search needs
 
--- src/lib.rt:58:14
 add-at-2 : tie.Need-add-at-2
 add-at-2 c = search needs
 
--- src/lib.rt:60:9
 mul-unpacked : tie.Need-mul-unpacked
 mul-unpacked c = search needs
 
--- src/lib.rt:60:9
 slice-write-unpacked : tie.Need-slice-write-unpacked
 slice-write-unpacked c = search needs
 
--- src/lib.rt:52:1
 same-length : tie.Need-same-length
 same-length c = search needs
 
--- src/lib.rt:52:1
 returns-2 : tie.Need-returns-2
 returns-2 c = kept-there (now (c .before .before .args .unpacked)) (c .before .before .args .i) (c .before .before .args .k) (c .before .before .args .x) (c .before .if1 .left)
 
--- src/lib.rt:52:1
 returns-3 : tie.Need-returns-3
 returns-3 c = kept-out (now (c .before .before .args .unpacked)) (c .before .before .args .i) (c .before .before .args .k) (c .before .before .args .x) (c .before .if1 .left) (c .if2 .left)
 

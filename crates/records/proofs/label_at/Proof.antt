@@ -3,37 +3,25 @@ use Rattle.records.specs.Stored.{recordIn}
 use borrow.Author.Needs.{needs}
 use Rattle.records.proofs.label_at.Statement.{statement}
 use Rattle.records.proofs.label_at.Tie as tie
-use Rattle.records.proofs.label_at.Reads as reads
-use Rattle.records.proofs.label_at.Lts as lts
-use Rattle.records.proofs.cell.Reads as cell-reads
-use Rattle.records.proofs.part.Reads as part-reads
-use Rattle.records.proofs.wide.Reads as wide-reads
 
--- src/lib.rt:164:18
 cell-requires : tie.Need-cell-requires
 cell-requires c κs = search needs
 
--- src/lib.rt:164:9
 wide-requires : tie.Need-wide-requires
 wide-requires c κs = search needs
 
--- src/lib.rt:165:22
 cell-requires-2 : tie.Need-cell-requires-2
 cell-requires-2 c κs = search needs
 
--- src/lib.rt:165:17
 wide-requires-2 : tie.Need-wide-requires-2
 wide-requires-2 c κs = search needs
 
--- src/lib.rt:165:17
 add-part : tie.Need-add-part
 add-part c = search needs
 
--- src/lib.rt:165:5
 part-requires : tie.Need-part-requires
 part-requires c κs = search needs
 
--- src/lib.rt:161:1
 returns : tie.Need-returns
 unfolding recordIn
 returns c = c .part .ensures ∙ rw (c .before .wide2 .ensures .0, c .before .before .cell2 .ensures, c .before .before .before .wide .ensures .0, c .before .before .before .before .cell .ensures)

@@ -3,15 +3,10 @@ use Rattle.records.specs.Stored.{recordIn}
 use borrow.Author.Needs.{needs}
 use Rattle.records.proofs.plugin_at.Statement.{statement}
 use Rattle.records.proofs.plugin_at.Tie as tie
-use Rattle.records.proofs.plugin_at.Reads as reads
-use Rattle.records.proofs.plugin_at.Lts as lts
-use Rattle.records.proofs.flags_at.Reads as flags-at-reads
 
--- src/lib.rt:113:10
 flags-at-requires : tie.Need-flags-at-requires
 flags-at-requires c κs = search needs
 
--- src/lib.rt:110:1
 returns : tie.Need-returns
 unfolding recordIn flag4
 returns c = rw (c .flags-at .ensures)
