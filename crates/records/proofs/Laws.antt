@@ -2,17 +2,16 @@
 use mathlib.Core.Path.{_≡_, refl, ap, sym, _∙_}
 use mathlib.Core.Bool.{Bool, true, false}
 use mathlib.Core.List.{List, [], _∷_, _++_}
-use Prim.Native.Nat.{ℕ, zero, suc, _+_, _-_, _*_, _≤_, _<_}
+use Prim.Native.Nat.{ℕ, zero, suc, _+_, _-_, _≤_, _<_}
 use native.Mathlib.Omega.{arith}
 use native.Mathlib.Numerals.{add-one}
-use lib.Dec.{leb}
 use lib.ListN.{length, getD, drop, set, length-set, List·getD-eq-default}
 use lib.Seq.{getD-set-same, getD-set-other}
-use borrow.Author.Tests.{lt-leb}
+use borrow.Author.Tests.{lt-ltb, le-leb}
 use Rattle.classes.specs.Lists.{pick}
 use Rattle.numbers.specs.Limits.{parameterLimit}
 use Rattle.schema.specs.Record.{blank, recordAt}
-use Rattle.records.specs.Stored.{headCells, cellPlace, cellIn, keptIn, recordIn, recordsFrom, recordsAt}
+use Rattle.records.specs.Stored.{headCells, recordCells, cellPlace, isThere, cellIn, keptIn, recordIn, recordsFrom, recordsAt}
 
 module _ (t unpacked : List ℕ) where
   pub length-records : (n i : ℕ) → length (recordsFrom t unpacked n i) ≡ n
@@ -82,49 +81,62 @@ module _ (t unpacked : List ℕ) where
   unfolding recordsFrom
   records-one-more n = records-append n 1 0 ∙ ap (λ (k : ℕ). recordsAt t unpacked n ++ (recordIn t unpacked k ∷ [])) (omega arith)
 
+-- ---- cells that are there
+
+pub there : (cs : List ℕ) (i : ℕ) → i < parameterLimit → cellPlace i recordCells ≤ length cs → isThere cs i ≡ true
+unfolding isThere
+there cs i h l = rw (lt-ltb i parameterLimit h, le-leb (cellPlace i recordCells) (length cs) l)
+
+same-there : (a b : List ℕ) (i : ℕ) → length b ≡ length a → isThere b i ≡ isThere a i
+unfolding isThere
+same-there a b i e = rw e
+
 -- ---- cells that give the same records
+
+pub cell-agree : (a b : List ℕ) (j k : ℕ) → length b ≡ length a → getD b (cellPlace j k) 0 ≡ getD a (cellPlace j k) 0 → cellIn b j k ≡ cellIn a j k
+unfolding cellIn
+cell-agree a b j k e f = rw (same-there a b j e, f)
 
 pub record-agree : (t a b : List ℕ) (j : ℕ) → ((k : ℕ) → k < 10 → cellIn b j k ≡ cellIn a j k) → recordIn t b j ≡ recordIn t a j
 unfolding recordIn
 record-agree t a b j f =
     rw (f 0 (omega arith), f 1 (omega arith), f 2 (omega arith), f 3 (omega arith), f 4 (omega arith), f 5 (omega arith), f 6 (omega arith), f 7 (omega arith), f 8 (omega arith), f 9 (omega arith))
 
--- cells past the heads give the records
-pub record-past-heads : (t a b : List ℕ) (j : ℕ) → ((m : ℕ) → headCells ≤ m → getD b m 0 ≡ getD a m 0) → recordIn t b j ≡ recordIn t a j
-record-past-heads t a b j f = record-agree t a b j (λ k h. unfold cellIn in (rw (f (cellPlace j k) (omega arith))))
+-- as many cells, and those past the heads, give the records
+pub record-past-heads : (t a b : List ℕ) (j : ℕ) → length b ≡ length a → ((m : ℕ) → headCells ≤ m → getD b m 0 ≡ getD a m 0) → recordIn t b j ≡ recordIn t a j
+record-past-heads t a b j e f = record-agree t a b j (λ k h. cell-agree a b j k e (f (cellPlace j k) (omega arith)))
 
 module _ (cs : List ℕ) (i x : ℕ) where
-  -- a link is no other cell
-  pub link-cell : (j k : ℕ) → (cellPlace i 10 ≡ cellPlace j k → ⊥) → cellIn (keptIn cs i 10 x) j k ≡ cellIn cs j k
-  unfolding cellIn keptIn
-  link-cell j k h = by (leb parameterLimit i)
+  pub link-size : length (keptIn cs i 10 x) ≡ length cs
+  unfolding keptIn
+  link-size = by (isThere cs i)
     where
-      by : (b : Bool) → pick (leb parameterLimit j) 0 (getD (pick b cs (set cs (cellPlace i 10) x)) (cellPlace j k) 0) ≡ pick (leb parameterLimit j) 0 (getD cs (cellPlace j k) 0)
-      by true = unfold pick in refl
-      by false = unfold pick in (rw (getD-set-other cs (cellPlace i 10) (cellPlace j k) x 0 (λ e. h (sym e))))
+      by : (b : Bool) → length (pick b (set cs (cellPlace i 10) x) cs) ≡ length cs
+      by true = unfold pick in (length-set cs (cellPlace i 10) x)
+      by false = unfold pick in refl
+
+  -- a link is no other cell
+  link-other : (m : ℕ) → (m ≡ cellPlace i 10 → ⊥) → getD (keptIn cs i 10 x) m 0 ≡ getD cs m 0
+  unfolding keptIn
+  link-other m h = by (isThere cs i)
+    where
+      by : (b : Bool) → getD (pick b (set cs (cellPlace i 10) x) cs) m 0 ≡ getD cs m 0
+      by true = unfold pick in (getD-set-other cs (cellPlace i 10) m x 0 h)
+      by false = unfold pick in refl
+
+  pub link-cell : (j k : ℕ) → (cellPlace i 10 ≡ cellPlace j k → ⊥) → cellIn (keptIn cs i 10 x) j k ≡ cellIn cs j k
+  link-cell j k h = cell-agree cs (keptIn cs i 10 x) j k link-size (link-other (cellPlace j k) (λ e. h (sym e)))
 
   pub link-record : (t : List ℕ) (j : ℕ) → recordIn t (keptIn cs i 10 x) j ≡ recordIn t cs j
   link-record t j = record-agree t cs (keptIn cs i 10 x) j (λ k h. link-cell j k (λ e. omega arith))
 
   pub link-head : (h : ℕ) → h < headCells → getD (keptIn cs i 10 x) h 0 ≡ getD cs h 0
-  unfolding keptIn
-  link-head h l = by (leb parameterLimit i)
-    where
-      by : (b : Bool) → getD (pick b cs (set cs (cellPlace i 10) x)) h 0 ≡ getD cs h 0
-      by true = unfold pick in refl
-      by false = unfold pick in (getD-set-other cs (cellPlace i 10) h x 0 (λ e. omega arith))
-
-  pub link-size : length (keptIn cs i 10 x) ≡ length cs
-  unfolding keptIn
-  link-size = by (leb parameterLimit i)
-    where
-      by : (b : Bool) → length (pick b cs (set cs (cellPlace i 10) x)) ≡ length cs
-      by true = unfold pick in refl
-      by false = unfold pick in (length-set cs (cellPlace i 10) x)
+  link-head h l = link-other h (λ e. omega arith)
 
   pub link-there : i < parameterLimit → cellPlace i 10 < length cs → cellIn (keptIn cs i 10 x) i 10 ≡ x
   unfolding cellIn keptIn pick
-  link-there h l = rw (lt-leb parameterLimit i h) (getD-set-same cs (cellPlace i 10) x 0 l)
+  link-there h l =
+      rw (there cs i h (omega arith), there (set cs (cellPlace i 10) x) i h (rw length-set (omega arith))) (getD-set-same cs (cellPlace i 10) x 0 l)
 
 pub records-agree : (t a b : List ℕ) (n i : ℕ) → ((k : ℕ) → i ≤ k → k < i + n → recordIn t a k ≡ recordIn t b k) → recordsFrom t a n i ≡ recordsFrom t b n i
 unfolding recordsFrom

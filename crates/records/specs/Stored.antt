@@ -1,8 +1,9 @@
 -- Records of a table: as they stand in its bytes, and unpacked, with their numbers kept in a row of cells.
 use mathlib.Core.Path.{_≡_}
+use mathlib.Core.Bool.{Bool, _&&_}
 use mathlib.Core.List.{List, [], _∷_}
 use Prim.Native.Nat.{ℕ, zero, suc, _+_, _*_, _<_}
-use lib.Dec.{leb}
+use lib.Dec.{ltb, leb}
 use lib.ListN.{length, getD, set, take, drop}
 use Rattle.classes.specs.Lists.{pick}
 use Rattle.numbers.specs.Limits.{parameterLimit}
@@ -30,13 +31,17 @@ recordCells = 11
 abbrev pub cellPlace : ℕ → ℕ → ℕ
 cellPlace i k = headCells + recordCells * i + k
 
--- what it holds; 0 past the end, and for records past the limit
+-- the cells of the i-th record are there, all of them; none is there past the limit
+unfoldable pub isThere : List ℕ → ℕ → Bool
+isThere cs i = ltb i parameterLimit && leb (cellPlace i recordCells) (length cs)
+
+-- what one of them holds; 0 where they are not there
 unfoldable pub cellIn : List ℕ → ℕ → ℕ → ℕ
-cellIn cs i k = pick (leb parameterLimit i) 0 (getD cs (cellPlace i k) 0)
+cellIn cs i k = pick (isThere cs i) (getD cs (cellPlace i k) 0) 0
 
 -- the cells with another number in one of them
 unfoldable pub keptIn : List ℕ → ℕ → ℕ → ℕ → List ℕ
-keptIn cs i k x = pick (leb parameterLimit i) cs (set cs (cellPlace i k) x)
+keptIn cs i k x = pick (isThere cs i) (set cs (cellPlace i k) x) cs
 
 -- the i-th record, from its cells and its label in the table
 unfoldable pub recordIn : List ℕ → List ℕ → ℕ → Record

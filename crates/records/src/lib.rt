@@ -1,5 +1,6 @@
 // Records of a compiled table. A table's records are unpacked once: their numbers are kept in lent cells, and read from
-// there; specs/Stored says which cell holds what. A cell past the end, or of a record past the limit, counts as 0.
+// there; specs/Stored says which cell holds what. Where a record's cells are not all there, or the record is past the
+// limit, they count as 0.
 ghost use mathlib.Core.Path.{_≡_};
 ghost use Prim.Native.Nat.{_+_, _*_, _≤_, _<_};
 ghost use lib.ListN.{length, take, drop};
@@ -14,16 +15,18 @@ const HEADS: usize = 64;
 
 const WIDTH: usize = 11;
 
-// The k-th cell of record i.
+// The k-th cell of record i. The test is the same for all cells of a record, here and below, so that the compiler can
+// make it once.
 fn cell(unpacked: &[u32], i: usize, k: u8) -> u32
+    requires { ⌜ k < recordCells ⌝ }
     ensures { λ r. ⌜ r ≡ cellIn (now (unpacked .entry)) i k ⌝ }
 {
     if 256 <= i {
         return 0;
     }
-    let at = HEADS + WIDTH * i + k as usize;
-    if at < unpacked.len() {
-        return unpacked[at];
+    let at = HEADS + WIDTH * i;
+    if at + WIDTH <= unpacked.len() {
+        return unpacked[at + k as usize];
     }
     0
 }
@@ -57,16 +60,17 @@ fn int(table: &[u8], at: usize) -> u32
     numbers::signed(pair(table, at) + 65536 * pair(table, at + 2))
 }
 
-// Keeps a number in the k-th cell of record i, where it is there.
+// Keeps a number in the k-th cell of record i, where its cells are there.
 fn keep(unpacked: &mut [u32], i: usize, k: u8, x: u32)
+    requires { ⌜ k < recordCells ⌝ }
     ensures { λ _. ⌜ now (unpacked .exit) ≡ keptIn (now (unpacked .entry)) i k x ⌝ }
 {
     if 256 <= i {
         return;
     }
-    let at = HEADS + WIDTH * i + k as usize;
-    if at < unpacked.len() {
-        unpacked[at] = x;
+    let at = HEADS + WIDTH * i;
+    if at + WIDTH <= unpacked.len() {
+        unpacked[at + k as usize] = x;
     }
 }
 

@@ -2,20 +2,20 @@
 use mathlib.Core.Path.{_≡_, refl, ap, sym, _∙_}
 use mathlib.Core.Bool.{Bool, true, false}
 use mathlib.Core.List.{List, [], _∷_}
-use Prim.Native.Nat.{ℕ, zero, suc, _+_, _-_, _*_, _%_, _≤_, _<_}
+use Prim.Native.Nat.{ℕ, suc, _+_, _-_, _*_, _%_, _≤_, _<_}
 use native.Mathlib.Nat.{mod-lt}
 use native.Mathlib.Numerals.{add-one}
 use native.Mathlib.Omega.{arith}
-use lib.Dec.{eqb, ltb, leb}
+use lib.Dec.{eqb, ltb}
 use lib.ListN.{length, getD, set, length-set}
 use lib.Seq.{getD-set-same, getD-set-other}
-use borrow.Author.Tests.{eqb-true, eqb-false, eq-eqb, ne-eqb, lt-ltb, le-ltb, leb-true, leb-false}
+use borrow.Author.Tests.{eqb-true, eqb-false, eq-eqb, ne-eqb, lt-ltb, le-ltb}
 use Rattle.classes.specs.Lists.{pick}
 use Rattle.numbers.specs.Limits.{parameterLimit}
 use Rattle.schema.specs.Record.{Record}
-use Rattle.records.specs.Stored.{headCells, recordCells, cellPlace, cellIn, keptIn, recordIn, recordsFrom, recordsAt}
-use Rattle.records.proofs.Laws.{records-agree, records-more, records-end, record-past-heads, link-cell, link-record, link-head, link-size, link-there}
-use Rattle.tags.specs.Lists.{keyOf, keyIn, nextIn, Cleared, Linked, Links, inFront}
+use Rattle.records.specs.Stored.{headCells, recordCells, cellPlace, cellIn, keptIn, recordIn, recordsFrom}
+use Rattle.records.proofs.Laws.{records-agree, records-more, records-end, cell-agree, record-past-heads, link-cell, link-record, link-head, link-size, link-there}
+use Rattle.tags.specs.Lists.{keyOf, keyIn, nextIn, Cleared, Linked, inFront}
 
 -- ---- keys
 
@@ -82,7 +82,7 @@ linked-none t before cs n c = record {
 }
 
 pub same-cleared : (t before cs : List ℕ) → Cleared before headCells cs → (j : ℕ) → recordIn t cs j ≡ recordIn t before j
-same-cleared t before cs c j = record-past-heads t before cs j (c .others)
+same-cleared t before cs c j = record-past-heads t before cs j (c .size) (c .others)
 
 -- ---- one record in front of its list
 
@@ -97,7 +97,7 @@ module _ (t cs : List ℕ) (n i k : ℕ) (few : n ≤ parameterLimit) (room : he
   other-head m d = getD-set-other kept k m (i + 1) 0 d
 
   pub front-same : (j : ℕ) → recordIn t (inFront cs i k) j ≡ recordIn t cs j
-  front-same j = record-past-heads t kept after j (λ m b. other-head m (λ q. omega arith)) ∙ link-record cs i (getD cs k 0) t j
+  front-same j = record-past-heads t kept after j (length-set kept k (i + 1)) (λ m b. other-head m (λ q. omega arith)) ∙ link-record cs i (getD cs k 0) t j
 
   all : (m j : ℕ) → recordsFrom t after m j ≡ recordsFrom t cs m j
   all m j = records-agree t after cs m j (λ q a b. front-same q)
@@ -120,7 +120,7 @@ module _ (t cs : List ℕ) (n i k : ℕ) (few : n ≤ parameterLimit) (room : he
   links j a b = rw (front-same j, all (n - (j + 1)) (j + 1)) (cell ∙ by (eqb j i) refl)
     where
       cell : cellIn after j 10 ≡ cellIn kept j 10
-      cell = unfold cellIn in (rw (other-head (cellPlace j 10) (λ z. omega arith)))
+      cell = cell-agree kept after j 10 (length-set kept k (i + 1)) (other-head (cellPlace j 10) (λ z. omega arith))
 
       by : (x : Bool) → eqb j i ≡ x → cellIn kept j 10 ≡ nextIn (keyIn (recordIn t cs j)) (j + 1) (recordsFrom t cs (n - (j + 1)) (j + 1))
       by true q =
