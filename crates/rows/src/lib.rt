@@ -28,17 +28,17 @@ fn put(rows: &mut [u32], i: usize, x: usize)
     }
 }
 
-// Places and row numbers are small, as messages are.
+// In the reader's first pass no rows are lent, which is told first. Places and row numbers are small, as messages are.
 pub fn put_row(rows: &mut [u32], row: usize, r: Row)
     requires { ⌜ Small r ⌝ }
     requires { ⌜ row < 4294967296 ⌝ }
     ensures { λ _. ⌜ now (rows .exit) ≡ sets (now (rows .entry)) (rowWidth * row) (cells (rowOf r ∷ [])) ⌝ }
 {
-    let i = ROW_WIDTH * row;
-    if rows.len() <= i {
+    if rows.len() == 0 {
         return;
     }
-    if ROW_WIDTH <= rows.len() - i {
+    let i = ROW_WIDTH * row;
+    if i + ROW_WIDTH <= rows.len() {
         rows[i] = r.parameter as u32;
         rows[i + 1] = r.parent as u32;
         rows[i + 2] = r.start as u32;

@@ -7,15 +7,15 @@ use borrow.Author.Needs.{needs}
 use Rattle.rows.proofs.put_row.Statement.{statement}
 use Rattle.rows.proofs.put_row.Tie as tie
 
+returns : tie.Need-returns
+unfolding cells
+returns c = row-out (c .before .before .args .rows .now) (4 * c .before .before .args .row) (c .before .before .args .r .parameter) (c .before .before .args .r .parent) (c .before .before .args .r .start) (c .before .before .args .r .end) (omega (arith, c .if1 .taken))
+
 mul-i : tie.Need-mul-i
 mul-i c = search needs
 
-returns : tie.Need-returns
-unfolding cells
-returns c = row-out (c .before .before .args .rows .now) (4 * c .before .before .args .row) (c .before .before .args .r .parameter) (c .before .before .args .r .parent) (c .before .before .args .r .start) (c .before .before .args .r .end) (c .if1 .taken)
-
-sub-if2 : tie.Need-sub-if2
-sub-if2 c = search needs
+add-if2 : tie.Need-add-if2
+add-if2 c = search needs
 
 cast-rows : tie.Need-cast-rows
 cast-rows c = search needs
@@ -101,9 +101,9 @@ pub put-row-spec : {M : Type 1} → statement M
 put-row-spec =
     tie.close
     (tie.spec
-    mul-i
     returns
-    sub-if2
+    mul-i
+    add-if2
     cast-rows
     mul-rows
     slice-write-rows
