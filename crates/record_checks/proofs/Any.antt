@@ -5,11 +5,11 @@ use mathlib.Core.List.{List, [], _∷_}
 use Prim.Native.Nat.{ℕ, zero, suc, _+_, _-_, _≤_, _<_}
 use native.Mathlib.Omega.{arith}
 use lib.ListN.{length}
-use Rattle.schema.specs.Record.{Record}
+use Rattle.schema.specs.Record.{Record, Up, top, under, isTop}
 use lib.Dec.{eqb}
 use borrow.Author.Tests.{eq-eqb, ne-eqb}
 use Rattle.classes.specs.Lists.{pick}
-use Rattle.definition_rules.specs.Faults.{anyBefore, anyOf, parentKind, misplacedField, misplacedAlternative, misplacedUntagged}
+use Rattle.definition_rules.specs.Faults.{anyBefore, anyOf, parentKind, misplacedField, misplacedAlternative, misplacedUntagged, numberTag, voidTop, pluginUndotted, rule7Broken}
 use Rattle.records.specs.Stored.{recordIn, recordsFrom, recordsAt}
 use Rattle.records.proofs.Laws.{length-records, records-more, records-end, records-all}
 
@@ -64,3 +64,14 @@ module _ (rs : List Record) (i : ℕ) (r : Record) (k : ℕ) (u : r .untagged �
   pub untagged-field : (k ≡ 9 → ⊥) → misplacedUntagged rs i r ≡ misplacedField rs i r
   unfolding pick
   untagged-field z = untagged-by false (ne-eqb k 9 z)
+
+-- ---- a tagged field of a struct
+
+-- it breaks no rule of number 7 unless it is a plugin
+pub tagged-field : (rs : List Record) (i : ℕ) (r : Record) → r .untagged ≡ false → r .plugin ≡ false → parentKind rs (r .parent) ≡ 8 → rule7Broken rs i r ≡ false
+unfolding rule7Broken misplacedUntagged numberTag voidTop pluginUndotted
+tagged-field rs i r u p k = rw (u, p, ne-eqb (parentKind rs (r .parent)) 9 (λ e. omega arith), no-top (r .parent) k)
+  where
+    no-top : (x : Up) → parentKind rs x ≡ 8 → isTop x ≡ false
+    no-top top e = absurd (unfold parentKind in (omega arith))
+    no-top (under q) e = unfold isTop in refl

@@ -1,7 +1,7 @@
 // The checks of a definition that read only records. In all of them unpacked holds the table's records, n is how many
 // there are, and i is the number of the record that is judged.
 ghost use mathlib.Core.Path.{_≡_};
-ghost use mathlib.Core.Bool.{Bool, false};
+ghost use mathlib.Core.Bool.{Bool, true, false};
 ghost use mathlib.Core.List.{List};
 ghost use Prim.Native.Nat.{_≤_};
 ghost use lib.ListN.{length, getD, set};
@@ -159,6 +159,19 @@ fn plugin_undotted(table: &[u8], unpacked: &[u32], i: usize) -> bool
         return true;
     }
     !words::has_dot(records::label_at(table, unpacked, i))
+}
+
+// A tagged field of a struct, and no plugin: no rule of number 7 speaks of it.
+pub fn is_tagged_field(table: &[u8], unpacked: &[u32], n: usize, i: usize) -> bool
+    ensures { λ r. ⌜ (r ≡ true → rule7Broken (recordsAt (now (table .entry)) (now (unpacked .entry)) n) i (recordIn (now (table .entry)) (now (unpacked .entry)) i) ≡ false) ⌝ }
+{
+    if records::untagged_at(table, unpacked, i) {
+        return false;
+    }
+    if records::plugin_at(table, unpacked, i) {
+        return false;
+    }
+    parent_kind(table, unpacked, n, i) == 8
 }
 
 pub fn rule7_broken(table: &[u8], unpacked: &[u32], n: usize, i: usize) -> bool

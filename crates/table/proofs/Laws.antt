@@ -56,11 +56,11 @@ and-no : (a : Bool) → a && false ≡ false
 and-no true = refl
 and-no false = refl
 
-all-four : (a b c d w x y z : Bool) → not (a || (b || (c || d))) && (w && (x && (y && z))) ≡ (not a && w) && ((not b && x) && ((not c && y) && (not d && z)))
-all-four true b c d w x y z = refl
-all-four false true c d w x y z = rw (and-no w)
-all-four false false true d w x y z = rw (and-no x, and-no w)
-all-four false false false true w x y z = rw (and-no y, and-no x, and-no w)
+all-four : (a b c d w x y z : Bool) → not (c || (d || (a || b))) && (w && (x && (y && z))) ≡ (not a && w) && ((not b && x) && ((not c && y) && (not d && z)))
+all-four a b true d w x y z = rw (and-no (not b && x), and-no (not a && w))
+all-four a b false true w x y z = rw (and-no y, and-no (not b && x), and-no (not a && w))
+all-four true b false false w x y z = refl
+all-four false true false false w x y z = rw (and-no w)
 all-four false false false false w x y z = refl
 
 fifth : (w x y z e : Bool) → (w && (x && (y && z))) && e ≡ w && (x && (y && (z && e)))

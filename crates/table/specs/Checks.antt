@@ -14,7 +14,7 @@ use Rattle.walk.specs.declared.Walk.the-variants.{Count, Bad}
 
 -- what the compiler asks of the i-th record, r, but for its values
 unfoldable pub isBroken : List Record → ℕ → Record → Bool
-isBroken rs i r = voidMany i r || (rule7Broken rs i r || (tagRepeated rs i r || rootNoStruct i r))
+isBroken rs i r = tagRepeated rs i r || (rootNoStruct i r || (voidMany i r || rule7Broken rs i r))
 
 -- a table that keeps the rules, and its records, in their lists
 pub record Fine (t cs : List ℕ) (n : ℕ) : Type 0 where

@@ -17,21 +17,24 @@ use walk::Walk;
 
 // ---- the compiler's checks
 
-// What the compiler asks of the record i alone, but for its values.
+// What the compiler asks of the record i alone, but for its values. Most are tagged fields, of which number 7 says nothing.
 fn is_broken(table: &[u8], unpacked: &[u32], n: usize, i: usize) -> bool
     requires { ⌜ (i < n) × Linked (now table) (now unpacked) n 0 ⌝ }
     ensures { λ r. ⌜ r ≡ isBroken (recordsAt (now (table .entry)) (now (unpacked .entry)) n) i (recordIn (now (table .entry)) (now (unpacked .entry)) i) ⌝ }
 {
-    if record_checks::void_many(table, unpacked, i) {
-        return true;
-    }
-    if record_checks::rule7_broken(table, unpacked, n, i) {
-        return true;
-    }
     if tags::tag_again(table, unpacked, n, i) {
         return true;
     }
-    record_checks::root_no_struct(table, unpacked, i)
+    if record_checks::root_no_struct(table, unpacked, i) {
+        return true;
+    }
+    if record_checks::void_many(table, unpacked, i) {
+        return true;
+    }
+    if record_checks::is_tagged_field(table, unpacked, n, i) {
+        return false;
+    }
+    record_checks::rule7_broken(table, unpacked, n, i)
 }
 
 fn none_broken(table: &[u8], unpacked: &[u32], n: usize) -> bool
