@@ -110,7 +110,7 @@ over-marks t unpacked n have have' i rest e o k h = o k h ∙ rw (struct-same ha
 
 -- ---- a body is whole once its own record is met
 
-not-under : (p i : ℕ) (u : Up) → Before i u → i ≤ p → isUnder p u ≡ false
+pub not-under : (p i : ℕ) (u : Up) → Before i u → i ≤ p → isUnder p u ≡ false
 unfolding Before isUnder
 not-under p i top b h = refl
 not-under p i (under q) b h = ne-eqb q p (λ e. absurd (omega arith))

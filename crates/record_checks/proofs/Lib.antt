@@ -2,6 +2,7 @@
 pub mod Parents
 -- loops over records
 mod Any
--- number 10: bodies as they are gathered, and sweeps
+-- number 10: bodies as they are gathered, sweeps, and where none is needed
 mod Bodies
 mod Sweeping
+mod Structs

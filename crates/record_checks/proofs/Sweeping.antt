@@ -69,7 +69,7 @@ module _ (rs : List Record) where
   unfolding recordAt
   round-step have k h = round-at rs have 0 rs k h ∙ ap (λ (j : ℕ). finiteStep rs have j (getD rs k blank)) (omega arith)
 
-  closed-at : (k : ℕ) → k < length rs → Up (stepAt (finites rs) k) (getD (finites rs) k false)
+  pub closed-at : (k : ℕ) → k < length rs → Up (stepAt (finites rs) k) (getD (finites rs) k false)
   closed-at k h e = sub-at _ _ (finites-closed rs) k (round-step (finites rs) k h ∙ e)
 
   -- ---- one parameter

@@ -79,3 +79,7 @@ Empty have = (i : ℕ) → getD have i false ≡ false
 -- what is kept is number 10's outcome
 abbrev pub Found : List Record → List Bool → Type 0
 Found rs have = (i : ℕ) → getD have i false ≡ getD (finites rs) i false
+
+-- every record has a finite value
+abbrev pub AllFinite : List Record → Type 0
+AllFinite rs = (i : ℕ) → i < length rs → getD (finites rs) i false ≡ true

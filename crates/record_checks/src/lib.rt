@@ -10,7 +10,7 @@ ghost use Rattle.definition_rules.specs.Finite.{canDoWithout, endsNeeds, isEndl
 ghost use Rattle.definition_rules.specs.Faults.{voidMany, anyBefore, parentKind, beside as isBeside, misplacedField, misplacedAlternative, misplacedUntagged, numberTag, voidTop, pluginUndotted, rule7Broken, rootNoStruct};
 ghost use Rattle.records.specs.Stored.{recordIn, recordsAt};
 ghost use Rattle.record_checks.specs.Besides.{isSuch};
-ghost use Rattle.record_checks.specs.Sweeps.{stepBy, isNew, addIf, stepWith, gathered, Over, Swept, Empty, Found};
+ghost use Rattle.record_checks.specs.Sweeps.{stepBy, isNew, addIf, stepWith, gathered, Over, Swept, Empty, Found, AllFinite};
 
 // What is asked of the other records of a body, or of the other tops.
 enum Such {
@@ -356,4 +356,18 @@ pub fn is_endless(table: &[u8], unpacked: &[u32], have: &[bool], i: usize) -> bo
 {
     let k = records::kind_at(table, unpacked, i);
     (8 <= k) & (k <= 9) & !has(have, i)
+}
+
+// No record is a union or a reference, so that each has a finite value: the records of a struct's body stand after it.
+pub fn only_structs(table: &[u8], unpacked: &[u32], n: usize) -> bool
+    ensures { λ r. ⌜ (Nested (recordsAt (now (table .entry)) (now (unpacked .entry)) n) → r ≡ true → AllFinite (recordsAt (now (table .entry)) (now (unpacked .entry)) n)) ⌝ }
+{
+    let mut i: usize = 0;
+    while i < n {
+        if 9 <= records::kind_at(table, unpacked, i) {
+            return false;
+        }
+        i += 1;
+    }
+    true
 }

@@ -13,12 +13,13 @@ use Rattle.numbers.specs.Limits.{parameterLimit}
 use Rattle.schema.specs.Record.{Record}
 use Rattle.definition_rules.specs.Table.{Maybe, none, just, decode}
 use Rattle.definition_rules.specs.Finite.{finites, isEndless}
+use Rattle.definition_rules.specs.Words.{kindIsCompound}
 use Rattle.table_rules.specs.Compilable.{Compilable}
 use Rattle.table_rules.proofs.Theorems.{rules-iff}
 use Rattle.table_rules.specs.RecordRules.{noneBroken, recordChecks, recordRules, rulesOf, tableRules}
 use Rattle.records.specs.Stored.{recordIn, recordsFrom, recordsAt}
 use Rattle.records.proofs.Laws.{length-records, records-more, records-end, records-all}
-use Rattle.record_checks.specs.Sweeps.{Found}
+use Rattle.record_checks.specs.Sweeps.{Found, AllFinite}
 use Rattle.definition_rules.specs.Faults.{voidMany, rule7Broken, tagRepeated, rootNoStruct}
 use Rattle.tags.specs.Lists.{Linked, Links}
 use Rattle.tags.proofs.Searching.{links-records}
@@ -56,6 +57,15 @@ and-no : (a : Bool) → a && false ≡ false
 and-no true = refl
 and-no false = refl
 
+-- marks that are all set
+none-endless : (have : List Bool) (i : ℕ) (qs : List Record) → ((k : ℕ) → k < length qs → getD have (i + k) false ≡ true) → noneBroken (isEndless have) i qs ≡ true
+unfolding noneBroken isEndless
+none-endless have i [] f = refl
+none-endless have i (q ∷ qs) f =
+    let y : i ≡ i + 0 = omega arith in
+    let h : getD have i false ≡ true = rw y (f 0 (omega arith)) in
+    rw (h, and-no (kindIsCompound (q .kind))) (none-endless have (suc i) qs (λ k l. let z : suc i + k ≡ i + suc k = omega arith in rw z (f (suc k) (omega arith))))
+
 all-four : (a b c d w x y z : Bool) → not (c || (d || (a || b))) && (w && (x && (y && z))) ≡ (not a && w) && ((not b && x) && ((not c && y) && (not d && z)))
 all-four a b true d w x y z = rw (and-no (not b && x), and-no (not a && w))
 all-four a b false true w x y z = rw (and-no y, and-no (not b && x), and-no (not a && w))
@@ -85,6 +95,9 @@ module _ (rs : List Record) where
 
   pub checks-finite : (have : List Bool) → noneBroken (isBroken rs) 0 rs ≡ true → Found rs have → noneBroken (isEndless have) 0 rs ≡ recordChecks rs
   checks-finite have e f = none-found rs have f 0 rs ∙ (sym (rw e) ∙ checks-are)
+
+  pub checks-structs : noneBroken (isBroken rs) 0 rs ≡ true → AllFinite rs → recordChecks rs ≡ true
+  checks-structs e f = sym checks-are ∙ rw e (none-endless (finites rs) 0 rs (λ k h. let z : 0 + k ≡ k = omega arith in rw z (f k h)))
 
 -- ---- the rules
 

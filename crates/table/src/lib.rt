@@ -77,6 +77,9 @@ fn checks_fine(table: &[u8], unpacked: &[u32], n: usize) -> bool
     if !none_broken(table, unpacked, n) {
         return false;
     }
+    if record_checks::only_structs(table, unpacked, n) {
+        return true;
+    }
     let mut have = none_yet();
     let mut rest = none_yet();
     record_checks::finites(table, unpacked, n, &mut have, &mut rest);
