@@ -1,22 +1,22 @@
 -- Each step of the readers that call each other, said of plain lists and numbers.
 use mathlib.Core.Path.{_≡_, refl, sym, ap, subst, _∙_}
 use mathlib.Core.Bool.{Bool, true, false}
-use mathlib.Core.List.{List, [], _∷_, _++_, append-nil}
+use mathlib.Core.List.{List, [], _∷_}
 use Prim.Native.Nat.{ℕ, zero, suc, _+_, _-_, _*_, _≤_, _<_}
 use native.Mathlib.Nat.{zero-add}
 use native.Mathlib.Numerals.{add-one}
 use native.Mathlib.Omega.{arith}
-use lib.ListN.{length, take, drop}
+use lib.ListN.{length, take, drop, drop-of-length-le}
 use lib.Seq.{sets, length-sets, drop-drop}
-use Rattle.numbers.specs.Limits.{rowWidth, messageLimit, parameterLimit}
+use Rattle.numbers.specs.Limits.{rowWidth}
 use Rattle.schema.specs.Token.{Token, word, equals, comma, opening, closing}
 use Rattle.schema.specs.Schema.{Schema}
 use Rattle.schema.specs.Schema as schema
-use Rattle.schema.specs.Reading.{Sort, value, list, body, items, Tree, braced, chosen, last, more, listed, stopped, itemized, noItem, voidItem, listItem}
+use Rattle.schema.specs.Reading.{Sort, value, list, body, items, Tree, braced, last, more, listed, stopped, itemized, noItem, voidItem, listItem}
 use Rattle.message_rules.specs.Scan.{lexeme, tokensOf}
 use Rattle.message_rules.specs.Scan.{Lexeme as Lex}
-use Rattle.schema.specs.Parse.{Result, refused, got, then, need, shut, structAt, unionAt, noneAt, simpleAt, byKind, valueAt, mayGrow, afterValue, listAt, wholeList, itemsAt, listThen, listsAt, wholeValue, bodyAt}
-use Rattle.message_rules.specs.Rows.{Row, rowCount, lexemeAt, rowOver, rowsOf, cells}
+use Rattle.schema.specs.Parse.{Result, refused, got, then, need, shut, structAt, unionAt, noneAt, simpleAt, byKind, valueAt, mayGrow, afterValue, listAt, wholeList, itemsAt, listThen, listsAt, bodyAt}
+use Rattle.message_rules.specs.Rows.{rowCount, lexemeAt, rowOver, rowsOf, cells}
 use Rattle.schema.specs.Reading.{width}
 use Rattle.message_rules.specs.Verdict.{startOr}
 use Rattle.message_rules.proofs.RowLaws.{rows-counted}
@@ -28,35 +28,33 @@ use Rattle.tokens.proofs.Heads.{step-lex, step-tokens, step-left, step-within}
 use Rattle.unknown.specs.Along.{Tail, tokensAt, Stopped}
 use Rattle.unknown.specs.Along as along
 use Rattle.unknown.proofs.AlongLaws.{tail-trans, drop-tail, step-tail, tokens-length, part-lexemes, part-start, part-end, part-length}
-use Rattle.rows.specs.Filled.{withEnds}
-use Rattle.rows.proofs.Stores.{rows-append, row-first}
+use Rattle.rows.proofs.Stores.{row-first}
 use Rattle.rows.proofs.Trees.{rows-at, place-at, body-any}
-use Rattle.schema.specs.Schema.{first, nowhere, found}
+use Rattle.schema.specs.Schema.{first, found}
 use Rattle.lookup.specs.Questions.{schemaAt, untaggedFrom}
 use Rattle.lookup.specs.Seen.{Marks, noMarks}
-use Rattle.schema.specs.Schema.{isUntaggedOf}
+use Rattle.schema.specs.Schema.{numbersWhere, isUntaggedOf}
 use Rattle.records.specs.Stored.{recordsAt}
-use Rattle.lookup.proofs.Laws.{untagged-all, untagged-next, untagged-none, untagged-below, next-in}
+use Rattle.records.proofs.Laws.{length-records}
+use Rattle.lookup.proofs.Laws.{untagged-all, untagged-below, next-in}
 use Rattle.lookup.proofs.Marked.{marks-none}
 use Rattle.values.specs.declared.Frame.{Frame}
 use Rattle.values.specs.declared.Got.{Got}
 use Rattle.values.specs.declared.Got.the-variants.{Done, Refused}
-use Rattle.values.specs.Ends.{Room, Read, Moved, Ended, Ends, EndedValue, EndsValue}
+use Rattle.values.specs.Ends.{Room, Moved, Ended, Ends, EndedValue, EndsValue}
 use Rattle.lookup.specs.IntList.{IntsOf}
 use Rattle.lookup.specs.declared.Ints.{Ints}
 use Rattle.lists.specs.Quickly.{QuickValue, QuickOn}
 use Rattle.values.specs.Going.{Going, Chain}
-use Rattle.values.specs.Values.{Values, endOf, Shut, ShutAt}
+use Rattle.values.specs.Values.{Values, Shut, ShutAt}
 use Rattle.choices.specs.Choices.{Deeper, Whole}
 use Rattle.lists.specs.Lists.{Grows}
 use Rattle.bodies.specs.Bodies.{VoidItem, ListItem, Passes}
-use Rattle.values.proofs.GoingLaws.{stopped-before, stopped-then, stopped-same, then-refused, then-got, read-same, going-same, going-start, going-stopped, going-on, going-read, going-step, chain-start, chain-stopped, chain-on, chain-read}
+use Rattle.values.proofs.GoingLaws.{stopped-before, stopped-then, stopped-same, then-refused, then-got, read-same, going-start, going-stopped, going-on, going-read, going-step, chain-start, chain-stopped, chain-on, chain-read}
 use Rattle.values.proofs.Parts.{stop-here}
-use Rattle.reader.specs.Turning.{valuesOf, here, Fewer, Turned, ElementAt, FieldAt, Itemed, ItemTurn, PlainAt, closedRows, endPlace, isUnion, movedOf, fieldOf, underOf, innerOf, deeperOf, openRow, Twice, WholeAt}
+use Rattle.reader.specs.Turning.{valuesOf, here, Fewer, Turned, Line, Loop, ElementAt, Itemed, PlainAt, closedRows, endPlace, isUnion, movedOf, fieldOf, underOf, innerOf, deeperOf, openRow, WholeAt, leftAt, bodyOf, Bodying, Due}
 use Rattle.reader.specs.declared.Taken.{Taken}
 use Rattle.reader.specs.declared.Taken.the-variants as taken
-use Rattle.reader.specs.declared.Turn.{Turn}
-use Rattle.reader.specs.declared.Turn.the-variants.{On, Out}
 
 shorter : {A : Type 0} (j : ℕ) (x : List A) → length (drop j x) ≤ length x
 shorter zero x = omega arith
@@ -67,43 +65,29 @@ shorter (suc j) (l ∷ x) = omega (arith, shorter j x)
 pub room-moved : (f : Frame) (len n least at row : ℕ) → Room f len n → Moved len (f .at) least (f .row) at row → Room (movedOf f at row) len n
 room-moved f len n least at row r m = record { short = r .short; here = m .within; few = omega (arith, r .few, m .counted, m .far); above = r .above; known = r .known }
 
-pub room-field : (f : Frame) (len n at q : ℕ) → Room f len n → f .at ≤ at → at ≤ len → Room (fieldOf f at q) len n
-room-field f len n at q r l h = record { short = r .short; here = h; few = omega (arith, r .few, l); above = r .above; known = r .known }
-
 pub room-under : (f : Frame) (len n at q : ℕ) → Room f len n → f .at < at → at ≤ len → Room (underOf f at q) len n
 room-under f len n at q r l h = record { short = r .short; here = h; few = omega (arith, r .few, l); above = omega (arith, r .few, r .short, r .here); known = r .known }
 
 pub room-inner : (f : Frame) (s : List ℕ) (n e u : ℕ) → Room f (length s) n → f .at < e → e ≤ length s → Room (innerOf f e u) (length (take (length s - e) (drop e s))) n
 room-inner f s n e u r l h = record { short = omega (arith, part-end (f .base) s e h, r .short); here = omega arith; few = omega (arith, r .few, l); above = omega (arith, r .few, r .short, r .here); known = r .known }
 
-pub room-deeper : (f : Frame) (len n : ℕ) → Room f len n → Room (deeperOf f) len n
-room-deeper f len n r = record { short = r .short; here = r .here; few = r .few; above = r .above; known = r .known }
-
 -- ---- answers that are equal
-pub ends-same : {k : Sort} {o o′ : Result (Tree k)} (s : List ℕ) (f : Frame) (before after : List ℕ) (least : ℕ) (g : Got) → o ≡ o′ → Ends o′ s f before after least g → Ends o s f before after least g
-ends-same s f before after least (Done u m) e h = record { read = read-same e (h .read); moved = h .moved }
-ends-same s f before after least (Refused n q) e h = stopped-same e h
-
 pub value-same : {o o′ : Result (Tree value)} (s : List ℕ) (f : Frame) (before after : List ℕ) (g : Got) → o ≡ o′ → EndsValue o′ s f before after g → EndsValue o s f before after g
 value-same s f before after (Done u m) e h = record { ended = record { read = record { tree = h .ended .read .tree; is = e ∙ h .ended .read .is; left = h .ended .read .left; written = h .ended .read .written; sized = h .ended .read .sized }; moved = h .ended .moved }; wide = h .wide; last = h .last }
 value-same s f before after (Refused n q) e h = stopped-same e h
 
 -- ---- loops: the answer at the start, and the answer now
-pub record Line {k : Sort} (o o′ : Result (Tree k)) (s : List ℕ) (f : Frame) (before after : List ℕ) (at row : ℕ) : Type 0 where
-  pub going : Going o o′ (lexemesAt (f .base) s (f .at)) (lexemesAt (f .base) s at) before after (f .row) (f .parameter) (f .parent) row
-  pub moved : Moved (length s) (f .at) 0 (f .row) at row
-
 pub line-start : {k : Sort} (o : Result (Tree k)) (s : List ℕ) (f : Frame) (before : List ℕ) → f .at ≤ length s → Line o o s f before before (f .at) (f .row)
 line-start o s f before h = record {
   going = going-start o (lexemesAt (f .base) s (f .at)) before (f .row) (f .parameter) (f .parent);
   moved = record { far = omega arith; within = h; counted = omega arith };
 }
 
-module _ {k : Sort} {o o′ : Result (Tree k)} {s : List ℕ} {f : Frame} {before after : List ℕ} {at row : ℕ} (l : Line o o′ s f before after at row) where
+module _ {k k′ : Sort} {o : Result (Tree k)} {o′ : Result (Tree k′)} {s : List ℕ} {f : Frame} {before after : List ℕ} {at row : ℕ} (l : Line o o′ s f before after at row) where
   moved-on : {len least e m : ℕ} → Moved len at least row e m → Moved len (f .at) least (f .row) e m
   moved-on w = record { far = omega (arith, l .moved .far, w .far); within = w .within; counted = omega (arith, l .moved .counted, w .counted) }
 
-  pub line-on : {o″ : Result (Tree k)} {mid : List ℕ} {e m : ℕ} → Turned o′ o″ s (movedOf f at row) (f .parameter) after mid e m → Line o o″ s f before mid e m
+  pub line-on : {o″ : Result (Tree k′)} {mid : List ℕ} {e m : ℕ} → Turned o′ o″ s (movedOf f at row) after mid e m → Line o o″ s f before mid e m
   line-on t = record { going = going-on (l .going) (t .going); moved = record { far = omega (arith, l .moved .far, t .moved .far); within = t .moved .within; counted = omega (arith, l .moved .counted, t .moved .counted) } }
 
   pub line-out : (mid : List ℕ) (least : ℕ) (r : Got) → Ends o′ s (movedOf f at row) after mid least r → Ends o s f before mid least r
@@ -111,11 +95,6 @@ module _ {k : Sort} {o o′ : Result (Tree k)} {s : List ℕ} {f : Frame} {befor
   line-out mid least (Refused n q) w = going-stopped (l .going) w
 
 -- with fuel
-pub record Loop {k : Sort} (o : Result (Tree k)) (now : ℕ → Result (Tree k)) (s : List ℕ) (f : Frame) (before after : List ℕ) (at row : ℕ) : Type 0 where
-  pub fuel : ℕ
-  pub enough : length (tokensAt (f .base) s at) < fuel
-  pub line : Line o (now fuel) s f before after at row
-
 pub loop-start : {k : Sort} (now : ℕ → Result (Tree k)) (s : List ℕ) (f : Frame) (before : List ℕ) → f .at ≤ length s → Loop (now (suc (length (tokensAt (f .base) s (f .at))))) now s f before before (f .at) (f .row)
 loop-start now s f before h = record {
   fuel = suc (length (tokensAt (f .base) s (f .at)));
@@ -123,8 +102,8 @@ loop-start now s f before h = record {
   line = line-start (now (suc (length (tokensAt (f .base) s (f .at))))) s f before h;
 }
 
-module _ {k : Sort} {o : Result (Tree k)} {now : ℕ → Result (Tree k)} {s : List ℕ} {f : Frame} {before after : List ℕ} {at row : ℕ} (l : Loop o now s f before after at row) where
-  pub loop-on : {next : ℕ → Result (Tree k)} {mid : List ℕ} {e m : ℕ} → Fewer s (movedOf f at row) e → ((fuel : ℕ) → Turned (now (suc fuel)) (next fuel) s (movedOf f at row) (f .parameter) after mid e m) → Loop o next s f before mid e m
+module _ {k k′ : Sort} {o : Result (Tree k)} {now : ℕ → Result (Tree k′)} {s : List ℕ} {f : Frame} {before after : List ℕ} {at row : ℕ} (l : Loop o now s f before after at row) where
+  pub loop-on : {next : ℕ → Result (Tree k′)} {mid : List ℕ} {e m : ℕ} → Fewer s (movedOf f at row) e → ((fuel : ℕ) → Turned (now (suc fuel)) (next fuel) s (movedOf f at row) after mid e m) → Loop o next s f before mid e m
   loop-on {next} {mid} {e} {m} w t = go (l .fuel) (l .enough) (l .line)
     where
       go : (fuel : ℕ) → length (tokensAt (f .base) s at) < fuel → Line o (now fuel) s f before after at row → Loop o next s f before mid e m
@@ -153,7 +132,7 @@ module _ (S : Schema) (Vs : Values) (q c : ℕ) (x : List Lex) where
   grows-is fuel v z e = rw e refl
 
 module _ (S : Schema) (s : List ℕ) (f : Frame) (c : ℕ) (before after : List ℕ) (v : Cursor) (m : ℕ) (h : EndedValue (valuesOf S (f .depth) (f .parameter) (here s f)) s f before after (v .at) m) where
-  pub element-more : (w : ℕ) → Grows S s (f .base) (f .parameter) (v .at) (c + 1) w → (fuel : ℕ) → Fewer s f w × Turned (listAt S (valuesOf S (f .depth)) (suc fuel) (f .parameter) c (here s f)) (listAt S (valuesOf S (f .depth)) fuel (f .parameter) (suc c) (tokensAt (f .base) s w)) s f (f .parameter) before after w m
+  pub element-more : (w : ℕ) → Grows S s (f .base) (f .parameter) (v .at) (c + 1) w → (fuel : ℕ) → Fewer s f w × Turned (listAt S (valuesOf S (f .depth)) (suc fuel) (f .parameter) c (here s f)) (listAt S (valuesOf S (f .depth)) fuel (f .parameter) (suc c) (tokensAt (f .base) s w)) s f before after w m
   unfolding width rowsOf
   element-more w g fuel =
       let r = h .ended .read in
@@ -213,55 +192,34 @@ module _ (S : Schema) (s : List ℕ) (f : Frame) (inside : Bool) (before : List 
         moved = record { far = omega arith; within = l; counted = omega arith };
       }
 
-  pub field-none : (p : ℕ) (qs : List ℕ) → listsAt S (valuesOf S (f .depth)) inside p (f .parameter ∷ qs) (here s f) ≡ got stopped (here s f) → f .at ≤ length s → Ended (listsAt S (valuesOf S (f .depth)) inside p (f .parameter ∷ qs) (here s f)) s f before before 0 (f .at) (f .row)
+  pub field-none : (q : ℕ) (qs : List ℕ) → listsAt S (valuesOf S (f .depth)) inside (f .parameter) (q ∷ qs) (here s f) ≡ got stopped (here s f) → f .at ≤ length s → Ended (listsAt S (valuesOf S (f .depth)) inside (f .parameter) (q ∷ qs) (here s f)) s f before before 0 (f .at) (f .row)
   unfolding width rowsOf
-  field-none p qs e l = read-none (listsAt S (valuesOf S (f .depth)) inside p (f .parameter ∷ qs) (here s f)) stopped e refl refl l
+  field-none q qs e l = read-none (listsAt S (valuesOf S (f .depth)) inside (f .parameter) (q ∷ qs) (here s f)) stopped e refl refl l
 
   pub items-none : (fuel : ℕ) (ks : List ℕ) → itemsAt S (valuesOf S (f .depth)) inside (f .parameter) (suc fuel) ks (here s f) ≡ got noItem (here s f) → f .at ≤ length s → Ended (itemsAt S (valuesOf S (f .depth)) inside (f .parameter) (suc fuel) ks (here s f)) s f before before 0 (f .at) (f .row)
   unfolding width rowsOf
   items-none fuel ks e l = read-none (itemsAt S (valuesOf S (f .depth)) inside (f .parameter) (suc fuel) ks (here s f)) noItem e refl refl l
 
--- the list of an untagged field
-module _ (S : Schema) (s : List ℕ) (f : Frame) (inside : Bool) (before after : List ℕ) (p : ℕ) (qs : List ℕ) (e : listsAt S (valuesOf S (f .depth)) inside p (f .parameter ∷ qs) (here s f) ≡ listThen S (valuesOf S (f .depth)) (listsAt S (valuesOf S (f .depth)) inside p qs) (f .parameter) (here s f)) where
-  pub field-on : (at m : ℕ) → Ended (wholeList S (valuesOf S (f .depth)) (f .parameter) (here s f)) s f before after 1 at m → Turned (listsAt S (valuesOf S (f .depth)) inside p (f .parameter ∷ qs) (here s f)) (listsAt S (valuesOf S (f .depth)) inside p qs (tokensAt (f .base) s at)) s f p before after at m
+-- the list of the untagged field q
+module _ (S : Schema) (s : List ℕ) (f : Frame) (inside : Bool) (before : List ℕ) (q : ℕ) (qs : List ℕ) (e : listsAt S (valuesOf S (f .depth)) inside (f .parameter) (q ∷ qs) (here s f) ≡ listThen S (valuesOf S (f .depth)) (listsAt S (valuesOf S (f .depth)) inside (f .parameter) qs) q (here s f)) where
+  pub field-on : (after : List ℕ) (at m : ℕ) → Ended (wholeList S (valuesOf S (f .depth)) q (here s f)) s (fieldOf f (f .at) q) before after 1 at m → Turned (listsAt S (valuesOf S (f .depth)) inside (f .parameter) (q ∷ qs) (here s f)) (listsAt S (valuesOf S (f .depth)) inside (f .parameter) qs (tokensAt (f .base) s at)) s f before after at m
   unfolding listThen width rowsOf
-  field-on at m h =
+  field-on after at m h =
       let r = h .read in
       record {
         going = going-step
-            (listsAt S (valuesOf S (f .depth)) inside p (f .parameter ∷ qs) (here s f)) (listsAt S (valuesOf S (f .depth)) inside p qs (tokensAt (f .base) s at))
-            (lexemesAt (f .base) s (f .at)) (lexemesAt (f .base) s at) before after (f .row) p (f .parent) m (listed (f .parameter) (r .tree)) (width (r .tree)) (rowsOf (lexemesAt (f .base) s (f .at)) (r .tree) 0 (f .row) (f .parameter) (f .parent))
-            (e ∙ then-got (wholeList S (valuesOf S (f .depth)) (f .parameter) (here s f)) _ (r .tree) (tokensAt (f .base) s at) (r .is))
+            (listsAt S (valuesOf S (f .depth)) inside (f .parameter) (q ∷ qs) (here s f)) (listsAt S (valuesOf S (f .depth)) inside (f .parameter) qs (tokensAt (f .base) s at))
+            (lexemesAt (f .base) s (f .at)) (lexemesAt (f .base) s at) before after (f .row) (f .parameter) (f .parent) m (listed q (r .tree)) (width (r .tree)) (rowsOf (lexemesAt (f .base) s (f .at)) (r .tree) 0 (f .row) q (f .parent))
+            (e ∙ then-got (wholeList S (valuesOf S (f .depth)) q (here s f)) _ (r .tree) (tokensAt (f .base) s at) (r .is))
             (r .left) (λ t. refl)
             (λ t. rw (zero-add (width (r .tree)), ← r .sized) refl)
-            (r .written) (r .sized ∙ ap (λ j. f .row + j) (sym (rows-counted (lexemesAt (f .base) s (f .at)) (r .tree) 0 (f .row) (f .parameter) (f .parent))));
+            (r .written) (r .sized ∙ ap (λ j. f .row + j) (sym (rows-counted (lexemesAt (f .base) s (f .at)) (r .tree) 0 (f .row) q (f .parent))));
         moved = h .moved;
       }
 
-  pub field-refused : (n q : ℕ) → Stopped (wholeList S (valuesOf S (f .depth)) (f .parameter) (here s f)) (lexemesAt (f .base) s (f .at)) (f .base + length s) n q → Stopped (listsAt S (valuesOf S (f .depth)) inside p (f .parameter ∷ qs) (here s f)) (lexemesAt (f .base) s (f .at)) (f .base + length s) n q
+  pub field-refused : (k p : ℕ) → Stopped (wholeList S (valuesOf S (f .depth)) q (here s f)) (lexemesAt (f .base) s (f .at)) (f .base + length s) k p → Stopped (listsAt S (valuesOf S (f .depth)) inside (f .parameter) (q ∷ qs) (here s f)) (lexemesAt (f .base) s (f .at)) (f .base + length s) k p
   unfolding listThen
-  field-refused n q h = stopped-same e (stopped-then _ h)
-
--- the items after the untagged fields
-pub items-ends : (S : Schema) (s : List ℕ) (f : Frame) (inside : Bool) (before after : List ℕ) (g : Got) → Ends (itemsAt S (valuesOf S (f .depth)) inside (f .parameter) (suc (length (here s f))) [] (here s f)) s f before after 0 g → Ends (listsAt S (valuesOf S (f .depth)) inside (f .parameter) [] (here s f)) s f before after 0 g
-unfolding listsAt width rowsOf rowCount
-items-ends S s f inside before after (Done u m) h =
-    let r = h .read in
-    record {
-      read = record { tree = itemized (r .tree); is = then-got (itemsAt S (valuesOf S (f .depth)) inside (f .parameter) (suc (length (here s f))) [] (here s f)) _ (r .tree) (tokensAt (f .base) s (u .at)) (r .is); left = r .left; written = r .written; sized = r .sized };
-      moved = h .moved;
-    }
-items-ends S s f inside before after (Refused n q) h = stopped-then _ h
-
--- a body's answer has the same rows for every parameter
-pub field-any : (o : Result (Tree body)) (s : List ℕ) (f : Frame) (at q : ℕ) (before after : List ℕ) (g : Got) → Ends o s (fieldOf f at q) before after 0 g → Ends o s (movedOf f at (f .row)) before after 0 g
-field-any o s f at q before after (Done u m) h =
-    let r = h .read in
-    record {
-      read = record { tree = r .tree; is = r .is; left = r .left; written = r .written ∙ ap (λ c. sets before (rowWidth * f .row) (cells c)) (body-any (lexemesAt (f .base) s at) (r .tree) 0 (f .row) q (f .parameter) (f .parent)); sized = r .sized };
-      moved = h .moved;
-    }
-field-any o s f at q before after (Refused n p) h = h
+  field-refused k p h = stopped-same e (stopped-then _ h)
 
 -- items
 module _ (S : Schema) (n : ℕ) (s : List ℕ) (f : Frame) (inside : Bool) (ks : List ℕ) (marks : List Bool) (before after : List ℕ) where
@@ -622,11 +580,11 @@ module _ {S : Schema} {s : List ℕ} {f g : Frame} {before after : List ℕ} {c 
   listing-ints e h = subst (λ q. IntsOf S q e) (sym listing-named) h
 
   pub listing-turn : (mid : List ℕ) (t : Taken) (u : Cursor) (m : ℕ) → ElementAt S s g c after mid t → t ≡ taken.On u m → (g .at < u .at) × (u .at ≤ length s)
-  listing-turn mid t u m h e = let w : (fuel : ℕ) → Fewer s g (u .at) × Turned (listAt S (valuesOf S (g .depth)) (suc fuel) (g .parameter) c (here s g)) (listAt S (valuesOf S (g .depth)) fuel (g .parameter) (suc c) (tokensAt (g .base) s (u .at))) s g (g .parameter) after mid (u .at) m = subst (ElementAt S s g c after mid) e h in (omega (arith, w 0 .1 .moved .far), w 0 .1 .moved .within)
+  listing-turn mid t u m h e = let w : (fuel : ℕ) → Fewer s g (u .at) × Turned (listAt S (valuesOf S (g .depth)) (suc fuel) (g .parameter) c (here s g)) (listAt S (valuesOf S (g .depth)) fuel (g .parameter) (suc c) (tokensAt (g .base) s (u .at))) s g after mid (u .at) m = subst (ElementAt S s g c after mid) e h in (omega (arith, w 0 .1 .moved .far), w 0 .1 .moved .within)
 
   pub listing-on : (mid : List ℕ) (t : Taken) (u : Cursor) (m : ℕ) (g′ : Frame) → ElementAt S s g c after mid t → t ≡ taken.On u m → g′ ≡ movedOf g (u .at) m → Listing S s f g′ before mid (c + 1)
   listing-on mid t u m g′ h e q =
-      let w : (fuel : ℕ) → Fewer s (movedOf f (g .at) (g .row)) (u .at) × Turned (listAt S (valuesOf S (f .depth)) (suc fuel) (f .parameter) c (tokensAt (f .base) s (g .at))) (listAt S (valuesOf S (f .depth)) fuel (f .parameter) (suc c) (tokensAt (f .base) s (u .at))) s (movedOf f (g .at) (g .row)) (f .parameter) after mid (u .at) m
+      let w : (fuel : ℕ) → Fewer s (movedOf f (g .at) (g .row)) (u .at) × Turned (listAt S (valuesOf S (f .depth)) (suc fuel) (f .parameter) c (tokensAt (f .base) s (g .at))) (listAt S (valuesOf S (f .depth)) fuel (f .parameter) (suc c) (tokensAt (f .base) s (u .at))) s (movedOf f (g .at) (g .row)) after mid (u .at) m
       = subst (λ z. ElementAt S s z c after mid (taken.On u m)) (i .same) (subst (ElementAt S s g c after mid) e h) in
       let b = listing-turn mid t u m h e in
       let k : g′ ≡ movedOf f (u .at) m = q ∙ ap (λ z. movedOf z (u .at) m) (i .same) in
@@ -643,95 +601,100 @@ module _ {S : Schema} {s : List ℕ} {f g : Frame} {before after : List ℕ} {c 
   pub listing-refused : (mid : List ℕ) (t : Taken) (n q : ℕ) → ElementAt S s g c after mid t → t ≡ taken.Refused n q → Ends (wholeList S (valuesOf S (f .depth)) (f .parameter) (here s f)) s f before mid 1 (Refused n q)
   listing-refused mid t n q h e = loop-out (i .loop) mid 1 (Refused n q) (subst (λ z. ElementAt S s z c after mid (taken.Refused n q)) (i .same) (subst (ElementAt S s g c after mid) e h))
 
--- the items of a body
-pub record Iteming (S : Schema) (s : List ℕ) (f g : Frame) (inside : Bool) (before after : List ℕ) (marks : List Bool) : Type 0 where
-  pub same : g ≡ movedOf f (g .at) (g .row)
-  pub seen : List ℕ
-  pub marked : Marks marks seen
-  pub loop : Loop (itemsAt S (valuesOf S (f .depth)) inside (f .parameter) (suc (length (here s f))) [] (here s f)) (λ fuel. itemsAt S (valuesOf S (f .depth)) inside (f .parameter) fuel seen (tokensAt (f .base) s (g .at))) s f before after (g .at) (g .row)
-  pub size : length after ≡ length before
+-- a body: lists of untagged fields, then items
+left-start : (S : Schema) (Vs : Values) (inside : Bool) (p : ℕ) (qs : List ℕ) (x : List Lex) (rows : List ℕ) (row up : ℕ) → Going (listsAt S Vs inside p qs (tokensOf x)) (leftAt S Vs inside p qs [] (suc (length (tokensOf x))) (tokensOf x)) x x rows rows row p up row
+unfolding listsAt width rowsOf cells
+left-start S Vs inside p [] x rows row up = going-step (listsAt S Vs inside p [] (tokensOf x)) (itemsAt S Vs inside p (suc (length (tokensOf x))) [] (tokensOf x)) x x rows rows row p up row itemized 0 [] refl refl (λ t. omega arith) (λ t. refl) refl (omega arith)
+left-start S Vs inside p (q ∷ qs) x rows row up = going-start (listsAt S Vs inside p (q ∷ qs) (tokensOf x)) x rows row p up
 
-pub iteming-start : (S : Schema) (s : List ℕ) (f : Frame) (inside : Bool) (before : List ℕ) (marks : List Bool) → marks ≡ noMarks → f .at ≤ length s → Iteming S s f f inside before before marks
-iteming-start S s f inside before marks m h = record { same = refl; seen = []; marked = rw m marks-none; loop = loop-start (λ fuel. itemsAt S (valuesOf S (f .depth)) inside (f .parameter) fuel [] (here s f)) s f before h; size = refl }
-
-module _ {S : Schema} {s : List ℕ} {f g : Frame} {inside : Bool} {before after : List ℕ} {marks : List Bool} (i : Iteming S s f g inside before after marks) where
-  pub iteming-room : (n : ℕ) → Room f (length s) n → Room g (length s) n
-  iteming-room n r = rw (i .same) (room-moved f (length s) n 0 (g .at) (g .row) r (i .loop .line .moved))
-
-  pub iteming-depth : g .depth ≡ f .depth
-  iteming-depth = ap (λ (z : Frame). z .depth) (i .same)
-
-  module _ (mid : List ℕ) (new : List Bool) (t : Turn) (h : (ks : List ℕ) → Marks marks ks → ItemTurn S s g inside ks new after mid t) where
-    pub iteming-turn : (u : Cursor) (m : ℕ) → t ≡ On u m → (g .at < u .at) × (u .at ≤ length s)
-    iteming-turn u m e = let w : Itemed S s g inside (i .seen) new after mid (u .at) m = subst (ItemTurn S s g inside (i .seen) new after mid) e (h (i .seen) (i .marked)) in (omega (arith, w .turned 0 .moved .far), w .turned 0 .moved .within)
-
-    pub iteming-on : (u : Cursor) (m : ℕ) (g′ : Frame) → t ≡ On u m → g′ ≡ movedOf g (u .at) m → Iteming S s f g′ inside before mid new
-    iteming-on u m g′ e q =
-        let w : Itemed S s (movedOf f (g .at) (g .row)) inside (i .seen) new after mid (u .at) m = subst (λ z. ItemTurn S s z inside (i .seen) new after mid (On u m)) (i .same) (subst (ItemTurn S s g inside (i .seen) new after mid) e (h (i .seen) (i .marked))) in
-        let k : g′ ≡ movedOf f (u .at) m = q ∙ ap (λ z. movedOf z (u .at) m) (i .same) in
-        rw k record {
-          same = refl;
-          seen = w .seen;
-          marked = w .marked;
-          loop = loop-on (i .loop) (w .fewer) (w .turned);
-          size = sets-length after mid (rowWidth * g .row) (cells (w .turned 0 .going .acc)) (w .turned 0 .going .written) ∙ i .size;
-        }
-
-    pub iteming-out : (r : Got) → t ≡ Out r → Ends (itemsAt S (valuesOf S (f .depth)) inside (f .parameter) (suc (length (here s f))) [] (here s f)) s f before mid 0 r
-    iteming-out r e = loop-out (i .loop) mid 0 r (subst (λ z. ItemTurn S s z inside (i .seen) new after mid (Out r)) (i .same) (subst (ItemTurn S s g inside (i .seen) new after mid) e (h (i .seen) (i .marked))))
-
--- the untagged fields of a body, from the j-th record on
-pub record Fielding (t o : List ℕ) (n : ℕ) (s : List ℕ) (f g : Frame) (inside : Bool) (before after : List ℕ) (j : ℕ) : Type 0 where
-  pub same : g ≡ movedOf f (g .at) (g .row)
-  pub line : Line (listsAt (schemaAt t o n) (valuesOf (schemaAt t o n) (f .depth)) inside (f .parameter) (schemaAt t o n .untagged (f .parameter)) (here s f)) (listsAt (schemaAt t o n) (valuesOf (schemaAt t o n) (f .depth)) inside (f .parameter) (untaggedFrom t o n (f .parameter) j) (tokensAt (f .base) s (g .at))) s f before after (g .at) (g .row)
-  pub size : length after ≡ length before
-
-pub fielding-start : (t o : List ℕ) (n : ℕ) (s : List ℕ) (f : Frame) (inside : Bool) (before : List ℕ) → f .at ≤ length s → Fielding t o n s f f inside before before 0
-fielding-start t o n s f inside before h = record {
+pub bodying-start : (t o : List ℕ) (n : ℕ) (s : List ℕ) (f : Frame) (inside : Bool) (before : List ℕ) (marks : List Bool) → marks ≡ noMarks → f .at ≤ length s → Bodying (schemaAt t o n) s f f inside before before marks (untaggedFrom t o n (f .parameter) 0)
+bodying-start t o n s f inside before marks m h = subst (Bodying (schemaAt t o n) s f f inside before before marks) (untagged-all t o n (f .parameter)) record {
   same = refl;
-  line = rw (untagged-all t o n (f .parameter)) (line-start (listsAt (schemaAt t o n) (valuesOf (schemaAt t o n) (f .depth)) inside (f .parameter) (untaggedFrom t o n (f .parameter) 0) (here s f)) s f before h);
+  seen = [];
+  marked = rw m marks-none;
+  fresh = λ q rest e. refl;
+  loop = record {
+    fuel = suc (length (here s f));
+    enough = omega arith;
+    line = record {
+      going = left-start (schemaAt t o n) (valuesOf (schemaAt t o n) (f .depth)) inside (f .parameter) (schemaAt t o n .untagged (f .parameter)) (lexemesAt (f .base) s (f .at)) before (f .row) (f .parent);
+      moved = record { far = omega arith; within = h; counted = omega arith };
+    };
+  };
   size = refl;
 }
 
-module _ {t o : List ℕ} {n : ℕ} {s : List ℕ} {f g : Frame} {inside : Bool} {before after : List ℕ} {j : ℕ} (i : Fielding t o n s f g inside before after j) where
-  pub fielding-room : Room f (length s) n → Room g (length s) n
-  fielding-room r = rw (i .same) (room-moved f (length s) n 0 (g .at) (g .row) r (i .line .moved))
+module _ {S : Schema} {s : List ℕ} {f g : Frame} {inside : Bool} {before after : List ℕ} {marks : List Bool} {qs : List ℕ} (i : Bodying S s f g inside before after marks qs) where
+  pub bodying-room : (n : ℕ) → Room f (length s) n → Room g (length s) n
+  bodying-room n r = rw (i .same) (room-moved f (length s) n 0 (g .at) (g .row) r (i .loop .line .moved))
 
-  pub fielding-depth : g .depth ≡ f .depth
-  fielding-depth = ap (λ (z : Frame). z .depth) (i .same)
+  pub bodying-depth : g .depth ≡ f .depth
+  bodying-depth = ap (λ (z : Frame). z .depth) (i .same)
 
-  -- no field is left: the items
-  pub fielding-items : (mid : List ℕ) (r : Got) → first (untaggedFrom t o n (g .parameter) j) ≡ nowhere → Ends (itemsAt (schemaAt t o n) (valuesOf (schemaAt t o n) (g .depth)) inside (g .parameter) (suc (length (here s g))) [] (here s g)) s g after mid 0 r → Ends (listsAt (schemaAt t o n) (valuesOf (schemaAt t o n) (f .depth)) inside (f .parameter) (schemaAt t o n .untagged (f .parameter)) (here s f)) s f before mid 0 r
-  fielding-items mid r e h =
-      let p : g .parameter ≡ f .parameter = ap (λ (z : Frame). z .parameter) (i .same) in
-      let k : untaggedFrom t o n (f .parameter) j ≡ [] = untagged-none t o n (f .parameter) j (rw p at e) in
-      line-out (i .line) mid 0 r (ends-same s (movedOf f (g .at) (g .row)) after mid 0 r (ap (λ qs. listsAt (schemaAt t o n) (valuesOf (schemaAt t o n) (f .depth)) inside (f .parameter) qs (tokensAt (f .base) s (g .at))) k)
-      (items-ends (schemaAt t o n) s (movedOf f (g .at) (g .row)) inside after mid r
-      (subst (λ z. Ends (itemsAt (schemaAt t o n) (valuesOf (schemaAt t o n) (z .depth)) inside (z .parameter) (suc (length (here s z))) [] (here s z)) s z after mid 0 r) (i .same) h)))
+  pub bodying-out : (mid : List ℕ) (r : Got) → ((fuel : ℕ) → Ends (leftAt S (valuesOf S (g .depth)) inside (g .parameter) qs (i .seen) (suc fuel) (here s g)) s g after mid 0 r) → Ends (bodyOf S s f inside) s f before mid 0 r
+  bodying-out mid r h = loop-out (i .loop) mid 0 r (subst (λ z. (fuel : ℕ) → Ends (leftAt S (valuesOf S (z .depth)) inside (z .parameter) qs (i .seen) (suc fuel) (here s z)) s z after mid 0 r) (i .same) h)
 
-  module _ (q : ℕ) (e : first (untaggedFrom t o n (g .parameter) j) ≡ found q) (mid : List ℕ) (r : Turn) (h : FieldAt (schemaAt t o n) s (fieldOf g (g .at) q) inside after mid r) where
-    more-fields : untaggedFrom t o n (f .parameter) j ≡ q ∷ untaggedFrom t o n (f .parameter) (q + 1)
-    more-fields = untagged-next t o n (f .parameter) j q (rw (ap (λ (z : Frame). z .parameter) (i .same)) at e)
+-- after the untagged fields
+module _ {S : Schema} {s : List ℕ} {f g : Frame} {inside : Bool} {before after : List ℕ} {marks : List Bool} (i : Bodying S s f g inside before after marks []) where
+  pub bodying-item : (mid : List ℕ) (new : List Bool) (at m : ℕ) → Itemed S s g inside (i .seen) new after mid at m → (g .at < at) × Bodying S s f (movedOf g at m) inside before mid new []
+  bodying-item mid new at m h =
+      let w : Itemed S s (movedOf f (g .at) (g .row)) inside (i .seen) new after mid at m = subst (λ z. Itemed S s z inside (i .seen) new after mid at m) (i .same) h in (
+        omega (arith, h .turned 0 .moved .far),
+        record {
+          same = ap (λ z. movedOf z at m) (i .same);
+          seen = w .seen;
+          marked = w .marked;
+          fresh = λ q rest e. let z : _≡_ {A = ℕ} 0 1 = cc in absurd (omega arith);
+          loop = loop-on (i .loop) (w .fewer) (w .turned);
+          size = sets-length after mid (rowWidth * g .row) (cells (w .turned 0 .going .acc)) (w .turned 0 .going .written) ∙ i .size;
+        },
+      )
 
-    field-of : FieldAt (schemaAt t o n) s (fieldOf f (g .at) q) inside after mid r → FieldAt (schemaAt t o n) s (fieldOf f (g .at) q) inside after mid r
-    field-of k = k
+  pub due-item : (n : ℕ) (new : List Bool) (q e : ℕ) (v : ListItem S n s g inside (i .seen) q e) → Marks new (q ∷ i .seen) → Due S n s f g inside before after new q e []
+  due-item n new q e v k =
+      let b = step-within (g .base) s (g .at) (word (v .text)) (v .start) (v .past) (v .first) in
+      let c = step-within (g .base) s (v .past) equals (v .place) e (v .second) in
+      record {
+        below = v .below;
+        far = omega (arith, b .0, c .0);
+        within = c .1;
+        read = λ mid at m h. bodying-item mid new at m (item-list S n s g inside (i .seen) new after mid q e v at m k h) .1;
+        refused = λ j p h. bodying-out i after (Refused j p) (item-refused S n s g inside (i .seen) new after after q e v j p h);
+      }
 
-    pub fielding-on : (u : Cursor) (m : ℕ) (g′ : Frame) → r ≡ On u m → g′ ≡ movedOf g (u .at) m → Fielding t o n s f g′ inside before mid (q + 1)
-    fielding-on u m g′ d k =
-        let z : FieldAt (schemaAt t o n) s (fieldOf (movedOf f (g .at) (g .row)) (g .at) q) inside after mid (On u m) = subst (λ y. FieldAt (schemaAt t o n) s (fieldOf y (g .at) q) inside after mid (On u m)) (i .same) (subst (FieldAt (schemaAt t o n) s (fieldOf g (g .at) q) inside after mid) d h) in
-        let w = z (f .parameter) (untaggedFrom t o n (f .parameter) (q + 1)) in
-        let y : g′ ≡ movedOf f (u .at) m = k ∙ ap (λ x. movedOf x (u .at) m) (i .same) in
-        rw y record {
-          same = refl;
-          line = line-on (i .line) (record { going = going-same (ap (λ qs. listsAt (schemaAt t o n) (valuesOf (schemaAt t o n) (f .depth)) inside (f .parameter) qs (tokensAt (f .base) s (g .at))) more-fields) (w .going); moved = w .moved });
-          size = sets-length after mid (rowWidth * g .row) (cells (w .going .acc)) (w .going .written) ∙ i .size;
-        }
+-- before the list of the untagged field q
+module _ {S : Schema} {s : List ℕ} {f g : Frame} {inside : Bool} {before after : List ℕ} {marks : List Bool} {q : ℕ} {qs : List ℕ} (i : Bodying S s f g inside before after marks (q ∷ qs)) where
+  bodying-field : (mid : List ℕ) (at m : ℕ) → Turned (listsAt S (valuesOf S (g .depth)) inside (g .parameter) (q ∷ qs) (here s g)) (listsAt S (valuesOf S (g .depth)) inside (g .parameter) qs (tokensAt (g .base) s at)) s g after mid at m → Bodying S s f (movedOf g at m) inside before mid marks qs
+  bodying-field mid at m h =
+      let w : Turned (listsAt S (valuesOf S (f .depth)) inside (f .parameter) (q ∷ qs) (tokensAt (f .base) s (g .at))) (listsAt S (valuesOf S (f .depth)) inside (f .parameter) qs (tokensAt (f .base) s at)) s (movedOf f (g .at) (g .row)) after mid at m
+      = subst (λ z. Turned (listsAt S (valuesOf S (z .depth)) inside (z .parameter) (q ∷ qs) (here s z)) (listsAt S (valuesOf S (z .depth)) inside (z .parameter) qs (tokensAt (z .base) s at)) s z after mid at m) (i .same) h in
+      let l = line-on (i .loop .line) w in
+      record {
+        same = ap (λ z. movedOf z at m) (i .same);
+        seen = [];
+        marked = subst (Marks marks) (i .fresh q qs refl) (i .marked);
+        fresh = λ p rest e. refl;
+        loop = record {
+          fuel = suc (length (tokensAt (f .base) s at));
+          enough = omega arith;
+          line = record { going = going-on (l .going) (left-start S (valuesOf S (f .depth)) inside (f .parameter) qs (lexemesAt (f .base) s at) mid m (f .parent)); moved = l .moved };
+        };
+        size = sets-length after mid (rowWidth * g .row) (cells (w .going .acc)) (w .going .written) ∙ i .size;
+      }
 
-    pub fielding-out : (x : Got) → r ≡ Out x → Ends (listsAt (schemaAt t o n) (valuesOf (schemaAt t o n) (f .depth)) inside (f .parameter) (schemaAt t o n .untagged (f .parameter)) (here s f)) s f before mid 0 x
-    fielding-out x d =
-        let z : FieldAt (schemaAt t o n) s (fieldOf (movedOf f (g .at) (g .row)) (g .at) q) inside after mid (Out x) = subst (λ y. FieldAt (schemaAt t o n) s (fieldOf y (g .at) q) inside after mid (Out x)) (i .same) (subst (FieldAt (schemaAt t o n) s (fieldOf g (g .at) q) inside after mid) d h) in
-        line-out (i .line) mid 0 x (ends-same s (movedOf f (g .at) (g .row)) after mid 0 x (ap (λ qs. listsAt (schemaAt t o n) (valuesOf (schemaAt t o n) (f .depth)) inside (f .parameter) qs (tokensAt (f .base) s (g .at))) more-fields)
-        (field-any (listsAt (schemaAt t o n) (valuesOf (schemaAt t o n) (f .depth)) inside (f .parameter) (q ∷ untaggedFrom t o n (f .parameter) (q + 1)) (tokensAt (f .base) s (g .at))) s (movedOf f (g .at) (g .row)) (g .at) q after mid x (z (f .parameter) (untaggedFrom t o n (f .parameter) (q + 1)))))
+  pub due-field : (n : ℕ) → q < n → listsAt S (valuesOf S (g .depth)) inside (g .parameter) (q ∷ qs) (here s g) ≡ listThen S (valuesOf S (g .depth)) (listsAt S (valuesOf S (g .depth)) inside (g .parameter) qs) q (here s g) → Due S n s f g inside before after marks q (g .at) qs
+  due-field n b e = record {
+    below = b;
+    far = omega arith;
+    within = i .loop .line .moved .within;
+    read = λ mid at m h. bodying-field mid at m (field-on S s g inside after q qs e mid at m h);
+    refused = λ k p h. bodying-out i after (Refused k p) (λ fuel. field-refused S s g inside after q qs e k p h);
+  }
+
+-- none is left from the last record on
+pub untagged-end : (t o : List ℕ) (n p : ℕ) → untaggedFrom t o n p n ≡ []
+unfolding numbersWhere
+untagged-end t o n p = ap (numbersWhere (isUntaggedOf p) n) (drop-of-length-le (recordsAt t o n) {i = n} (omega (arith, length-records t o n 0)))
 
 -- down a chain of choices
 pub record Choosing (S : Schema) (s : List ℕ) (f g : Frame) (n : ℕ) (before after : List ℕ) : Type 0 where
@@ -745,9 +708,6 @@ choosing-start S s f n before r q = record { same = refl; down = down-start S s 
 module _ {S : Schema} {s : List ℕ} {f g : Frame} {n : ℕ} {before after : List ℕ} (i : Choosing S s f g n before after) where
   pub choosing-room : Room g (length s) n
   choosing-room = rw (i .same) (i .down .room)
-
-  pub choosing-base : g .base ≡ f .base
-  choosing-base = ap (λ (z : Frame). z .base) (i .same)
 
   pub choosing-depth : g .depth ≡ f .depth
   choosing-depth = ap (λ (z : Frame). z .depth) (i .same)

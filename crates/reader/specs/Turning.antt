@@ -1,8 +1,8 @@
--- One turn of the loops over values, untagged fields and items.
+-- One turn of the loops over values, and over untagged fields and items.
 use mathlib.Core.Path.{_≡_}
 use mathlib.Core.Bool.{Bool, true, false}
 use mathlib.Core.List.{List, [], _∷_}
-use Prim.Native.Nat.{ℕ, suc, _+_, _-_, _*_, _<_}
+use Prim.Native.Nat.{ℕ, suc, _+_, _-_, _*_, _≤_, _<_}
 use lib.ListN.{length}
 use lib.Seq.{sets}
 use Rattle.numbers.specs.Limits.{rowWidth}
@@ -11,20 +11,21 @@ use Rattle.schema.specs.Token.{Token}
 use Rattle.schema.specs.Schema.{Schema}
 use Rattle.schema.specs.Schema as schema
 use Rattle.schema.specs.Reading.{Sort, value, list, body, items, Tree}
-use Rattle.schema.specs.Parse.{Result, valueAt, wholeValue, listAt, itemsAt, listsAt, bodyAt}
+use Rattle.schema.specs.Parse.{Result, valueAt, wholeValue, listAt, wholeList, itemsAt, listsAt, bodyAt}
 use Rattle.tokens.specs.Cursor.{lexemesAt}
 use Rattle.unknown.specs.Along.{tokensAt, Stopped}
 use Rattle.rows.specs.Filled.{withEnds}
+use Rattle.lookup.specs.Questions.{schemaAt, untaggedFrom}
 use Rattle.lookup.specs.Seen.{Marks}
 use Rattle.values.specs.declared.Frame.{Frame}
 use Rattle.values.specs.declared.Got.{Got}
 use Rattle.values.specs.declared.Got.the-variants.{Done, Refused}
-use Rattle.values.specs.Ends.{Moved, Ends, EndsValue}
+use Rattle.values.specs.Ends.{Moved, Ended, Ends, EndsValue}
 use Rattle.values.specs.Going.{Going}
 use Rattle.reader.specs.declared.Taken.{Taken}
 use Rattle.reader.specs.declared.Taken.the-variants as taken
-use Rattle.reader.specs.declared.Turn.{Turn}
-use Rattle.reader.specs.declared.Turn.the-variants.{On, Out}
+use Rattle.reader.specs.declared.Part.{Part}
+use Rattle.reader.specs.declared.Part.the-variants as part
 
 -- values, with bodies of the depth that is left
 abbrev pub valuesOf : Schema → ℕ → ℕ → List Token → Result (Tree value)
@@ -39,13 +40,24 @@ abbrev pub Fewer : List ℕ → Frame → ℕ → Type 0
 Fewer s f at = length (tokensAt (f .base) s at) < length (tokensAt (f .base) s (f .at))
 
 -- one turn: the answer o is o′ from at on, with what was read in front
-pub record Turned {k : Sort} (o o′ : Result (Tree k)) (s : List ℕ) (f : Frame) (p : ℕ) (before after : List ℕ) (at next : ℕ) : Type 0 where
-  pub going : Going o o′ (lexemesAt (f .base) s (f .at)) (lexemesAt (f .base) s at) before after (f .row) p (f .parent) next
+pub record Turned {k : Sort} (o o′ : Result (Tree k)) (s : List ℕ) (f : Frame) (before after : List ℕ) (at next : ℕ) : Type 0 where
+  pub going : Going o o′ (lexemesAt (f .base) s (f .at)) (lexemesAt (f .base) s at) before after (f .row) (f .parameter) (f .parent) next
   pub moved : Moved (length s) (f .at) 1 (f .row) at next
+
+-- loops: the answer at the start, and the answer now
+pub record Line {k k′ : Sort} (o : Result (Tree k)) (o′ : Result (Tree k′)) (s : List ℕ) (f : Frame) (before after : List ℕ) (at row : ℕ) : Type 0 where
+  pub going : Going o o′ (lexemesAt (f .base) s (f .at)) (lexemesAt (f .base) s at) before after (f .row) (f .parameter) (f .parent) row
+  pub moved : Moved (length s) (f .at) 0 (f .row) at row
+
+-- with fuel
+pub record Loop {k k′ : Sort} (o : Result (Tree k)) (now : ℕ → Result (Tree k′)) (s : List ℕ) (f : Frame) (before after : List ℕ) (at row : ℕ) : Type 0 where
+  pub fuel : ℕ
+  pub enough : length (tokensAt (f .base) s at) < fuel
+  pub line : Line o (now fuel) s f before after at row
 
 -- the c-th value of a list
 abbrev pub ElementAt : Schema → List ℕ → Frame → ℕ → List ℕ → List ℕ → Taken → Type 0
-ElementAt S s f c before after (taken.On u next) = (fuel : ℕ) → Fewer s f (u .at) × Turned (listAt S (valuesOf S (f .depth)) (suc fuel) (f .parameter) c (here s f)) (listAt S (valuesOf S (f .depth)) fuel (f .parameter) (suc c) (tokensAt (f .base) s (u .at))) s f (f .parameter) before after (u .at) next
+ElementAt S s f c before after (taken.On u next) = (fuel : ℕ) → Fewer s f (u .at) × Turned (listAt S (valuesOf S (f .depth)) (suc fuel) (f .parameter) c (here s f)) (listAt S (valuesOf S (f .depth)) fuel (f .parameter) (suc c) (tokensAt (f .base) s (u .at))) s f before after (u .at) next
 ElementAt S s f c before after (taken.Done u next) = (fuel : ℕ) → Ends (listAt S (valuesOf S (f .depth)) (suc fuel) (f .parameter) c (here s f)) s f before after 1 (Done u next)
 ElementAt S s f c before after (taken.Refused n q) = (fuel : ℕ) → Ends (listAt S (valuesOf S (f .depth)) (suc fuel) (f .parameter) c (here s f)) s f before after 1 (Refused n q)
 
@@ -55,21 +67,12 @@ TakenAt S s f c before after (taken.On u next) = ElementAt S s f c before after 
 TakenAt S s f c before after (taken.Done u next) = EndsValue (valuesOf S (f .depth) (f .parameter) (here s f)) s f before after (Done u next)
 TakenAt S s f c before after (taken.Refused n q) = EndsValue (valuesOf S (f .depth) (f .parameter) (here s f)) s f before after (Refused n q)
 
--- the list of the untagged field f .parameter in the body of p
-abbrev pub FieldAt : Schema → List ℕ → Frame → Bool → List ℕ → List ℕ → Turn → Type 0
-FieldAt S s f inside before after (On u next) = (p : ℕ) (qs : List ℕ) → Turned (listsAt S (valuesOf S (f .depth)) inside p (f .parameter ∷ qs) (here s f)) (listsAt S (valuesOf S (f .depth)) inside p qs (tokensAt (f .base) s (u .at))) s f p before after (u .at) next
-FieldAt S s f inside before after (Out g) = (p : ℕ) (qs : List ℕ) → Ends (listsAt S (valuesOf S (f .depth)) inside p (f .parameter ∷ qs) (here s f)) s f before after 0 g
-
 -- one item, with the marks of the fields seen
 pub record Itemed (S : Schema) (s : List ℕ) (f : Frame) (inside : Bool) (ks : List ℕ) (marks : List Bool) (before after : List ℕ) (at next : ℕ) : Type 0 where
   pub seen : List ℕ
   pub marked : Marks marks seen
   pub fewer : Fewer s f at
-  pub turned : (fuel : ℕ) → Turned (itemsAt S (valuesOf S (f .depth)) inside (f .parameter) (suc fuel) ks (here s f)) (itemsAt S (valuesOf S (f .depth)) inside (f .parameter) fuel seen (tokensAt (f .base) s at)) s f (f .parameter) before after at next
-
-abbrev pub ItemTurn : Schema → List ℕ → Frame → Bool → List ℕ → List Bool → List ℕ → List ℕ → Turn → Type 0
-ItemTurn S s f inside ks marks before after (On u next) = Itemed S s f inside ks marks before after (u .at) next
-ItemTurn S s f inside ks marks before after (Out g) = (fuel : ℕ) → Ends (itemsAt S (valuesOf S (f .depth)) inside (f .parameter) (suc fuel) ks (here s f)) s f before after 0 g
+  pub turned : (fuel : ℕ) → Turned (itemsAt S (valuesOf S (f .depth)) inside (f .parameter) (suc fuel) ks (here s f)) (itemsAt S (valuesOf S (f .depth)) inside (f .parameter) fuel seen (tokensAt (f .base) s at)) s f before after at next
 
 -- a value of what is no union
 abbrev pub PlainAt : Schema → List ℕ → Frame → List ℕ → List ℕ → Got → Type 0
@@ -127,3 +130,40 @@ WholeAt f q a e before after (Refused n p) = ⊥
 pub record Marked (seen : List Bool) : Type 0 where
   pub ks : List ℕ
   pub marks : Marks seen ks
+
+-- what is left of a body: lists of the untagged fields qs and then items, or items of which the fields ks were seen
+abbrev pub leftSort : List ℕ → Sort
+leftSort [] = items
+leftSort (q ∷ qs) = body
+
+abbrev pub leftAt : Schema → (ℕ → List Token → Result (Tree value)) → Bool → ℕ → (qs : List ℕ) → List ℕ → ℕ → List Token → Result (Tree (leftSort qs))
+leftAt S Vs inside p [] ks fuel x = itemsAt S Vs inside p fuel ks x
+leftAt S Vs inside p (q ∷ qs) ks fuel x = listsAt S Vs inside p (q ∷ qs) x
+
+-- the whole body of f
+abbrev pub bodyOf : Schema → List ℕ → Frame → Bool → Result (Tree body)
+bodyOf S s f inside = listsAt S (valuesOf S (f .depth)) inside (f .parameter) (S .untagged (f .parameter)) (here s f)
+
+-- the body of f is read up to g, where the untagged fields qs are left; the marks are those of the fields seen
+pub record Bodying (S : Schema) (s : List ℕ) (f g : Frame) (inside : Bool) (before after : List ℕ) (marks : List Bool) (qs : List ℕ) : Type 0 where
+  pub same : g ≡ movedOf f (g .at) (g .row)
+  pub seen : List ℕ
+  pub marked : Marks marks seen
+  pub fresh : (q : ℕ) (rest : List ℕ) → qs ≡ q ∷ rest → seen ≡ []
+  pub loop : Loop (bodyOf S s f inside) (λ fuel. leftAt S (valuesOf S (f .depth)) inside (f .parameter) qs seen fuel (tokensAt (f .base) s (g .at))) s f before after (g .at) (g .row)
+  pub size : length after ≡ length before
+
+-- the list of the field q is due from at on: what holds once it is read, and where it is refused
+pub record Due (S : Schema) (n : ℕ) (s : List ℕ) (f g : Frame) (inside : Bool) (before after : List ℕ) (marks : List Bool) (q at : ℕ) (qs : List ℕ) : Type 0 where
+  pub below : q < n
+  pub far : g .at ≤ at
+  pub within : at ≤ length s
+  pub read : (mid : List ℕ) (e m : ℕ) → Ended (wholeList S (valuesOf S (g .depth)) q (tokensAt (g .base) s at)) s (fieldOf g at q) after mid 1 e m → Bodying S s f (movedOf g e m) inside before mid marks qs
+  pub refused : (k p : ℕ) → Stopped (wholeList S (valuesOf S (g .depth)) q (tokensAt (g .base) s at)) (lexemesAt (g .base) s at) (g .base + length s) k p → Stopped (bodyOf S s f inside) (lexemesAt (f .base) s (f .at)) (f .base + length s) k p
+
+-- what stands next in the body of f, which is read up to g
+abbrev pub PartAt : List ℕ → List ℕ → ℕ → List ℕ → Frame → Frame → Bool → List ℕ → List ℕ → List Bool → Part → Type 0
+PartAt t o n s f g inside before after marks (part.List q u next) = Due (schemaAt t o n) n s f g inside before after marks q (u .at) (untaggedFrom t o n (g .parameter) next)
+PartAt t o n s f g inside before after marks (part.On u next) = (g .at < u .at) × Bodying (schemaAt t o n) s f (movedOf g (u .at) next) inside before after marks []
+PartAt t o n s f g inside before after marks (part.Done u next) = Ends (bodyOf (schemaAt t o n) s f inside) s f before after 0 (Done u next)
+PartAt t o n s f g inside before after marks (part.Refused k q) = Ends (bodyOf (schemaAt t o n) s f inside) s f before after 0 (Refused k q)

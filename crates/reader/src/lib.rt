@@ -4,15 +4,14 @@
 ghost use mathlib.Core.Path.{_≡_};
 ghost use mathlib.Core.Bool.{true, false};
 ghost use mathlib.Core.List.{List, []};
-ghost use Prim.Native.Nat.{ℕ, suc, _+_, _≤_, _<_};
+ghost use Prim.Native.Nat.{ℕ, _+_, _≤_, _<_};
 ghost use lib.ListN.{length};
 ghost use Rattle.numbers.specs.Limits.{messageLimit};
-ghost use Rattle.schema.specs.Parse.{structAt, wholeValue, wholeList, itemsAt, listsAt, bodyAt};
-ghost use Rattle.lookup.specs.Questions.{schemaAt};
+ghost use Rattle.schema.specs.Parse.{structAt, wholeList, listsAt, bodyAt};
+ghost use Rattle.lookup.specs.Questions.{schemaAt, untaggedFrom};
 ghost use Rattle.lookup.specs.IntList.{IntsOf};
-ghost use Rattle.lookup.specs.Seen.{Marks};
 ghost use Rattle.values.specs.Ends.{Room, Ends, EndsValue};
-ghost use Rattle.reader.specs.Turning.{valuesOf, here, TakenAt, ElementAt, FieldAt, ItemTurn, Marked, PlainAt, closedRows, endPlace, WholeAt, isUnion, movedOf, nextOf, fieldOf, underOf, innerOf, deeperOf, openRow};
+ghost use Rattle.reader.specs.Turning.{valuesOf, here, TakenAt, ElementAt, Bodying, PartAt, Marked, PlainAt, closedRows, endPlace, WholeAt, isUnion, movedOf, nextOf, fieldOf, underOf, innerOf, deeperOf, openRow};
 use bodies::Item;
 use bodies::Start;
 use choices::Choice;
@@ -26,12 +25,6 @@ use tokens::Cursor;
 use values::Frame;
 use values::Got;
 use values::Opened;
-
-// One turn of a loop: on from a cursor with the next row, or out.
-pub enum Turn {
-    On(Cursor, usize),
-    Out(Got),
-}
 
 // ---- frames
 
@@ -276,7 +269,7 @@ fn value(table: &[u8], unpacked: &[u32], n: usize, s: &[u8], rows: &mut [u32], f
 // ---- lists
 
 // A value of a list: On, with the comma behind it and another to come; Done, up to the cursor, and the next row; or refused.
-// Not a `Turn`: a cursor that shares its place with no tag stays in one register.
+// A cursor that shares its place with no tag stays in one register, so no `Got` stands in it.
 enum Taken {
     On(Cursor, usize),
     Done(Cursor, usize),
@@ -371,7 +364,16 @@ fn list(table: &[u8], unpacked: &[u32], n: usize, s: &[u8], rows: &mut [u32], f:
 
 // ---- bodies
 
-// One item, whose field is marked.
+// What stands next in a body: the list of the field q, due at the cursor, after which the untagged fields from record i on
+// are left; an item that is read, up to the cursor, and the next row; the body's end; or refused.
+enum Part {
+    List(usize, Cursor, usize),
+    On(Cursor, usize),
+    Done(Cursor, usize),
+    Refused(u32, usize),
+}
+
+// One item after the untagged fields. Its field is marked.
 fn item(
     table: &[u8],
     unpacked: &[u32],
@@ -381,13 +383,13 @@ fn item(
     f: Frame,
     inside: bool,
     seen: &mut [bool; 256],
-) -> Turn
+) -> Part
     requires { ⌜ Room f (length (now s)) n ⌝ }
     requires { ⌜ Marked (now seen) ⌝ }
-    ensures { λ r. ⌜ ((ks : List ℕ) → Marks (now (seen .entry)) ks → ItemTurn (schemaAt (now (table .entry)) (now (unpacked .entry)) n) (now (s .entry)) f inside ks (now (seen .exit)) (now (rows .entry)) (now (rows .exit)) r) ⌝ }
+    ensures { λ r. ⌜ ((e : Frame) (before : List ℕ) → Bodying (schemaAt (now (table .entry)) (now (unpacked .entry)) n) (now (s .entry)) e f inside before (now (rows .entry)) (now (seen .entry)) [] → PartAt (now (table .entry)) (now (unpacked .entry)) n (now (s .entry)) e f inside before (now (rows .exit)) (now (seen .exit)) r) ⌝ }
 {
     match bodies::item_at(table, unpacked, n, s, f, inside, seen) {
-        Item::End => Turn::Out(Got::Done(Cursor { at: f.at }, f.row)),
+        Item::End => Part::Done(Cursor { at: f.at }, f.row),
         Item::Void(q, a, v) => {
             lookup::mark(seen, q);
             rows::put_row(
@@ -400,21 +402,19 @@ fn item(
                     end: f.base + v.at,
                 },
             );
-            Turn::On(v, f.row + 1)
+            Part::On(v, f.row + 1)
         }
         Item::List(q, v) => {
             lookup::mark(seen, q);
-            match list(table, unpacked, n, s, rows, for_field(f, v.at, q)) {
-                Got::Done(w, m) => Turn::On(w, m),
-                Got::Refused(k, p) => Turn::Out(Got::Refused(k, p)),
-            }
+            Part::List(q, v, n)
         }
-        Item::Unknown(v) => Turn::On(v, f.row),
-        Item::Refused(k, p) => Turn::Out(Got::Refused(k, p)),
+        Item::Unknown(v) => Part::On(v, f.row),
+        Item::Refused(k, p) => Part::Refused(k, p),
     }
 }
 
-fn items(
+// The list of the next untagged field from record i on, or the body's end in its place; where none is left, an item.
+fn next_part(
     table: &[u8],
     unpacked: &[u32],
     n: usize,
@@ -422,49 +422,31 @@ fn items(
     rows: &mut [u32],
     f: Frame,
     inside: bool,
-) -> Got
+    seen: &mut [bool; 256],
+    i: usize,
+) -> Part
     requires { ⌜ Room f (length (now s)) n ⌝ }
-    ensures { λ r. ⌜ Ends (itemsAt (schemaAt (now (table .entry)) (now (unpacked .entry)) n) (valuesOf (schemaAt (now (table .entry)) (now (unpacked .entry)) n) (f .depth)) inside (f .parameter) (suc (length (here (now (s .entry)) f))) [] (here (now (s .entry)) f)) (now (s .entry)) f (now (rows .entry)) (now (rows .exit)) 0 r ⌝ }
+    requires { ⌜ Marked (now seen) ⌝ }
+    ensures { λ r. ⌜ ((e : Frame) (before : List ℕ) → Bodying (schemaAt (now (table .entry)) (now (unpacked .entry)) n) (now (s .entry)) e f inside before (now (rows .entry)) (now (seen .entry)) (untaggedFrom (now (table .entry)) (now (unpacked .entry)) n (f .parameter) i) → PartAt (now (table .entry)) (now (unpacked .entry)) n (now (s .entry)) e f inside before (now (rows .exit)) (now (seen .exit)) r) ⌝ }
 {
-    let mut seen = lookup::no_marks();
-    let mut g = f;
-    loop {
-        match item(table, unpacked, n, s, rows, g, inside, &mut seen) {
-            Turn::On(v, m) => {
-                g = moved(g, v.at, m);
-            }
-            Turn::Out(o) => {
-                return o;
-            }
-        }
-    }
-}
-
-// The list of the untagged field f.parameter, or the body's end in its place.
-fn field(
-    table: &[u8],
-    unpacked: &[u32],
-    n: usize,
-    s: &[u8],
-    rows: &mut [u32],
-    f: Frame,
-    inside: bool,
-) -> Turn
-    requires { ⌜ Room f (length (now s)) n ⌝ }
-    requires { ⌜ f .parameter < n ⌝ }
-    ensures { λ r. ⌜ FieldAt (schemaAt (now (table .entry)) (now (unpacked .entry)) n) (now (s .entry)) f inside (now (rows .entry)) (now (rows .exit)) r ⌝ }
-{
-    match bodies::field_at(table, unpacked, n, s, f, inside) {
-        Start::List => match list(table, unpacked, n, s, rows, f) {
-            Got::Done(v, m) => Turn::On(v, m),
-            Got::Refused(k, p) => Turn::Out(Got::Refused(k, p)),
+    match lookup::next_untagged(table, unpacked, n, f.parameter, i) {
+        Found::Nowhere => item(table, unpacked, n, s, rows, f, inside, seen),
+        Found::At(q) => match bodies::field_at(
+            table,
+            unpacked,
+            n,
+            s,
+            for_field(f, f.at, q),
+            inside,
+        ) {
+            Start::List => Part::List(q, Cursor { at: f.at }, q + 1),
+            Start::End => Part::Done(Cursor { at: f.at }, f.row),
+            Start::Refused(k, p) => Part::Refused(k, p),
         },
-        Start::End => Turn::Out(Got::Done(Cursor { at: f.at }, f.row)),
-        Start::Refused(k, p) => Turn::Out(Got::Refused(k, p)),
     }
 }
 
-// The untagged fields' lists in order, then the items.
+// The untagged fields' lists in order, then the items: one loop, so that one place calls `list`, which is then inlined.
 fn fields(
     table: &[u8],
     unpacked: &[u32],
@@ -477,30 +459,27 @@ fn fields(
     requires { ⌜ Room f (length (now s)) n ⌝ }
     ensures { λ r. ⌜ Ends (listsAt (schemaAt (now (table .entry)) (now (unpacked .entry)) n) (valuesOf (schemaAt (now (table .entry)) (now (unpacked .entry)) n) (f .depth)) inside (f .parameter) (schemaAt (now (table .entry)) (now (unpacked .entry)) n .untagged (f .parameter)) (here (now (s .entry)) f)) (now (s .entry)) f (now (rows .entry)) (now (rows .exit)) 0 r ⌝ }
 {
+    let mut seen = lookup::no_marks();
     let mut g = f;
     let mut i: usize = 0;
     loop {
-        match lookup::next_untagged(table, unpacked, n, g.parameter, i) {
-            Found::Nowhere => {
-                return items(table, unpacked, n, s, rows, g, inside);
+        match next_part(table, unpacked, n, s, rows, g, inside, &mut seen, i) {
+            Part::List(q, v, next) => {
+                let due = for_field(g, v.at, q);
+                match list(table, unpacked, n, s, rows, due) {
+                    Got::Done(w, m) => {
+                        g = moved(g, w.at, m);
+                        i = next;
+                    }
+                    Got::Refused(k, p) => return Got::Refused(k, p),
+                }
             }
-            Found::At(q) => match field(
-                table,
-                unpacked,
-                n,
-                s,
-                rows,
-                for_field(g, g.at, q),
-                inside,
-            ) {
-                Turn::On(v, m) => {
-                    g = moved(g, v.at, m);
-                    i = q + 1;
-                }
-                Turn::Out(o) => {
-                    return o;
-                }
-            },
+            Part::On(v, m) => {
+                g = moved(g, v.at, m);
+                i = n;
+            }
+            Part::Done(v, m) => return Got::Done(v, m),
+            Part::Refused(k, p) => return Got::Refused(k, p),
         }
     }
 }

@@ -44,17 +44,6 @@ stopped-same e s = record { rest = s .rest; is = e ∙ s .is; along = s .along; 
 pub read-same : {k : Sort} {o o′ : Result (Tree k)} {x y : List Lex} {before after : List ℕ} {row p up next : ℕ} → o ≡ o′ → Read o′ x y before after row p up next → Read o x y before after row p up next
 read-same e r = record { tree = r .tree; is = e ∙ r .is; left = r .left; written = r .written; sized = r .sized }
 
-pub going-same : {k : Sort} {o o₁ o′ : Result (Tree k)} {x y : List Lex} {before after : List ℕ} {row p up next : ℕ} → o ≡ o₁ → Going o₁ o′ x y before after row p up next → Going o o′ x y before after row p up next
-going-same e g = record {
-  tokens = g .tokens;
-  left = g .left;
-  acc = g .acc;
-  refuses = λ n z h. e ∙ g .refuses n z h;
-  gets = λ t z h. let w = g .gets t z h in record { tree = w .tree; is = e ∙ w .is; wide = w .wide; rows = w .rows };
-  written = g .written;
-  sized = g .sized;
-}
-
 pub going-start : {k : Sort} (o : Result (Tree k)) (x : List Lex) (before : List ℕ) (row p up : ℕ) → Going o o x x before before row p up row
 unfolding cells
 going-start o x before row p up = record {
@@ -67,15 +56,15 @@ going-start o x before row p up = record {
   sized = omega arith;
 }
 
-module _ {k : Sort} {o o′ : Result (Tree k)} {x y : List Lex} {before after : List ℕ} {row p up next : ℕ} (g : Going o o′ x y before after row p up next) where
+module _ {k k′ : Sort} {o : Result (Tree k)} {o′ : Result (Tree k′)} {x y : List Lex} {before after : List ℕ} {row p up next : ℕ} (g : Going o o′ x y before after row p up next) where
   pub going-tail : Tail y x
   going-tail = rw (g .left) (drop-tail (g .tokens) x)
 
   pub going-stopped : {end n q : ℕ} → Stopped o′ y end n q → Stopped o x end n q
   going-stopped s = stopped-before x y going-tail (g .refuses) s
 
-  pub going-on : {o″ : Result (Tree k)} {z : List Lex} {last : List ℕ} {m : ℕ} → Going o′ o″ y z after last next p up m → Going o o″ x z before last row p up m
-  going-on {o″} {z} {last} {m} h = record {
+  pub going-on : {k″ : Sort} {o″ : Result (Tree k″)} {z : List Lex} {last : List ℕ} {m : ℕ} → Going o′ o″ y z after last next p up m → Going o o″ x z before last row p up m
+  going-on {k″} {o″} {z} {last} {m} h = record {
     tokens = g .tokens + h .tokens;
     left = h .left ∙ (ap (drop (h .tokens)) (g .left) ∙ drop-drop (h .tokens) (g .tokens) x);
     acc = g .acc ++ h .acc;
@@ -102,11 +91,11 @@ module _ {k : Sort} {o o′ : Result (Tree k)} {x y : List Lex} {before after : 
       }
 
 -- one step: the answer is the answer after n tokens, put into a larger tree, with the rows acc in front
-pub going-step : {k : Sort} (o o′ : Result (Tree k)) (x y : List Lex) (before after : List ℕ) (row p up next : ℕ) (wrap : Tree k → Tree k) (n : ℕ) (acc : List Row)
+pub going-step : {k k′ : Sort} (o : Result (Tree k)) (o′ : Result (Tree k′)) (x y : List Lex) (before after : List ℕ) (row p up next : ℕ) (wrap : Tree k′ → Tree k) (n : ℕ) (acc : List Row)
     → o ≡ then o′ (λ t z. got (wrap t) z)
     → y ≡ drop n x
-    → ((t : Tree k) → width (wrap t) ≡ n + width t)
-    → ((t : Tree k) → rowsOf x (wrap t) 0 row p up ≡ acc ++ rowsOf x t n next p up)
+    → ((t : Tree k′) → width (wrap t) ≡ n + width t)
+    → ((t : Tree k′) → rowsOf x (wrap t) 0 row p up ≡ acc ++ rowsOf x t n next p up)
     → after ≡ sets before (rowWidth * row) (cells acc)
     → next ≡ row + length acc
     → Going o o′ x y before after row p up next

@@ -14,19 +14,19 @@ use Rattle.schema.specs.Reading.{width}
 use Rattle.rows.specs.Filled.{ended}
 
 -- the whole tree around t, which is read from y on, with n tokens and the rows acc in front
-pub record Wrapped {k : Sort} (o : Result (Tree k)) (n : ℕ) (acc : List Row) (x y : List Lex) (t : Tree k) (z : List Token) (row p up next : ℕ) : Type 0 where
+pub record Wrapped {k k′ : Sort} (o : Result (Tree k)) (n : ℕ) (acc : List Row) (x y : List Lex) (t : Tree k′) (z : List Token) (row p up next : ℕ) : Type 0 where
   pub tree : Tree k
   pub is : o ≡ got tree z
   pub wide : width tree ≡ n + width t
   pub rows : rowsOf x tree 0 row p up ≡ acc ++ rowsOf y t 0 next p up
 
 -- the answer o from the lexemes x on, and the answer o′ from y on
-pub record Going {k : Sort} (o o′ : Result (Tree k)) (x y : List Lex) (before after : List ℕ) (row p up next : ℕ) : Type 0 where
+pub record Going {k k′ : Sort} (o : Result (Tree k)) (o′ : Result (Tree k′)) (x y : List Lex) (before after : List ℕ) (row p up next : ℕ) : Type 0 where
   pub tokens : ℕ
   pub left : y ≡ drop tokens x
   pub acc : List Row
   pub refuses : (n : ℕ) (z : List Token) → o′ ≡ refused n z → o ≡ refused n z
-  pub gets : (t : Tree k) (z : List Token) → o′ ≡ got t z → Wrapped o tokens acc x y t z row p up next
+  pub gets : (t : Tree k′) (z : List Token) → o′ ≡ got t z → Wrapped o tokens acc x y t z row p up next
   pub written : after ≡ sets before (rowWidth * row) (cells acc)
   pub sized : next ≡ row + length acc
 

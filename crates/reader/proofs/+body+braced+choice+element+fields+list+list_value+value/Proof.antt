@@ -1,6 +1,6 @@
-use mathlib.Core.Path.{_≡_, sym, refl, ap, subst, _∙_}
+use mathlib.Core.Path.{sym, refl, ap, _∙_}
 use mathlib.Core.List.{[]}
-use Prim.Native.Nat.{_+_, _-_, _*_, _≤_}
+use Prim.Native.Nat.{_+_, _-_, _*_}
 use native.Mathlib.Omega.{arith}
 use native.Mathlib.Nat.{pos-of-ne-zero}
 use lib.ListN.{length}
@@ -9,59 +9,42 @@ use Rattle.schema.specs.Schema as schema
 use Rattle.tokens.proofs.Heads.{step-within}
 use denote.Ref.{now}
 use borrow.Author.Needs.{needs}
-use Rattle.lookup.specs.Questions.{schemaAt, shapeOf}
-use Rattle.lookup.proofs.Marked.{marks-more}
-use Rattle.lookup.specs.IntList.{IntsOf}
-use Rattle.unknown.proofs.AlongLaws.{part-end}
-use Rattle.values.proofs.Parts.{found-at, found-none}
-use Rattle.reader.specs.Turning.{Marked, endPlace}
-use Rattle.reader.proofs.Steps.{Listing, listing-start, listing-room, listing-named, listing-ints, listing-depth, listing-turn, listing-on, listing-done, listing-refused, Iteming, iteming-start, iteming-room, iteming-depth, iteming-turn, iteming-on, iteming-out, Fielding, fielding-start, fielding-room, fielding-depth, fielding-items, fielding-on, fielding-out, Choosing, choosing-start, choosing-room, choosing-base, choosing-depth, choosing-value, choosing-whole, choosing-stopped, choosing-on, deeper-less, plain-fits, whole-fits, next-between, body-none, body-ends, room-deeper, room-inner, braced-within, braced-ends, braced-refused, quick-ended, quick-element, element-more, element-last, element-after, element-refused, field-on, field-refused, field-none, items-none, item-void, item-list, item-refused, item-passed, plain-none, plain-simple, plain-struct, isPlace}
+use Rattle.lookup.specs.Questions.{schemaAt, shapeOf, untaggedFrom}
+use Rattle.reader.specs.Turning.{Bodying}
+use Rattle.reader.proofs.Steps.{Listing, listing-start, listing-room, listing-named, listing-ints, listing-depth, listing-turn, listing-on, listing-done, listing-refused, bodying-start, bodying-room, bodying-depth, untagged-end, Choosing, choosing-start, choosing-room, choosing-depth, choosing-value, choosing-whole, choosing-stopped, choosing-on, deeper-less, plain-fits, whole-fits, body-none, body-ends, room-inner, braced-within, braced-ends, braced-refused, quick-ended, quick-element, element-more, element-last, element-after, element-refused, plain-none, plain-simple, plain-struct, isPlace}
 use Prim.Native.Nat.{ℕ, _<_}
 use borrow.Fn.Kinds.{In}
 use borrow.Fn.PlainCycle.{Measures, is, falls, and}
 use Rattle.reader.proofs.body.Reads as body
 use Rattle.reader.proofs.body.Kinds as body-kinds
-use Rattle.reader.proofs.+body+braced+choice+element+field+fields+item+items+list+list_value+value.Lts-body as body-lts
+use Rattle.reader.proofs.+body+braced+choice+element+fields+list+list_value+value.Lts-body as body-lts
 use Rattle.reader.proofs.braced.Reads as braced
 use Rattle.reader.proofs.braced.Kinds as braced-kinds
-use Rattle.reader.proofs.+body+braced+choice+element+field+fields+item+items+list+list_value+value.Lts-braced as braced-lts
+use Rattle.reader.proofs.+body+braced+choice+element+fields+list+list_value+value.Lts-braced as braced-lts
 use Rattle.reader.proofs.choice.Reads as choice
 use Rattle.reader.proofs.choice.Kinds as choice-kinds
-use Rattle.reader.proofs.+body+braced+choice+element+field+fields+item+items+list+list_value+value.Lts-choice as choice-lts
+use Rattle.reader.proofs.+body+braced+choice+element+fields+list+list_value+value.Lts-choice as choice-lts
 use Rattle.reader.proofs.element.Reads as element
 use Rattle.reader.proofs.element.Kinds as element-kinds
-use Rattle.reader.proofs.+body+braced+choice+element+field+fields+item+items+list+list_value+value.Lts-element as element-lts
-use Rattle.reader.proofs.field.Reads as field
-use Rattle.reader.proofs.field.Kinds as field-kinds
-use Rattle.reader.proofs.+body+braced+choice+element+field+fields+item+items+list+list_value+value.Lts-field as field-lts
+use Rattle.reader.proofs.+body+braced+choice+element+fields+list+list_value+value.Lts-element as element-lts
 use Rattle.reader.proofs.fields.Reads as fields
 use Rattle.reader.proofs.fields.Kinds as fields-kinds
-use Rattle.reader.proofs.+body+braced+choice+element+field+fields+item+items+list+list_value+value.Lts-fields as fields-lts
-use Rattle.reader.proofs.item.Reads as item
-use Rattle.reader.proofs.item.Kinds as item-kinds
-use Rattle.reader.proofs.+body+braced+choice+element+field+fields+item+items+list+list_value+value.Lts-item as item-lts
-use Rattle.reader.proofs.items.Reads as items
-use Rattle.reader.proofs.items.Kinds as items-kinds
-use Rattle.reader.proofs.+body+braced+choice+element+field+fields+item+items+list+list_value+value.Lts-items as items-lts
+use Rattle.reader.proofs.+body+braced+choice+element+fields+list+list_value+value.Lts-fields as fields-lts
 use Rattle.reader.proofs.list.Reads as list
 use Rattle.reader.proofs.list.Kinds as list-kinds
-use Rattle.reader.proofs.+body+braced+choice+element+field+fields+item+items+list+list_value+value.Lts-list as list-lts
+use Rattle.reader.proofs.+body+braced+choice+element+fields+list+list_value+value.Lts-list as list-lts
 use Rattle.reader.proofs.list_value.Reads as list-value
 use Rattle.reader.proofs.list_value.Kinds as list-value-kinds
-use Rattle.reader.proofs.+body+braced+choice+element+field+fields+item+items+list+list_value+value.Lts-list_value as list-value-lts
+use Rattle.reader.proofs.+body+braced+choice+element+fields+list+list_value+value.Lts-list_value as list-value-lts
 use Rattle.reader.proofs.value.Reads as value
 use Rattle.reader.proofs.value.Kinds as value-kinds
-use Rattle.reader.proofs.+body+braced+choice+element+field+fields+item+items+list+list_value+value.Lts-value as value-lts
-use Rattle.bodies.proofs.field_at.Reads as field-at-reads
-use Rattle.bodies.proofs.item_at.Reads as item-at-reads
+use Rattle.reader.proofs.+body+braced+choice+element+fields+list+list_value+value.Lts-value as value-lts
 use Rattle.choices.proofs.choose.Reads as choose-reads
 use Rattle.lists.proofs.after_value.Reads as after-value-reads
 use Rattle.lists.proofs.quick_int.Reads as quick-int-reads
 use Rattle.lookup.proofs.core.Reads as core-reads
 use Rattle.lookup.proofs.ints_of.Reads as ints-of-reads
 use Rattle.lookup.proofs.kind.Reads as kind-reads
-use Rattle.lookup.proofs.mark.Reads as mark-reads
-use Rattle.lookup.proofs.next_untagged.Reads as next-untagged-reads
 use Rattle.lookup.proofs.no_marks.Reads as no-marks-reads
 use Rattle.reader.proofs.close_chain.Reads as close-chain-reads
 use Rattle.reader.proofs.deeper.Reads as deeper-reads
@@ -69,55 +52,46 @@ use Rattle.reader.proofs.for_field.Reads as for-field-reads
 use Rattle.reader.proofs.inner.Reads as inner-reads
 use Rattle.reader.proofs.is_union.Reads as is-union-reads
 use Rattle.reader.proofs.moved.Reads as moved-reads
+use Rattle.reader.proofs.next_part.Reads as next-part-reads
 use Rattle.reader.proofs.next_value.Reads as next-value-reads
 use Rattle.reader.proofs.open_row.Reads as open-row-reads
 use Rattle.reader.proofs.under.Reads as under-reads
 use Rattle.reader.proofs.whole.Reads as whole-reads
-use Rattle.rows.proofs.put_row.Reads as put-row-reads
 use Rattle.tokens.proofs.Cursor.head.Reads as head-reads
 use Rattle.values.proofs.no_value.Reads as no-value-reads
 use Rattle.values.proofs.open_brace.Reads as open-brace-reads
 use Rattle.values.proofs.shut.Reads as shut-reads
 use Rattle.values.proofs.simple.Reads as simple-reads
-use Rattle.reader.proofs.+body+braced+choice+element+field+fields+item+items+list+list_value+value.{
+use Rattle.reader.proofs.+body+braced+choice+element+fields+list+list_value+value.{
   statement,
 }
-use Rattle.reader.proofs.+body+braced+choice+element+field+fields+item+items+list+list_value+value.Tie.{
+use Rattle.reader.proofs.+body+braced+choice+element+fields+list+list_value+value.Tie.{
   close,
 }
 
 abbrev μ-body : Measures 4 body-kinds.ps ℕ
-μ-body κs a = 11 * a .1 .1 .1 .1 .1 .0 .depth + 0
+μ-body κs a = 8 * a .1 .1 .1 .1 .1 .0 .depth + 0
 
 abbrev μ-braced : Measures 4 braced-kinds.ps ℕ
-μ-braced κs a = 11 * a .1 .1 .1 .1 .1 .0 .depth + 2
+μ-braced κs a = 8 * a .1 .1 .1 .1 .1 .0 .depth + 1
 
 abbrev μ-choice : Measures 4 choice-kinds.ps ℕ
-μ-choice κs a = 11 * a .1 .1 .1 .1 .1 .0 .depth + 4
+μ-choice κs a = 8 * a .1 .1 .1 .1 .1 .0 .depth + 3
 
 abbrev μ-element : Measures 4 element-kinds.ps ℕ
-μ-element κs a = 11 * a .1 .1 .1 .1 .1 .0 .depth + 6
-
-abbrev μ-field : Measures 4 field-kinds.ps ℕ
-μ-field κs a = 11 * a .1 .1 .1 .1 .1 .0 .depth + 9
+μ-element κs a = 8 * a .1 .1 .1 .1 .1 .0 .depth + 5
 
 abbrev μ-fields : Measures 4 fields-kinds.ps ℕ
-μ-fields κs a = 11 * a .1 .1 .1 .1 .1 .0 .depth + 10
-
-abbrev μ-item : Measures 5 item-kinds.ps ℕ
-μ-item κs a = 11 * a .1 .1 .1 .1 .1 .0 .depth + 8
-
-abbrev μ-items : Measures 4 items-kinds.ps ℕ
-μ-items κs a = 11 * a .1 .1 .1 .1 .1 .0 .depth + 9
+μ-fields κs a = 8 * a .1 .1 .1 .1 .1 .0 .depth + 7
 
 abbrev μ-list : Measures 4 list-kinds.ps ℕ
-μ-list κs a = 11 * a .1 .1 .1 .1 .1 .0 .depth + 7
+μ-list κs a = 8 * a .1 .1 .1 .1 .1 .0 .depth + 6
 
 abbrev μ-list-value : Measures 4 list-value-kinds.ps ℕ
-μ-list-value κs a = 11 * a .1 .1 .1 .1 .1 .0 .depth + 5
+μ-list-value κs a = 8 * a .1 .1 .1 .1 .1 .0 .depth + 4
 
 abbrev μ-value : Measures 4 value-kinds.ps ℕ
-μ-value κs a = 11 * a .1 .1 .1 .1 .1 .0 .depth + 3
+μ-value κs a = 8 * a .1 .1 .1 .1 .1 .0 .depth + 2
 
 abbrev body-at : ℕ → In 4 body-kinds.ps
 body-at t = and 4 body-kinds.ps (is 4 body-kinds.ps μ-body t) body.Pre
@@ -143,29 +117,11 @@ element-at t = and 4 element-kinds.ps (is 4 element-kinds.ps μ-element t) eleme
 abbrev element-below : ℕ → In 4 element-kinds.ps
 element-below t = and 4 element-kinds.ps (falls 4 element-kinds.ps _<_ μ-element t) element.Pre
 
-abbrev field-at : ℕ → In 4 field-kinds.ps
-field-at t = and 4 field-kinds.ps (is 4 field-kinds.ps μ-field t) field.Pre
-
-abbrev field-below : ℕ → In 4 field-kinds.ps
-field-below t = and 4 field-kinds.ps (falls 4 field-kinds.ps _<_ μ-field t) field.Pre
-
 abbrev fields-at : ℕ → In 4 fields-kinds.ps
 fields-at t = and 4 fields-kinds.ps (is 4 fields-kinds.ps μ-fields t) fields.Pre
 
 abbrev fields-below : ℕ → In 4 fields-kinds.ps
 fields-below t = and 4 fields-kinds.ps (falls 4 fields-kinds.ps _<_ μ-fields t) fields.Pre
-
-abbrev item-at : ℕ → In 5 item-kinds.ps
-item-at t = and 5 item-kinds.ps (is 5 item-kinds.ps μ-item t) item.Pre
-
-abbrev item-below : ℕ → In 5 item-kinds.ps
-item-below t = and 5 item-kinds.ps (falls 5 item-kinds.ps _<_ μ-item t) item.Pre
-
-abbrev items-at : ℕ → In 4 items-kinds.ps
-items-at t = and 4 items-kinds.ps (is 4 items-kinds.ps μ-items t) items.Pre
-
-abbrev items-below : ℕ → In 4 items-kinds.ps
-items-below t = and 4 items-kinds.ps (falls 4 items-kinds.ps _<_ μ-items t) items.Pre
 
 abbrev list-at : ℕ → In 4 list-kinds.ps
 list-at t = and 4 list-kinds.ps (is 4 list-kinds.ps μ-list t) list.Pre
@@ -187,7 +143,7 @@ value-at t = and 4 value-kinds.ps (is 4 value-kinds.ps μ-value t) value.Pre
 abbrev value-below : ℕ → In 4 value-kinds.ps
 value-below t = and 4 value-kinds.ps (falls 4 value-kinds.ps _<_ μ-value t) value.Pre
 
--- src/lib.rt:515:13
+-- src/lib.rt:502:13
 body-head-requires : (t : ℕ) → body-lts.Need-head-requires (
   head-reads.Asked,
   head-reads.Learnt,
@@ -198,7 +154,7 @@ body-head-requires : (t : ℕ) → body-lts.Need-head-requires (
 ) (body-at t) body.Post
 body-head-requires t c κs = search needs
 
--- src/lib.rt:516:32
+-- src/lib.rt:503:32
 body-add-t11 : (t : ℕ) → body-lts.Need-add-t11 (
   head-reads.Asked,
   head-reads.Learnt,
@@ -209,7 +165,7 @@ body-add-t11 : (t : ℕ) → body-lts.Need-add-t11 (
 ) (body-at t) body.Post
 body-add-t11 t c = omega (arith, c .before .before .head .ensures 0 .within, c .before .before .before .before .before .before .before .before .before .pre .1 .short)
 
--- src/lib.rt:516:9
+-- src/lib.rt:503:9
 body-returns : (t : ℕ) → body-lts.Need-returns (
   head-reads.Asked,
   head-reads.Learnt,
@@ -220,7 +176,7 @@ body-returns : (t : ℕ) → body-lts.Need-returns (
 ) (body-at t) body.Post
 body-returns t c = body-none _ _ (c .before .before .before .before .before .before .before .before .before .args .f) _ (c .before .before .head .result) (c .before .before .head .ensures _) (c .before .before .before .if1 .taken)
 
--- src/lib.rt:518:37
+-- src/lib.rt:505:41
 body-deeper-requires : (t : ℕ) → body-lts.Need-deeper-requires (
   head-reads.Asked,
   head-reads.Learnt,
@@ -231,7 +187,7 @@ body-deeper-requires : (t : ℕ) → body-lts.Need-deeper-requires (
 ) (body-at t) body.Post
 body-deeper-requires t c κs = pos-of-ne-zero (c .before .if1 .left)
 
--- src/lib.rt:518:5
+-- src/lib.rt:505:5
 body-fields-requires : (t : ℕ) → body-lts.Need-fields-requires (
   head-reads.Asked,
   head-reads.Learnt,
@@ -242,7 +198,7 @@ body-fields-requires : (t : ℕ) → body-lts.Need-fields-requires (
 ) (body-at t) body.Post
 body-fields-requires t c κs = rw (c .deeper .ensures) (omega (arith, c .before .before .before .before .before .before .before .before .pre .1, pos-of-ne-zero (c .before .before .if1 .left)))
 
--- src/lib.rt:501:1
+-- src/lib.rt:488:1
 body-same-length : (t : ℕ) → body-lts.Need-same-length (
   head-reads.Asked,
   head-reads.Learnt,
@@ -253,7 +209,7 @@ body-same-length : (t : ℕ) → body-lts.Need-same-length (
 ) (body-at t) body.Post
 body-same-length t c = search needs
 
--- src/lib.rt:501:1
+-- src/lib.rt:488:1
 body-returns-2 : (t : ℕ) → body-lts.Need-returns-2 (
   head-reads.Asked,
   head-reads.Learnt,
@@ -264,7 +220,7 @@ body-returns-2 : (t : ℕ) → body-lts.Need-returns-2 (
 ) (body-at t) body.Post
 body-returns-2 t c = body-ends _ _ (c .before .before .before .before .before .before .before .before .before .before .before .args .f) _ _ _ (c .before .before .fields .result) (c .before .before .before .before .before .if1 .left) (rw (c .before .before .before .deeper .ensures) at (c .before .before .fields .ensures))
 
--- src/lib.rt:248:11
+-- src/lib.rt:241:11
 braced-open-brace-requires : (t : ℕ) → braced-lts.Need-open-brace-requires (
   open-brace-reads.Asked,
   open-brace-reads.Learnt,
@@ -277,7 +233,7 @@ braced-open-brace-requires : (t : ℕ) → braced-lts.Need-open-brace-requires (
 ) (braced-at t) braced.Post
 braced-open-brace-requires t c κs = omega (arith, c .before .before .before .before .pre .1 .0 .short)
 
--- src/lib.rt:249:20
+-- src/lib.rt:242:20
 braced-enum-known-a : (t : ℕ) → braced-lts.Need-enum-known-a (
   open-brace-reads.Asked,
   open-brace-reads.Learnt,
@@ -290,7 +246,7 @@ braced-enum-known-a : (t : ℕ) → braced-lts.Need-enum-known-a (
 ) (braced-at t) braced.Post
 braced-enum-known-a t c = search needs
 
--- src/lib.rt:251:40
+-- src/lib.rt:244:44
 braced-sub-body : (t : ℕ) → braced-lts.Need-sub-body (
   open-brace-reads.Asked,
   open-brace-reads.Learnt,
@@ -303,7 +259,7 @@ braced-sub-body : (t : ℕ) → braced-lts.Need-sub-body (
 ) (braced-at t) braced.Post
 braced-sub-body t c = let o = (rw (c .before .a .given .1) at (c .before .before .before .open-brace .ensures)) in omega (arith, o .within)
 
--- src/lib.rt:251:40
+-- src/lib.rt:244:44
 braced-part-body-start : (t : ℕ) → braced-lts.Need-part-body-start (
   open-brace-reads.Asked,
   open-brace-reads.Learnt,
@@ -316,7 +272,7 @@ braced-part-body-start : (t : ℕ) → braced-lts.Need-part-body-start (
 ) (braced-at t) braced.Post
 braced-part-body-start t c = let o = (rw (c .before .a .given .1) at (c .before .before .before .open-brace .ensures)) in omega (arith, o .within)
 
--- src/lib.rt:251:40
+-- src/lib.rt:244:44
 braced-part-body-end : (t : ℕ) → braced-lts.Need-part-body-end (
   open-brace-reads.Asked,
   open-brace-reads.Learnt,
@@ -329,7 +285,7 @@ braced-part-body-end : (t : ℕ) → braced-lts.Need-part-body-end (
 ) (braced-at t) braced.Post
 braced-part-body-end t c = let o = (rw (c .before .a .given .1) at (c .before .before .before .open-brace .ensures)) in omega (arith, o .within)
 
--- src/lib.rt:251:55
+-- src/lib.rt:244:59
 braced-inner-requires : (t : ℕ) → braced-lts.Need-inner-requires (
   open-brace-reads.Asked,
   open-brace-reads.Learnt,
@@ -342,7 +298,7 @@ braced-inner-requires : (t : ℕ) → braced-lts.Need-inner-requires (
 ) (braced-at t) braced.Post
 braced-inner-requires t c κs = let o = (rw (c .before .before .before .a .given .1) at (c .before .before .before .before .before .open-brace .ensures)) in omega (arith, o .within, c .before .before .before .before .before .before .before .before .before .before .pre .1 .0)
 
--- src/lib.rt:251:19
+-- src/lib.rt:244:19
 braced-body-requires : (t : ℕ) → braced-lts.Need-body-requires (
   open-brace-reads.Asked,
   open-brace-reads.Learnt,
@@ -355,7 +311,7 @@ braced-body-requires : (t : ℕ) → braced-lts.Need-body-requires (
 ) (braced-at t) braced.Post
 braced-body-requires t c κs = let o = (rw (c .before .before .before .before .a .given .1) at (c .before .before .before .before .before .before .open-brace .ensures)) in let q = room-inner (c .before .before .before .before .before .before .before .before .before .before .before .args .f) (now (c .before .before .before .before .before .before .before .before .before .before .before .args .s)) _ _ 0 (c .before .before .before .before .before .before .before .before .before .before .before .pre .1 .0) (step-within _ _ _ _ _ _ o .0) (o .within) in rw (c .inner .ensures) (omega (arith, q))
 
--- src/lib.rt:252:27
+-- src/lib.rt:245:27
 braced-enum-known-w : (t : ℕ) → braced-lts.Need-enum-known-w (
   open-brace-reads.Asked,
   open-brace-reads.Learnt,
@@ -368,7 +324,7 @@ braced-enum-known-w : (t : ℕ) → braced-lts.Need-enum-known-w (
 ) (braced-at t) braced.Post
 braced-enum-known-w t c = search needs
 
--- src/lib.rt:252:63
+-- src/lib.rt:245:64
 braced-add-shut : (t : ℕ) → braced-lts.Need-add-shut (
   open-brace-reads.Asked,
   open-brace-reads.Learnt,
@@ -381,7 +337,7 @@ braced-add-shut : (t : ℕ) → braced-lts.Need-add-shut (
 ) (braced-at t) braced.Post
 braced-add-shut t c = let b = (rw (c .before .before .before .before .before .before .before .before .inner .ensures, c .before .before .before .w .given .1) at (c .before .before .before .before .before .before .before .body .ensures)) in omega (arith, braced-within _ _ (c .before .before .before .before .before .before .before .before .before .before .before .before .before .before .before .before .before .before .before .args .f) _ _ _ _ _ [] (rw (c .before .before .before .before .before .before .before .before .before .before .before .before .a .given .1) at (c .before .before .before .before .before .before .before .before .before .before .before .before .before .before .open-brace .ensures)) _ _ b, c .before .before .before .before .before .before .before .before .before .before .before .before .before .before .before .before .before .before .before .pre .1 .0)
 
--- src/lib.rt:252:36
+-- src/lib.rt:245:36
 braced-shut-requires : (t : ℕ) → braced-lts.Need-shut-requires (
   open-brace-reads.Asked,
   open-brace-reads.Learnt,
@@ -394,7 +350,7 @@ braced-shut-requires : (t : ℕ) → braced-lts.Need-shut-requires (
 ) (braced-at t) braced.Post
 braced-shut-requires t c κs = let o = (rw (c .before .before .before .before .before .before .before .before .before .before .before .before .a .given .1) at (c .before .before .before .before .before .before .before .before .before .before .before .before .before .before .open-brace .ensures)) in omega (arith, o .less, o .within, c .before .before .before .before .before .before .before .before .before .before .before .before .before .before .before .before .before .before .before .pre .1 .0, c .before .before .before .before .before .before .before .before .before .before .before .before .before .before .before .before .before .before .before .pre .1 .1)
 
--- src/lib.rt:253:30
+-- src/lib.rt:246:30
 braced-enum-known-k : (t : ℕ) → braced-lts.Need-enum-known-k (
   open-brace-reads.Asked,
   open-brace-reads.Learnt,
@@ -407,7 +363,7 @@ braced-enum-known-k : (t : ℕ) → braced-lts.Need-enum-known-k (
 ) (braced-at t) braced.Post
 braced-enum-known-k t c = search needs
 
--- src/lib.rt:256:25
+-- src/lib.rt:249:25
 braced-enum-known-k-2 : (t : ℕ) → braced-lts.Need-enum-known-k-2 (
   open-brace-reads.Asked,
   open-brace-reads.Learnt,
@@ -420,7 +376,7 @@ braced-enum-known-k-2 : (t : ℕ) → braced-lts.Need-enum-known-k-2 (
 ) (braced-at t) braced.Post
 braced-enum-known-k-2 t c = search needs
 
--- src/lib.rt:235:1
+-- src/lib.rt:228:1
 braced-same-length : (t : ℕ) → braced-lts.Need-same-length (
   open-brace-reads.Asked,
   open-brace-reads.Learnt,
@@ -433,7 +389,7 @@ braced-same-length : (t : ℕ) → braced-lts.Need-same-length (
 ) (braced-at t) braced.Post
 braced-same-length t c = search needs
 
--- src/lib.rt:235:1
+-- src/lib.rt:228:1
 braced-returns : (t : ℕ) → braced-lts.Need-returns (
   open-brace-reads.Asked,
   open-brace-reads.Learnt,
@@ -446,7 +402,7 @@ braced-returns : (t : ℕ) → braced-lts.Need-returns (
 ) (braced-at t) braced.Post
 braced-returns t c = braced-ends _ _ (c .before .before .before .before .before .before .before .before .before .before .before .before .before .before .before .before .before .before .before .before .before .before .args .f) _ _ _ _ _ _ (rw (c .before .before .before .before .before .before .before .before .before .before .before .before .before .before .before .a .given .1) at (c .before .before .before .before .before .before .before .before .before .before .before .before .before .before .before .before .before .open-brace .ensures)) _ _ (rw (c .before .before .before .before .before .before .before .before .before .before .before .inner .ensures, c .before .before .before .before .before .before .w .given .1) at (c .before .before .before .before .before .before .before .before .before .before .body .ensures)) (c .before .before .shut .result) (c .before .before .shut .ensures)
 
--- src/lib.rt:235:1
+-- src/lib.rt:228:1
 braced-same-length-2 : (t : ℕ) → braced-lts.Need-same-length-2 (
   open-brace-reads.Asked,
   open-brace-reads.Learnt,
@@ -459,7 +415,7 @@ braced-same-length-2 : (t : ℕ) → braced-lts.Need-same-length-2 (
 ) (braced-at t) braced.Post
 braced-same-length-2 t c = search needs
 
--- src/lib.rt:235:1
+-- src/lib.rt:228:1
 braced-returns-2 : (t : ℕ) → braced-lts.Need-returns-2 (
   open-brace-reads.Asked,
   open-brace-reads.Learnt,
@@ -472,7 +428,7 @@ braced-returns-2 : (t : ℕ) → braced-lts.Need-returns-2 (
 ) (braced-at t) braced.Post
 braced-returns-2 t c = braced-refused _ _ (c .before .before .before .before .before .before .before .before .before .before .before .before .before .before .before .before .before .args .f) _ _ _ [] [] [] (rw (c .before .before .before .before .before .before .before .before .before .before .a .given .1) at (c .before .before .before .before .before .before .before .before .before .before .before .before .open-brace .ensures)) _ _ (rw (c .before .before .before .before .before .before .inner .ensures, c .before .k .given .1) at (c .before .before .before .before .before .body .ensures))
 
--- src/lib.rt:235:1
+-- src/lib.rt:228:1
 braced-returns-3 : (t : ℕ) → braced-lts.Need-returns-3 (
   open-brace-reads.Asked,
   open-brace-reads.Learnt,
@@ -491,7 +447,7 @@ choice-Inv-loop table unpacked n s rows₀ f g₀ rows g = Choosing (schemaAt ta
 abbrev choice-μ-loop : choice-lts.MeasureT-loop
 choice-μ-loop table unpacked n s rows₀ f g₀ rows g = length s - g .at
 
--- src/lib.rt:210:5
+-- src/lib.rt:203:5
 choice-loop-holds : (t : ℕ) → choice-lts.Need-loop-holds (
   core-reads.Asked,
   core-reads.Learnt,
@@ -512,7 +468,7 @@ choice-loop-holds : (t : ℕ) → choice-lts.Need-loop-holds (
 ) (choice-at t) choice.Post choice-Inv-loop choice-μ-loop
 choice-loop-holds t c = choosing-start _ _ _ _ _ (c .before .before .before .before .pre .1 .0) (c .before .before .before .before .pre .1 .1)
 
--- src/lib.rt:211:13
+-- src/lib.rt:204:13
 choice-core-requires : (t : ℕ) → choice-lts.Need-core-requires (
   core-reads.Asked,
   core-reads.Learnt,
@@ -533,7 +489,7 @@ choice-core-requires : (t : ℕ) → choice-lts.Need-core-requires (
 ) (choice-at t) choice.Post choice-Inv-loop choice-μ-loop
 choice-core-requires t c κs = search needs
 
--- src/lib.rt:212:13
+-- src/lib.rt:205:13
 choice-is-union-requires : (t : ℕ) → choice-lts.Need-is-union-requires (
   core-reads.Asked,
   core-reads.Learnt,
@@ -554,7 +510,7 @@ choice-is-union-requires : (t : ℕ) → choice-lts.Need-is-union-requires (
 ) (choice-at t) choice.Post choice-Inv-loop choice-μ-loop
 choice-is-union-requires t c κs = search needs
 
--- src/lib.rt:213:17
+-- src/lib.rt:206:17
 choice-value-requires : (t : ℕ) → choice-lts.Need-value-requires (
   core-reads.Asked,
   core-reads.Learnt,
@@ -575,7 +531,7 @@ choice-value-requires : (t : ℕ) → choice-lts.Need-value-requires (
 ) (choice-at t) choice.Post choice-Inv-loop choice-μ-loop
 choice-value-requires t c κs = let r = (choosing-room (c .before .before .before .before .loop .inv)) in omega (arith, r, c .before .before .before .before .loop .inv .down .named, choosing-depth (c .before .before .before .before .loop .inv))
 
--- src/lib.rt:214:13
+-- src/lib.rt:207:13
 choice-close-chain-requires : (t : ℕ) → choice-lts.Need-close-chain-requires (
   core-reads.Asked,
   core-reads.Learnt,
@@ -596,7 +552,7 @@ choice-close-chain-requires : (t : ℕ) → choice-lts.Need-close-chain-requires
 ) (choice-at t) choice.Post choice-Inv-loop choice-μ-loop
 choice-close-chain-requires t c κs = let r = (choosing-room (c .before .before .before .before .before .before .before .before .loop .inv)) in omega (arith, r, plain-fits _ _ _ _ _ _ (c .before .before .before .value .result) (c .before .before .before .before .before .before .before .core .ensures) (sym (c .before .before .before .before .before .before .is-union .ensures) ∙ not-true _ (c .before .before .before .before .before .if1 .taken)) (c .before .before .before .value .ensures), c .before .before .before .before .before .before .before .before .before .before .before .before .before .pre .1 .0)
 
--- src/lib.rt:214:13
+-- src/lib.rt:207:13
 choice-same-length : (t : ℕ) → choice-lts.Need-same-length (
   core-reads.Asked,
   core-reads.Learnt,
@@ -617,7 +573,7 @@ choice-same-length : (t : ℕ) → choice-lts.Need-same-length (
 ) (choice-at t) choice.Post choice-Inv-loop choice-μ-loop
 choice-same-length t c = search needs
 
--- src/lib.rt:214:13
+-- src/lib.rt:207:13
 choice-returns : (t : ℕ) → choice-lts.Need-returns (
   core-reads.Asked,
   core-reads.Learnt,
@@ -638,7 +594,7 @@ choice-returns : (t : ℕ) → choice-lts.Need-returns (
 ) (choice-at t) choice.Post choice-Inv-loop choice-μ-loop
 choice-returns t c = choosing-value (c .before .before .before .before .before .before .before .before .before .before .before .loop .inv) _ _ _ _ (c .before .before .before .before .before .before .value .result) (c .before .before .before .before .before .before .before .before .before .before .core .ensures) (sym (c .before .before .before .before .before .before .before .before .before .is-union .ensures) ∙ not-true _ (c .before .before .before .before .before .before .before .before .if1 .taken)) (c .before .before .before .before .before .before .value .ensures) (c .before .before .close-chain .ensures .0) (c .before .before .close-chain .ensures .1)
 
--- src/lib.rt:216:15
+-- src/lib.rt:209:15
 choice-choose-requires : (t : ℕ) → choice-lts.Need-choose-requires (
   core-reads.Asked,
   core-reads.Learnt,
@@ -659,7 +615,7 @@ choice-choose-requires : (t : ℕ) → choice-lts.Need-choose-requires (
 ) (choice-at t) choice.Post choice-Inv-loop choice-μ-loop
 choice-choose-requires t c κs = let r = (choosing-room (c .before .before .before .loop .inv)) in omega (arith, r)
 
--- src/lib.rt:217:28
+-- src/lib.rt:210:28
 choice-enum-known-q : (t : ℕ) → choice-lts.Need-enum-known-q (
   core-reads.Asked,
   core-reads.Learnt,
@@ -680,7 +636,7 @@ choice-enum-known-q : (t : ℕ) → choice-lts.Need-enum-known-q (
 ) (choice-at t) choice.Post choice-Inv-loop choice-μ-loop
 choice-enum-known-q t c = search needs
 
--- src/lib.rt:218:17
+-- src/lib.rt:211:17
 choice-open-row-requires : (t : ℕ) → choice-lts.Need-open-row-requires (
   core-reads.Asked,
   core-reads.Learnt,
@@ -701,7 +657,7 @@ choice-open-row-requires : (t : ℕ) → choice-lts.Need-open-row-requires (
 ) (choice-at t) choice.Post choice-Inv-loop choice-μ-loop
 choice-open-row-requires t c κs = let r = (choosing-room (c .before .before .before .before .before .before .before .before .loop .inv)) in let d = deeper-less (c .before .before .before .before .before .before .before .before .loop .inv) _ _ _ _ (rw (c .before .before .q .given .1) at (c .before .before .before .before .choose .ensures)) in omega (arith, r, d, c .before .before .before .before .before .before .before .before .loop .inv .down .named)
 
--- src/lib.rt:219:17
+-- src/lib.rt:212:17
 choice-under-requires : (t : ℕ) → choice-lts.Need-under-requires (
   core-reads.Asked,
   core-reads.Learnt,
@@ -722,7 +678,7 @@ choice-under-requires : (t : ℕ) → choice-lts.Need-under-requires (
 ) (choice-at t) choice.Post choice-Inv-loop choice-μ-loop
 choice-under-requires t c κs = let r = (choosing-room (c .before .before .before .before .before .before .before .before .before .before .before .loop .inv)) in omega (arith, r)
 
--- src/lib.rt:210:5
+-- src/lib.rt:203:5
 choice-loop-less : (t : ℕ) → choice-lts.Need-loop-less (
   core-reads.Asked,
   core-reads.Learnt,
@@ -743,7 +699,7 @@ choice-loop-less : (t : ℕ) → choice-lts.Need-loop-less (
 ) (choice-at t) choice.Post choice-Inv-loop choice-μ-loop
 choice-loop-less t c = let d = deeper-less (c .before .before .before .before .before .before .before .before .before .before .before .before .loop .inv) _ _ _ _ (rw (c .before .before .before .before .before .before .q .given .1) at (c .before .before .before .before .before .before .before .before .choose .ensures)) in rw (c .under .ensures) (omega (arith, d))
 
--- src/lib.rt:210:5
+-- src/lib.rt:203:5
 choice-loop-again : (t : ℕ) → choice-lts.Need-loop-again (
   core-reads.Asked,
   core-reads.Learnt,
@@ -764,7 +720,7 @@ choice-loop-again : (t : ℕ) → choice-lts.Need-loop-again (
 ) (choice-at t) choice.Post choice-Inv-loop choice-μ-loop
 choice-loop-again t c = choosing-on (c .before .before .before .before .before .before .before .before .before .before .before .before .loop .inv) _ _ _ _ _ _ (c .before .before .before .before .before .before .before .before .before .before .before .core .ensures) (sym (c .before .before .before .before .before .before .before .before .before .before .is-union .ensures) ∙ not-false _ (c .before .before .before .before .before .before .before .before .before .if1 .left)) (rw (c .before .before .before .before .before .before .q .given .1) at (c .before .before .before .before .before .before .before .before .choose .ensures)) (c .before .before .before .open-row .ensures) (c .under .ensures)
 
--- src/lib.rt:221:26
+-- src/lib.rt:214:26
 choice-enum-known-q-2 : (t : ℕ) → choice-lts.Need-enum-known-q-2 (
   core-reads.Asked,
   core-reads.Learnt,
@@ -785,7 +741,7 @@ choice-enum-known-q-2 : (t : ℕ) → choice-lts.Need-enum-known-q-2 (
 ) (choice-at t) choice.Post choice-Inv-loop choice-μ-loop
 choice-enum-known-q-2 t c = search needs
 
--- src/lib.rt:222:21
+-- src/lib.rt:215:21
 choice-whole-requires : (t : ℕ) → choice-lts.Need-whole-requires (
   core-reads.Asked,
   core-reads.Learnt,
@@ -806,7 +762,7 @@ choice-whole-requires : (t : ℕ) → choice-lts.Need-whole-requires (
 ) (choice-at t) choice.Post choice-Inv-loop choice-μ-loop
 choice-whole-requires t c κs = let r = (choosing-room (c .before .before .before .before .before .before .before .before .loop .inv)) in let w = (rw (c .before .before .q2 .given .1) at (c .before .before .before .before .choose .ensures)) in omega (arith, r, w .step .less, w .step .within, w .below, c .before .before .before .before .before .before .before .before .loop .inv .down .named)
 
--- src/lib.rt:223:17
+-- src/lib.rt:216:17
 choice-close-chain-requires-2 : (t : ℕ) → choice-lts.Need-close-chain-requires-2 (
   core-reads.Asked,
   core-reads.Learnt,
@@ -827,7 +783,7 @@ choice-close-chain-requires-2 : (t : ℕ) → choice-lts.Need-close-chain-requir
 ) (choice-at t) choice.Post choice-Inv-loop choice-μ-loop
 choice-close-chain-requires-2 t c κs = let r = (choosing-room (c .before .before .before .before .before .before .before .before .before .before .before .before .loop .inv)) in let w = (rw (c .before .before .before .before .before .before .q2 .given .1) at (c .before .before .before .before .before .before .before .before .choose .ensures)) in omega (arith, r, w .step .within, c .before .before .before .before .before .before .before .before .before .before .before .before .before .before .before .before .before .pre .1 .0, whole-fits _ _ _ _ _ _ (c .before .before .before .whole .result) (c .before .before .before .whole .ensures))
 
--- src/lib.rt:223:17
+-- src/lib.rt:216:17
 choice-same-length-2 : (t : ℕ) → choice-lts.Need-same-length-2 (
   core-reads.Asked,
   core-reads.Learnt,
@@ -848,7 +804,7 @@ choice-same-length-2 : (t : ℕ) → choice-lts.Need-same-length-2 (
 ) (choice-at t) choice.Post choice-Inv-loop choice-μ-loop
 choice-same-length-2 t c = search needs
 
--- src/lib.rt:223:17
+-- src/lib.rt:216:17
 choice-returns-2 : (t : ℕ) → choice-lts.Need-returns-2 (
   core-reads.Asked,
   core-reads.Learnt,
@@ -869,7 +825,7 @@ choice-returns-2 : (t : ℕ) → choice-lts.Need-returns-2 (
 ) (choice-at t) choice.Post choice-Inv-loop choice-μ-loop
 choice-returns-2 t c = choosing-whole (c .before .before .before .before .before .before .before .before .before .before .before .before .before .before .before .loop .inv) _ _ _ _ _ _ _ (c .before .before .before .before .before .before .whole .result) (c .before .before .before .before .before .before .before .before .before .before .before .before .before .before .core .ensures) (sym (c .before .before .before .before .before .before .before .before .before .before .before .before .before .is-union .ensures) ∙ not-false _ (c .before .before .before .before .before .before .before .before .before .before .before .before .if1 .left)) (rw (c .before .before .before .before .before .before .before .before .before .q2 .given .1) at (c .before .before .before .before .before .before .before .before .before .before .before .choose .ensures)) (c .before .before .before .before .before .before .whole .ensures) (c .before .before .close-chain2 .ensures .0) (c .before .before .close-chain2 .ensures .1)
 
--- src/lib.rt:225:29
+-- src/lib.rt:218:29
 choice-enum-known-k : (t : ℕ) → choice-lts.Need-enum-known-k (
   core-reads.Asked,
   core-reads.Learnt,
@@ -890,7 +846,7 @@ choice-enum-known-k : (t : ℕ) → choice-lts.Need-enum-known-k (
 ) (choice-at t) choice.Post choice-Inv-loop choice-μ-loop
 choice-enum-known-k t c = search needs
 
--- src/lib.rt:226:17
+-- src/lib.rt:219:17
 choice-same-length-3 : (t : ℕ) → choice-lts.Need-same-length-3 (
   core-reads.Asked,
   core-reads.Learnt,
@@ -911,7 +867,7 @@ choice-same-length-3 : (t : ℕ) → choice-lts.Need-same-length-3 (
 ) (choice-at t) choice.Post choice-Inv-loop choice-μ-loop
 choice-same-length-3 t c = search needs
 
--- src/lib.rt:226:17
+-- src/lib.rt:219:17
 choice-returns-3 : (t : ℕ) → choice-lts.Need-returns-3 (
   core-reads.Asked,
   core-reads.Learnt,
@@ -932,7 +888,7 @@ choice-returns-3 : (t : ℕ) → choice-lts.Need-returns-3 (
 ) (choice-at t) choice.Post choice-Inv-loop choice-μ-loop
 choice-returns-3 t c = choosing-stopped (c .before .before .before .before .before .before .before .loop .inv) _ _ _ (c .before .before .before .before .before .before .core .ensures) (sym (c .before .before .before .before .before .is-union .ensures) ∙ not-false _ (c .before .before .before .before .if1 .left)) (rw (c .before .k .given .1) at (c .before .before .before .choose .ensures))
 
--- src/lib.rt:328:11
+-- src/lib.rt:321:11
 element-list-value-requires : (t : ℕ) → element-lts.Need-list-value-requires (
   list-value-below t,
   list-value.Post,
@@ -941,7 +897,7 @@ element-list-value-requires : (t : ℕ) → element-lts.Need-list-value-requires
 ) (element-at t) element.Post
 element-list-value-requires t c κs = (omega arith, c .before .before .before .before .before .pre .1)
 
--- src/lib.rt:329:19
+-- src/lib.rt:322:19
 element-enum-known-v : (t : ℕ) → element-lts.Need-enum-known-v (
   list-value-below t,
   list-value.Post,
@@ -950,7 +906,7 @@ element-enum-known-v : (t : ℕ) → element-lts.Need-enum-known-v (
 ) (element-at t) element.Post
 element-enum-known-v t c = search needs
 
--- src/lib.rt:330:21
+-- src/lib.rt:323:21
 element-enum-known-v-2 : (t : ℕ) → element-lts.Need-enum-known-v-2 (
   list-value-below t,
   list-value.Post,
@@ -959,7 +915,7 @@ element-enum-known-v-2 : (t : ℕ) → element-lts.Need-enum-known-v-2 (
 ) (element-at t) element.Post
 element-enum-known-v-2 t c = search needs
 
--- src/lib.rt:338:13
+-- src/lib.rt:331:13
 element-add-after-value : (t : ℕ) → element-lts.Need-add-after-value (
   list-value-below t,
   list-value.Post,
@@ -968,7 +924,7 @@ element-add-after-value : (t : ℕ) → element-lts.Need-add-after-value (
 ) (element-at t) element.Post
 element-add-after-value t c = omega (arith, c .before .before .before .before .before .before .before .before .before .before .before .pre .1 .1)
 
--- src/lib.rt:330:36
+-- src/lib.rt:323:36
 element-after-value-requires : (t : ℕ) → element-lts.Need-after-value-requires (
   list-value-below t,
   list-value.Post,
@@ -977,7 +933,7 @@ element-after-value-requires : (t : ℕ) → element-lts.Need-after-value-requir
 ) (element-at t) element.Post
 element-after-value-requires t c κs = omega (arith, c .before .before .before .before .before .before .before .before .before .before .before .pre .1 .0 .short)
 
--- src/lib.rt:340:25
+-- src/lib.rt:333:25
 element-enum-known-w : (t : ℕ) → element-lts.Need-enum-known-w (
   list-value-below t,
   list-value.Post,
@@ -986,7 +942,7 @@ element-enum-known-w : (t : ℕ) → element-lts.Need-enum-known-w (
 ) (element-at t) element.Post
 element-enum-known-w t c = search needs
 
--- src/lib.rt:341:28
+-- src/lib.rt:334:28
 element-enum-told : (t : ℕ) → element-lts.Need-enum-told (
   list-value-below t,
   list-value.Post,
@@ -995,7 +951,7 @@ element-enum-told : (t : ℕ) → element-lts.Need-enum-told (
 ) (element-at t) element.Post
 element-enum-told t c = search needs
 
--- src/lib.rt:342:28
+-- src/lib.rt:335:28
 element-enum-known-k : (t : ℕ) → element-lts.Need-enum-known-k (
   list-value-below t,
   list-value.Post,
@@ -1004,7 +960,7 @@ element-enum-known-k : (t : ℕ) → element-lts.Need-enum-known-k (
 ) (element-at t) element.Post
 element-enum-known-k t c = search needs
 
--- src/lib.rt:344:24
+-- src/lib.rt:337:24
 element-enum-known-k-2 : (t : ℕ) → element-lts.Need-enum-known-k-2 (
   list-value-below t,
   list-value.Post,
@@ -1013,7 +969,7 @@ element-enum-known-k-2 : (t : ℕ) → element-lts.Need-enum-known-k-2 (
 ) (element-at t) element.Post
 element-enum-known-k-2 t c = search needs
 
--- src/lib.rt:313:1
+-- src/lib.rt:306:1
 element-same-length : (t : ℕ) → element-lts.Need-same-length (
   list-value-below t,
   list-value.Post,
@@ -1022,7 +978,7 @@ element-same-length : (t : ℕ) → element-lts.Need-same-length (
 ) (element-at t) element.Post
 element-same-length t c = search needs
 
--- src/lib.rt:313:1
+-- src/lib.rt:306:1
 element-returns : (t : ℕ) → element-lts.Need-returns (
   list-value-below t,
   list-value.Post,
@@ -1031,7 +987,7 @@ element-returns : (t : ℕ) → element-lts.Need-returns (
 ) (element-at t) element.Post
 element-returns t c = rw (c .before .v .given .1) at (c .before .before .before .before .before .list-value .ensures)
 
--- src/lib.rt:313:1
+-- src/lib.rt:306:1
 element-same-length-2 : (t : ℕ) → element-lts.Need-same-length-2 (
   list-value-below t,
   list-value.Post,
@@ -1040,7 +996,7 @@ element-same-length-2 : (t : ℕ) → element-lts.Need-same-length-2 (
 ) (element-at t) element.Post
 element-same-length-2 t c = search needs
 
--- src/lib.rt:313:1
+-- src/lib.rt:306:1
 element-returns-2 : (t : ℕ) → element-lts.Need-returns-2 (
   list-value-below t,
   list-value.Post,
@@ -1049,7 +1005,7 @@ element-returns-2 : (t : ℕ) → element-lts.Need-returns-2 (
 ) (element-at t) element.Post
 element-returns-2 t c = element-more _ _ (c .before .before .before .before .before .before .before .before .before .before .before .before .before .before .before .args .f) _ _ _ _ _ (rw (c .before .before .before .before .before .v2 .given .1) at (c .before .before .before .before .before .before .before .before .before .list-value .ensures)) _ (rw (c .before .w .given .1) at (c .before .before .before .after-value .ensures))
 
--- src/lib.rt:313:1
+-- src/lib.rt:306:1
 element-same-length-3 : (t : ℕ) → element-lts.Need-same-length-3 (
   list-value-below t,
   list-value.Post,
@@ -1058,7 +1014,7 @@ element-same-length-3 : (t : ℕ) → element-lts.Need-same-length-3 (
 ) (element-at t) element.Post
 element-same-length-3 t c = search needs
 
--- src/lib.rt:313:1
+-- src/lib.rt:306:1
 element-returns-3 : (t : ℕ) → element-lts.Need-returns-3 (
   list-value-below t,
   list-value.Post,
@@ -1067,7 +1023,7 @@ element-returns-3 : (t : ℕ) → element-lts.Need-returns-3 (
 ) (element-at t) element.Post
 element-returns-3 t c = element-last _ _ (c .before .before .before .before .before .before .before .before .before .before .before .before .before .before .args .f) _ _ _ _ _ (rw (c .before .before .before .before .v2 .given .1) at (c .before .before .before .before .before .before .before .before .list-value .ensures)) (rw (c .enum-told .given .1) at (c .before .before .after-value .ensures))
 
--- src/lib.rt:313:1
+-- src/lib.rt:306:1
 element-same-length-4 : (t : ℕ) → element-lts.Need-same-length-4 (
   list-value-below t,
   list-value.Post,
@@ -1076,7 +1032,7 @@ element-same-length-4 : (t : ℕ) → element-lts.Need-same-length-4 (
 ) (element-at t) element.Post
 element-same-length-4 t c = search needs
 
--- src/lib.rt:313:1
+-- src/lib.rt:306:1
 element-returns-4 : (t : ℕ) → element-lts.Need-returns-4 (
   list-value-below t,
   list-value.Post,
@@ -1085,7 +1041,7 @@ element-returns-4 : (t : ℕ) → element-lts.Need-returns-4 (
 ) (element-at t) element.Post
 element-returns-4 t c = element-after _ _ (c .before .before .before .before .before .before .before .before .before .before .before .before .before .before .before .args .f) _ _ _ _ _ (rw (c .before .before .before .before .before .v2 .given .1) at (c .before .before .before .before .before .before .before .before .before .list-value .ensures)) _ _ (rw (c .before .k .given .1) at (c .before .before .before .after-value .ensures))
 
--- src/lib.rt:313:1
+-- src/lib.rt:306:1
 element-same-length-5 : (t : ℕ) → element-lts.Need-same-length-5 (
   list-value-below t,
   list-value.Post,
@@ -1094,7 +1050,7 @@ element-same-length-5 : (t : ℕ) → element-lts.Need-same-length-5 (
 ) (element-at t) element.Post
 element-same-length-5 t c = search needs
 
--- src/lib.rt:313:1
+-- src/lib.rt:306:1
 element-returns-5 : (t : ℕ) → element-lts.Need-returns-5 (
   list-value-below t,
   list-value.Post,
@@ -1103,874 +1059,356 @@ element-returns-5 : (t : ℕ) → element-lts.Need-returns-5 (
 ) (element-at t) element.Post
 element-returns-5 t c = element-refused _ _ (c .before .before .before .before .before .before .before .before .before .before .before .args .f) _ _ _ (rw (c .before .k2 .given .1) at (c .before .before .before .before .before .list-value .ensures))
 
--- src/lib.rt:457:11
-field-field-at-requires : (t : ℕ) → field-lts.Need-field-at-requires (
-  field-at-reads.Asked,
-  field-at-reads.Learnt,
-  list-below t,
-  list.Post,
-) (field-at t) field.Post
-field-field-at-requires t c κs = omega (arith, c .before .before .before .before .pre .1 .0 .short)
-
--- src/lib.rt:458:54
-field-enum-told : (t : ℕ) → field-lts.Need-enum-told (
-  field-at-reads.Asked,
-  field-at-reads.Learnt,
-  list-below t,
-  list.Post,
-) (field-at t) field.Post
-field-enum-told t c = search needs
-
--- src/lib.rt:458:30
-field-list-requires : (t : ℕ) → field-lts.Need-list-requires (
-  field-at-reads.Asked,
-  field-at-reads.Learnt,
-  list-below t,
-  list.Post,
-) (field-at t) field.Post
-field-list-requires t c κs = omega (arith, c .before .before .before .before .before .before .before .before .pre .1)
-
--- src/lib.rt:459:23
-field-enum-known-v : (t : ℕ) → field-lts.Need-enum-known-v (
-  field-at-reads.Asked,
-  field-at-reads.Learnt,
-  list-below t,
-  list.Post,
-) (field-at t) field.Post
-field-enum-known-v t c = search needs
-
--- src/lib.rt:460:26
-field-enum-known-k : (t : ℕ) → field-lts.Need-enum-known-k (
-  field-at-reads.Asked,
-  field-at-reads.Learnt,
-  list-below t,
-  list.Post,
-) (field-at t) field.Post
-field-enum-known-k t c = search needs
-
--- src/lib.rt:462:43
-field-enum-told-2 : (t : ℕ) → field-lts.Need-enum-told-2 (
-  field-at-reads.Asked,
-  field-at-reads.Learnt,
-  list-below t,
-  list.Post,
-) (field-at t) field.Post
-field-enum-told-2 t c = search needs
-
--- src/lib.rt:463:24
-field-enum-known-k-2 : (t : ℕ) → field-lts.Need-enum-known-k-2 (
-  field-at-reads.Asked,
-  field-at-reads.Learnt,
-  list-below t,
-  list.Post,
-) (field-at t) field.Post
-field-enum-known-k-2 t c = search needs
-
--- src/lib.rt:444:1
-field-same-length : (t : ℕ) → field-lts.Need-same-length (
-  field-at-reads.Asked,
-  field-at-reads.Learnt,
-  list-below t,
-  list.Post,
-) (field-at t) field.Post
-field-same-length t c = search needs
-
--- src/lib.rt:444:1
-field-returns : (t : ℕ) → field-lts.Need-returns (
-  field-at-reads.Asked,
-  field-at-reads.Learnt,
-  list-below t,
-  list.Post,
-) (field-at t) field.Post
-field-returns t c = λ p qs. field-on _ _ (c .before .before .before .before .before .before .before .before .before .before .before .before .before .before .args .f) _ _ _ p qs ((rw (c .before .before .before .before .before .before .before .enum-told .given .1) at (c .before .before .before .before .before .before .before .before .before .field-at .ensures)) _ p qs) _ _ (rw (c .before .v .given .1) at (c .before .before .before .before .before .list .ensures))
-
--- src/lib.rt:444:1
-field-same-length-2 : (t : ℕ) → field-lts.Need-same-length-2 (
-  field-at-reads.Asked,
-  field-at-reads.Learnt,
-  list-below t,
-  list.Post,
-) (field-at t) field.Post
-field-same-length-2 t c = search needs
-
--- src/lib.rt:444:1
-field-returns-2 : (t : ℕ) → field-lts.Need-returns-2 (
-  field-at-reads.Asked,
-  field-at-reads.Learnt,
-  list-below t,
-  list.Post,
-) (field-at t) field.Post
-field-returns-2 t c = λ p qs. field-refused _ _ (c .before .before .before .before .before .before .before .before .before .before .before .before .before .before .args .f) _ [] [] p qs ((rw (c .before .before .before .before .before .before .before .enum-told .given .1) at (c .before .before .before .before .before .before .before .before .before .field-at .ensures)) _ p qs) _ _ (rw (c .before .k .given .1) at (c .before .before .before .before .before .list .ensures))
-
--- src/lib.rt:444:1
-field-returns-3 : (t : ℕ) → field-lts.Need-returns-3 (
-  field-at-reads.Asked,
-  field-at-reads.Learnt,
-  list-below t,
-  list.Post,
-) (field-at t) field.Post
-field-returns-3 t c = λ p qs. field-none _ _ (c .before .before .before .before .before .before .before .args .f) _ _ p qs ((rw (c .enum-told2 .given .1) at (c .before .before .field-at .ensures)) _ p qs) (c .before .before .before .before .before .before .before .pre .1 .0 .here)
-
--- src/lib.rt:444:1
-field-returns-4 : (t : ℕ) → field-lts.Need-returns-4 (
-  field-at-reads.Asked,
-  field-at-reads.Learnt,
-  list-below t,
-  list.Post,
-) (field-at t) field.Post
-field-returns-4 t c = λ p qs. (rw (c .before .k2 .given .1) at (c .before .before .before .field-at .ensures)) _ p qs
-
 abbrev fields-Inv-loop : fields-lts.InvT-loop
-fields-Inv-loop table unpacked n s rows₀ inside g₀ i₀ rows g i = Fielding table unpacked n s g₀ g inside rows₀ rows i
+fields-Inv-loop table unpacked n s rows₀ inside seen₀ g₀ i₀ rows seen g i = Bodying (schemaAt table unpacked n) s g₀ g inside rows₀ rows seen (untaggedFrom table unpacked n (g .parameter) i)
 
 abbrev fields-μ-loop : fields-lts.MeasureT-loop
-fields-μ-loop table unpacked n s rows₀ inside g₀ i₀ rows g i = n - i
+fields-μ-loop table unpacked n s rows₀ inside seen₀ g₀ i₀ rows seen g i = length s - g .at
 
--- src/lib.rt:482:5
+-- src/lib.rt:462:20
+fields-no-marks-requires : (t : ℕ) → fields-lts.Need-no-marks-requires (
+  no-marks-reads.Asked,
+  no-marks-reads.Learnt,
+  next-part-reads.Asked,
+  next-part-reads.Learnt,
+  for-field-reads.Asked,
+  for-field-reads.Learnt,
+  list-below t,
+  list.Post,
+  moved-reads.Asked,
+  moved-reads.Learnt,
+) (fields-at t) fields.Post fields-Inv-loop fields-μ-loop
+fields-no-marks-requires t c κs = search needs
+
+-- src/lib.rt:465:5
 fields-loop-holds : (t : ℕ) → fields-lts.Need-loop-holds (
-  next-untagged-reads.Asked,
-  next-untagged-reads.Learnt,
-  items-below t,
-  items.Post,
+  no-marks-reads.Asked,
+  no-marks-reads.Learnt,
+  next-part-reads.Asked,
+  next-part-reads.Learnt,
   for-field-reads.Asked,
   for-field-reads.Learnt,
-  field-below t,
-  field.Post,
+  list-below t,
+  list.Post,
   moved-reads.Asked,
   moved-reads.Learnt,
 ) (fields-at t) fields.Post fields-Inv-loop fields-μ-loop
-fields-loop-holds t c = fielding-start _ _ _ _ _ _ _ (c .before .before .before .before .pre .1 .here)
+fields-loop-holds t c = bodying-start _ _ _ _ _ _ _ _ (c .no-marks .ensures) (c .before .before .before .before .before .pre .1 .here)
 
--- src/lib.rt:483:15
-fields-next-untagged-requires : (t : ℕ) → fields-lts.Need-next-untagged-requires (
-  next-untagged-reads.Asked,
-  next-untagged-reads.Learnt,
-  items-below t,
-  items.Post,
+-- src/lib.rt:466:15
+fields-next-part-requires : (t : ℕ) → fields-lts.Need-next-part-requires (
+  no-marks-reads.Asked,
+  no-marks-reads.Learnt,
+  next-part-reads.Asked,
+  next-part-reads.Learnt,
   for-field-reads.Asked,
   for-field-reads.Learnt,
-  field-below t,
-  field.Post,
+  list-below t,
+  list.Post,
   moved-reads.Asked,
   moved-reads.Learnt,
 ) (fields-at t) fields.Post fields-Inv-loop fields-μ-loop
-fields-next-untagged-requires t c κs = search needs
+fields-next-part-requires t c κs = (bodying-room (c .before .before .loop .inv) _ (c .before .before .before .before .before .before .before .before .pre .1), record { ks = c .before .before .loop .inv .seen; marks = c .before .before .loop .inv .marked })
 
--- src/lib.rt:485:49
-fields-enum-told : (t : ℕ) → fields-lts.Need-enum-told (
-  next-untagged-reads.Asked,
-  next-untagged-reads.Learnt,
-  items-below t,
-  items.Post,
-  for-field-reads.Asked,
-  for-field-reads.Learnt,
-  field-below t,
-  field.Post,
-  moved-reads.Asked,
-  moved-reads.Learnt,
-) (fields-at t) fields.Post fields-Inv-loop fields-μ-loop
-fields-enum-told t c = search needs
-
--- src/lib.rt:485:17
-fields-items-requires : (t : ℕ) → fields-lts.Need-items-requires (
-  next-untagged-reads.Asked,
-  next-untagged-reads.Learnt,
-  items-below t,
-  items.Post,
-  for-field-reads.Asked,
-  for-field-reads.Learnt,
-  field-below t,
-  field.Post,
-  moved-reads.Asked,
-  moved-reads.Learnt,
-) (fields-at t) fields.Post fields-Inv-loop fields-μ-loop
-fields-items-requires t c κs = let r = (fielding-room (c .before .before .before .before .loop .inv) (c .before .before .before .before .before .before .before .before .before .pre .1)) in omega (arith, r, fielding-depth (c .before .before .before .before .loop .inv))
-
--- src/lib.rt:485:17
-fields-same-length : (t : ℕ) → fields-lts.Need-same-length (
-  next-untagged-reads.Asked,
-  next-untagged-reads.Learnt,
-  items-below t,
-  items.Post,
-  for-field-reads.Asked,
-  for-field-reads.Learnt,
-  field-below t,
-  field.Post,
-  moved-reads.Asked,
-  moved-reads.Learnt,
-) (fields-at t) fields.Post fields-Inv-loop fields-μ-loop
-fields-same-length t c = search needs
-
--- src/lib.rt:485:17
-fields-returns : (t : ℕ) → fields-lts.Need-returns (
-  next-untagged-reads.Asked,
-  next-untagged-reads.Learnt,
-  items-below t,
-  items.Post,
-  for-field-reads.Asked,
-  for-field-reads.Learnt,
-  field-below t,
-  field.Post,
-  moved-reads.Asked,
-  moved-reads.Learnt,
-) (fields-at t) fields.Post fields-Inv-loop fields-μ-loop
-fields-returns t c = fielding-items (c .before .before .before .before .before .before .before .loop .inv) _ (c .before .before .items .result) (found-none (c .before .before .before .before .before .before .next-untagged .result) _ (c .before .before .before .before .enum-told .given .1) (c .before .before .before .before .before .before .next-untagged .ensures)) (c .before .before .items .ensures)
-
--- src/lib.rt:487:23
+-- src/lib.rt:467:24
 fields-enum-known-q : (t : ℕ) → fields-lts.Need-enum-known-q (
-  next-untagged-reads.Asked,
-  next-untagged-reads.Learnt,
-  items-below t,
-  items.Post,
+  no-marks-reads.Asked,
+  no-marks-reads.Learnt,
+  next-part-reads.Asked,
+  next-part-reads.Learnt,
   for-field-reads.Asked,
   for-field-reads.Learnt,
-  field-below t,
-  field.Post,
+  list-below t,
+  list.Post,
   moved-reads.Asked,
   moved-reads.Learnt,
 ) (fields-at t) fields.Post fields-Inv-loop fields-μ-loop
 fields-enum-known-q t c = search needs
 
--- src/lib.rt:487:66
+-- src/lib.rt:468:21
 fields-for-field-requires : (t : ℕ) → fields-lts.Need-for-field-requires (
-  next-untagged-reads.Asked,
-  next-untagged-reads.Learnt,
-  items-below t,
-  items.Post,
+  no-marks-reads.Asked,
+  no-marks-reads.Learnt,
+  next-part-reads.Asked,
+  next-part-reads.Learnt,
   for-field-reads.Asked,
   for-field-reads.Learnt,
-  field-below t,
-  field.Post,
+  list-below t,
+  list.Post,
   moved-reads.Asked,
   moved-reads.Learnt,
 ) (fields-at t) fields.Post fields-Inv-loop fields-μ-loop
 fields-for-field-requires t c κs = search needs
 
--- src/lib.rt:487:35
-fields-field-requires : (t : ℕ) → fields-lts.Need-field-requires (
-  next-untagged-reads.Asked,
-  next-untagged-reads.Learnt,
-  items-below t,
-  items.Post,
+-- src/lib.rt:469:23
+fields-list-requires : (t : ℕ) → fields-lts.Need-list-requires (
+  no-marks-reads.Asked,
+  no-marks-reads.Learnt,
+  next-part-reads.Asked,
+  next-part-reads.Learnt,
   for-field-reads.Asked,
   for-field-reads.Learnt,
-  field-below t,
-  field.Post,
+  list-below t,
+  list.Post,
   moved-reads.Asked,
   moved-reads.Learnt,
 ) (fields-at t) fields.Post fields-Inv-loop fields-μ-loop
-fields-field-requires t c κs = let r = (fielding-room (c .before .before .before .before .before .before .loop .inv) (c .before .before .before .before .before .before .before .before .before .before .before .pre .1)) in let q = next-between _ _ _ _ _ _ (found-at (c .before .before .before .before .before .next-untagged .result) _ _ (c .before .before .before .q .given .1) (c .before .before .before .before .before .next-untagged .ensures)) in rw (c .for-field .ensures) (omega (arith, r, q, fielding-depth (c .before .before .before .before .before .before .loop .inv)))
+fields-list-requires t c κs = let r = bodying-room (c .before .before .before .before .before .before .before .before .before .before .loop .inv) _ (c .before .before .before .before .before .before .before .before .before .before .before .before .before .before .before .before .pre .1) in let d = (rw (c .before .before .before .q .given .1) at (c .before .before .before .before .before .before .before .next-part .ensures _ _ (c .before .before .before .before .before .before .before .before .before .before .loop .inv))) in rw (c .before .for-field .ensures) (omega (arith, r, d .below, d .far, d .within, bodying-depth (c .before .before .before .before .before .before .before .before .before .before .loop .inv)))
 
--- src/lib.rt:488:26
-fields-enum-known-v : (t : ℕ) → fields-lts.Need-enum-known-v (
-  next-untagged-reads.Asked,
-  next-untagged-reads.Learnt,
-  items-below t,
-  items.Post,
+-- src/lib.rt:470:31
+fields-enum-known-w : (t : ℕ) → fields-lts.Need-enum-known-w (
+  no-marks-reads.Asked,
+  no-marks-reads.Learnt,
+  next-part-reads.Asked,
+  next-part-reads.Learnt,
   for-field-reads.Asked,
   for-field-reads.Learnt,
-  field-below t,
-  field.Post,
+  list-below t,
+  list.Post,
   moved-reads.Asked,
   moved-reads.Learnt,
 ) (fields-at t) fields.Post fields-Inv-loop fields-μ-loop
-fields-enum-known-v t c = search needs
+fields-enum-known-w t c = search needs
 
--- src/lib.rt:489:21
+-- src/lib.rt:471:25
 fields-moved-requires : (t : ℕ) → fields-lts.Need-moved-requires (
-  next-untagged-reads.Asked,
-  next-untagged-reads.Learnt,
-  items-below t,
-  items.Post,
+  no-marks-reads.Asked,
+  no-marks-reads.Learnt,
+  next-part-reads.Asked,
+  next-part-reads.Learnt,
   for-field-reads.Asked,
   for-field-reads.Learnt,
-  field-below t,
-  field.Post,
+  list-below t,
+  list.Post,
   moved-reads.Asked,
   moved-reads.Learnt,
 ) (fields-at t) fields.Post fields-Inv-loop fields-μ-loop
 fields-moved-requires t c κs = search needs
 
--- src/lib.rt:490:25
-fields-add-i : (t : ℕ) → fields-lts.Need-add-i (
-  next-untagged-reads.Asked,
-  next-untagged-reads.Learnt,
-  items-below t,
-  items.Post,
-  for-field-reads.Asked,
-  for-field-reads.Learnt,
-  field-below t,
-  field.Post,
-  moved-reads.Asked,
-  moved-reads.Learnt,
-) (fields-at t) fields.Post fields-Inv-loop fields-μ-loop
-fields-add-i t c = let q = next-between _ _ _ _ _ _ (found-at (c .before .before .before .before .before .before .before .before .before .before .before .before .next-untagged .result) _ _ (c .before .before .before .before .before .before .before .before .before .before .q .given .1) (c .before .before .before .before .before .before .before .before .before .before .before .before .next-untagged .ensures)) in omega (arith, q, c .before .before .before .before .before .before .before .before .before .before .before .before .before .before .before .before .before .before .pre .1 .known)
-
--- src/lib.rt:482:5
+-- src/lib.rt:465:5
 fields-loop-less : (t : ℕ) → fields-lts.Need-loop-less (
-  next-untagged-reads.Asked,
-  next-untagged-reads.Learnt,
-  items-below t,
-  items.Post,
+  no-marks-reads.Asked,
+  no-marks-reads.Learnt,
+  next-part-reads.Asked,
+  next-part-reads.Learnt,
   for-field-reads.Asked,
   for-field-reads.Learnt,
-  field-below t,
-  field.Post,
+  list-below t,
+  list.Post,
   moved-reads.Asked,
   moved-reads.Learnt,
 ) (fields-at t) fields.Post fields-Inv-loop fields-μ-loop
-fields-loop-less t c = let q = next-between _ _ _ _ _ _ (found-at (c .before .before .before .before .before .before .before .before .before .before .before .before .next-untagged .result) _ _ (c .before .before .before .before .before .before .before .before .before .before .q .given .1) (c .before .before .before .before .before .before .before .before .before .before .before .before .next-untagged .ensures)) in omega (arith, q)
+fields-loop-less t c = let d = (rw (c .before .before .before .before .before .before .before .before .before .before .q .given .1) at (c .before .before .before .before .before .before .before .before .before .before .before .before .before .before .next-part .ensures _ _ (c .before .before .before .before .before .before .before .before .before .before .before .before .before .before .before .before .before .loop .inv))) in let l = (rw (c .before .before .before .before .before .before .before .before .for-field .ensures, c .before .before .w .given .1) at (c .before .before .before .before .before .before .list .ensures)) in rw (c .moved .ensures) (omega (arith, d .far, l .moved .far, l .moved .within))
 
--- src/lib.rt:482:5
+-- src/lib.rt:465:5
 fields-loop-again : (t : ℕ) → fields-lts.Need-loop-again (
-  next-untagged-reads.Asked,
-  next-untagged-reads.Learnt,
-  items-below t,
-  items.Post,
+  no-marks-reads.Asked,
+  no-marks-reads.Learnt,
+  next-part-reads.Asked,
+  next-part-reads.Learnt,
   for-field-reads.Asked,
   for-field-reads.Learnt,
-  field-below t,
-  field.Post,
+  list-below t,
+  list.Post,
   moved-reads.Asked,
   moved-reads.Learnt,
 ) (fields-at t) fields.Post fields-Inv-loop fields-μ-loop
-fields-loop-again t c = fielding-on (c .before .before .before .before .before .before .before .before .before .before .before .before .before .loop .inv) _ (found-at (c .before .before .before .before .before .before .before .before .before .before .before .before .next-untagged .result) _ _ (c .before .before .before .before .before .before .before .before .before .before .q .given .1) (c .before .before .before .before .before .before .before .before .before .before .before .before .next-untagged .ensures)) _ (c .before .before .before .before .before .before .field .result) (rw (c .before .before .before .before .before .before .before .for-field .ensures) at (c .before .before .before .before .before .before .field .ensures)) _ _ _ (c .before .before .v .given .1) (c .moved .ensures)
+fields-loop-again t c = rw (c .moved .ensures) ((rw (c .before .before .before .before .before .before .before .before .before .before .q .given .1) at (c .before .before .before .before .before .before .before .before .before .before .before .before .before .before .next-part .ensures _ _ (c .before .before .before .before .before .before .before .before .before .before .before .before .before .before .before .before .before .loop .inv))) .read _ _ _ (rw (c .before .before .before .before .before .before .before .before .for-field .ensures, c .before .before .w .given .1) at (c .before .before .before .before .before .before .list .ensures)))
 
--- src/lib.rt:492:27
-fields-enum-known-o : (t : ℕ) → fields-lts.Need-enum-known-o (
-  next-untagged-reads.Asked,
-  next-untagged-reads.Learnt,
-  items-below t,
-  items.Post,
+-- src/lib.rt:474:34
+fields-enum-known-k : (t : ℕ) → fields-lts.Need-enum-known-k (
+  no-marks-reads.Asked,
+  no-marks-reads.Learnt,
+  next-part-reads.Asked,
+  next-part-reads.Learnt,
   for-field-reads.Asked,
   for-field-reads.Learnt,
-  field-below t,
-  field.Post,
+  list-below t,
+  list.Post,
   moved-reads.Asked,
   moved-reads.Learnt,
 ) (fields-at t) fields.Post fields-Inv-loop fields-μ-loop
-fields-enum-known-o t c = search needs
+fields-enum-known-k t c = search needs
 
--- src/lib.rt:493:21
+-- src/lib.rt:474:43
+fields-same-length : (t : ℕ) → fields-lts.Need-same-length (
+  no-marks-reads.Asked,
+  no-marks-reads.Learnt,
+  next-part-reads.Asked,
+  next-part-reads.Learnt,
+  for-field-reads.Asked,
+  for-field-reads.Learnt,
+  list-below t,
+  list.Post,
+  moved-reads.Asked,
+  moved-reads.Learnt,
+) (fields-at t) fields.Post fields-Inv-loop fields-μ-loop
+fields-same-length t c = search needs
+
+-- src/lib.rt:474:43
+fields-returns : (t : ℕ) → fields-lts.Need-returns (
+  no-marks-reads.Asked,
+  no-marks-reads.Learnt,
+  next-part-reads.Asked,
+  next-part-reads.Learnt,
+  for-field-reads.Asked,
+  for-field-reads.Learnt,
+  list-below t,
+  list.Post,
+  moved-reads.Asked,
+  moved-reads.Learnt,
+) (fields-at t) fields.Post fields-Inv-loop fields-μ-loop
+fields-returns t c = (rw (c .before .before .before .before .before .before .before .before .before .q .given .1) at (c .before .before .before .before .before .before .before .before .before .before .before .before .before .next-part .ensures _ _ (c .before .before .before .before .before .before .before .before .before .before .before .before .before .before .before .before .loop .inv))) .refused _ _ (rw (c .before .before .before .before .before .before .before .for-field .ensures, c .before .k .given .1) at (c .before .before .before .before .before .list .ensures))
+
+-- src/lib.rt:477:22
+fields-enum-known-v : (t : ℕ) → fields-lts.Need-enum-known-v (
+  no-marks-reads.Asked,
+  no-marks-reads.Learnt,
+  next-part-reads.Asked,
+  next-part-reads.Learnt,
+  for-field-reads.Asked,
+  for-field-reads.Learnt,
+  list-below t,
+  list.Post,
+  moved-reads.Asked,
+  moved-reads.Learnt,
+) (fields-at t) fields.Post fields-Inv-loop fields-μ-loop
+fields-enum-known-v t c = search needs
+
+-- src/lib.rt:478:17
+fields-moved-requires-2 : (t : ℕ) → fields-lts.Need-moved-requires-2 (
+  no-marks-reads.Asked,
+  no-marks-reads.Learnt,
+  next-part-reads.Asked,
+  next-part-reads.Learnt,
+  for-field-reads.Asked,
+  for-field-reads.Learnt,
+  list-below t,
+  list.Post,
+  moved-reads.Asked,
+  moved-reads.Learnt,
+) (fields-at t) fields.Post fields-Inv-loop fields-μ-loop
+fields-moved-requires-2 t c κs = search needs
+
+-- src/lib.rt:465:5
+fields-loop-less-2 : (t : ℕ) → fields-lts.Need-loop-less-2 (
+  no-marks-reads.Asked,
+  no-marks-reads.Learnt,
+  next-part-reads.Asked,
+  next-part-reads.Learnt,
+  for-field-reads.Asked,
+  for-field-reads.Learnt,
+  list-below t,
+  list.Post,
+  moved-reads.Asked,
+  moved-reads.Learnt,
+) (fields-at t) fields.Post fields-Inv-loop fields-μ-loop
+fields-loop-less-2 t c = let w = (rw (c .before .before .v .given .1) at (c .before .before .before .before .before .before .next-part .ensures _ _ (c .before .before .before .before .before .before .before .before .before .loop .inv))) in rw (c .moved2 .ensures) (omega (arith, w .0, w .1 .loop .line .moved .within))
+
+-- src/lib.rt:465:5
+fields-loop-again-2 : (t : ℕ) → fields-lts.Need-loop-again-2 (
+  no-marks-reads.Asked,
+  no-marks-reads.Learnt,
+  next-part-reads.Asked,
+  next-part-reads.Learnt,
+  for-field-reads.Asked,
+  for-field-reads.Learnt,
+  list-below t,
+  list.Post,
+  moved-reads.Asked,
+  moved-reads.Learnt,
+) (fields-at t) fields.Post fields-Inv-loop fields-μ-loop
+fields-loop-again-2 t c = rw (c .moved2 .ensures, untagged-end) ((rw (c .before .before .v .given .1) at (c .before .before .before .before .before .before .next-part .ensures _ _ (c .before .before .before .before .before .before .before .before .before .loop .inv))) .1)
+
+-- src/lib.rt:481:24
+fields-enum-known-v-2 : (t : ℕ) → fields-lts.Need-enum-known-v-2 (
+  no-marks-reads.Asked,
+  no-marks-reads.Learnt,
+  next-part-reads.Asked,
+  next-part-reads.Learnt,
+  for-field-reads.Asked,
+  for-field-reads.Learnt,
+  list-below t,
+  list.Post,
+  moved-reads.Asked,
+  moved-reads.Learnt,
+) (fields-at t) fields.Post fields-Inv-loop fields-μ-loop
+fields-enum-known-v-2 t c = search needs
+
+-- src/lib.rt:481:33
 fields-same-length-2 : (t : ℕ) → fields-lts.Need-same-length-2 (
-  next-untagged-reads.Asked,
-  next-untagged-reads.Learnt,
-  items-below t,
-  items.Post,
+  no-marks-reads.Asked,
+  no-marks-reads.Learnt,
+  next-part-reads.Asked,
+  next-part-reads.Learnt,
   for-field-reads.Asked,
   for-field-reads.Learnt,
-  field-below t,
-  field.Post,
+  list-below t,
+  list.Post,
   moved-reads.Asked,
   moved-reads.Learnt,
 ) (fields-at t) fields.Post fields-Inv-loop fields-μ-loop
 fields-same-length-2 t c = search needs
 
--- src/lib.rt:493:21
+-- src/lib.rt:481:33
 fields-returns-2 : (t : ℕ) → fields-lts.Need-returns-2 (
-  next-untagged-reads.Asked,
-  next-untagged-reads.Learnt,
-  items-below t,
-  items.Post,
+  no-marks-reads.Asked,
+  no-marks-reads.Learnt,
+  next-part-reads.Asked,
+  next-part-reads.Learnt,
   for-field-reads.Asked,
   for-field-reads.Learnt,
-  field-below t,
-  field.Post,
+  list-below t,
+  list.Post,
   moved-reads.Asked,
   moved-reads.Learnt,
 ) (fields-at t) fields.Post fields-Inv-loop fields-μ-loop
-fields-returns-2 t c = fielding-out (c .before .before .before .before .before .before .before .before .before .before .before .before .loop .inv) _ (found-at (c .before .before .before .before .before .before .before .before .before .before .before .next-untagged .result) _ _ (c .before .before .before .before .before .before .before .before .before .q .given .1) (c .before .before .before .before .before .before .before .before .before .before .before .next-untagged .ensures)) _ (c .before .before .before .before .before .field .result) (rw (c .before .before .before .before .before .before .for-field .ensures) at (c .before .before .before .before .before .field .ensures)) _ (c .before .o .given .1)
+fields-returns-2 t c = rw (c .before .v2 .given .1) at (c .before .before .before .before .before .next-part .ensures _ _ (c .before .before .before .before .before .before .before .before .loop .inv))
 
--- src/lib.rt:389:11
-item-item-at-requires : (t : ℕ) → item-lts.Need-item-at-requires (
-  item-at-reads.Asked,
-  item-at-reads.Learnt,
-  mark-reads.Asked,
-  mark-reads.Learnt,
-  put-row-reads.Asked,
-  put-row-reads.Learnt,
-  for-field-reads.Asked,
-  for-field-reads.Learnt,
-  list-below t,
-  list.Post,
-) (item-at t) item.Post
-item-item-at-requires t c κs = omega (arith, c .before .before .before .before .before .pre .1 .0 .short)
-
--- src/lib.rt:390:42
-item-enum-told : (t : ℕ) → item-lts.Need-enum-told (
-  item-at-reads.Asked,
-  item-at-reads.Learnt,
-  mark-reads.Asked,
-  mark-reads.Learnt,
-  put-row-reads.Asked,
-  put-row-reads.Learnt,
-  for-field-reads.Asked,
-  for-field-reads.Learnt,
-  list-below t,
-  list.Post,
-) (item-at t) item.Post
-item-enum-told t c = search needs
-
--- src/lib.rt:391:20
-item-enum-known-q : (t : ℕ) → item-lts.Need-enum-known-q (
-  item-at-reads.Asked,
-  item-at-reads.Learnt,
-  mark-reads.Asked,
-  mark-reads.Learnt,
-  put-row-reads.Asked,
-  put-row-reads.Learnt,
-  for-field-reads.Asked,
-  for-field-reads.Learnt,
-  list-below t,
-  list.Post,
-) (item-at t) item.Post
-item-enum-known-q t c = search needs
-
--- src/lib.rt:392:13
-item-mark-requires : (t : ℕ) → item-lts.Need-mark-requires (
-  item-at-reads.Asked,
-  item-at-reads.Learnt,
-  mark-reads.Asked,
-  mark-reads.Learnt,
-  put-row-reads.Asked,
-  put-row-reads.Learnt,
-  for-field-reads.Asked,
-  for-field-reads.Learnt,
-  list-below t,
-  list.Post,
-) (item-at t) item.Post
-item-mark-requires t c κs = search needs
-
--- src/lib.rt:399:28
-item-add-t31 : (t : ℕ) → item-lts.Need-add-t31 (
-  item-at-reads.Asked,
-  item-at-reads.Learnt,
-  mark-reads.Asked,
-  mark-reads.Learnt,
-  put-row-reads.Asked,
-  put-row-reads.Learnt,
-  for-field-reads.Asked,
-  for-field-reads.Learnt,
-  list-below t,
-  list.Post,
-) (item-at t) item.Post
-item-add-t31 t c = let w = ((rw (c .before .before .before .before .before .q .given .1) at (c .before .before .before .before .before .before .before .item-at .ensures)) (c .before .before .before .before .before .before .before .before .before .before .before .before .before .pre .1 .1 .ks) (c .before .before .before .before .before .before .before .before .before .before .before .before .before .pre .1 .1 .marks)) in omega (arith, w .step .less, w .step .within, c .before .before .before .before .before .before .before .before .before .before .before .before .before .pre .1 .0 .short)
-
--- src/lib.rt:400:26
-item-add-t32 : (t : ℕ) → item-lts.Need-add-t32 (
-  item-at-reads.Asked,
-  item-at-reads.Learnt,
-  mark-reads.Asked,
-  mark-reads.Learnt,
-  put-row-reads.Asked,
-  put-row-reads.Learnt,
-  for-field-reads.Asked,
-  for-field-reads.Learnt,
-  list-below t,
-  list.Post,
-) (item-at t) item.Post
-item-add-t32 t c = let w = ((rw (c .before .before .before .before .before .before .before .q .given .1) at (c .before .before .before .before .before .before .before .before .before .item-at .ensures)) (c .before .before .before .before .before .before .before .before .before .before .before .before .before .before .before .pre .1 .1 .ks) (c .before .before .before .before .before .before .before .before .before .before .before .before .before .before .before .pre .1 .1 .marks)) in omega (arith, w .step .less, w .step .within, c .before .before .before .before .before .before .before .before .before .before .before .before .before .before .before .pre .1 .0 .short)
-
--- src/lib.rt:393:13
-item-put-row-requires : (t : ℕ) → item-lts.Need-put-row-requires (
-  item-at-reads.Asked,
-  item-at-reads.Learnt,
-  mark-reads.Asked,
-  mark-reads.Learnt,
-  put-row-reads.Asked,
-  put-row-reads.Learnt,
-  for-field-reads.Asked,
-  for-field-reads.Learnt,
-  list-below t,
-  list.Post,
-) (item-at t) item.Post
-item-put-row-requires t c κs = let w = ((rw (c .before .before .before .before .before .before .before .q .given .1) at (c .before .before .before .before .before .before .before .before .before .item-at .ensures)) (c .before .before .before .before .before .before .before .before .before .before .before .before .before .before .before .pre .1 .1 .ks) (c .before .before .before .before .before .before .before .before .before .before .before .before .before .before .before .pre .1 .1 .marks)) in omega (arith, w .step .less, w .step .within, w .below, c .before .before .before .before .before .before .before .before .before .before .before .before .before .before .before .pre .1 .0)
-
--- src/lib.rt:403:25
-item-add-t31-2 : (t : ℕ) → item-lts.Need-add-t31-2 (
-  item-at-reads.Asked,
-  item-at-reads.Learnt,
-  mark-reads.Asked,
-  mark-reads.Learnt,
-  put-row-reads.Asked,
-  put-row-reads.Learnt,
-  for-field-reads.Asked,
-  for-field-reads.Learnt,
-  list-below t,
-  list.Post,
-) (item-at t) item.Post
-item-add-t31-2 t c = omega (arith, c .before .before .before .before .before .before .before .before .before .before .before .before .before .before .before .before .before .before .before .pre .1 .0)
-
--- src/lib.rt:405:20
-item-enum-known-q-2 : (t : ℕ) → item-lts.Need-enum-known-q-2 (
-  item-at-reads.Asked,
-  item-at-reads.Learnt,
-  mark-reads.Asked,
-  mark-reads.Learnt,
-  put-row-reads.Asked,
-  put-row-reads.Learnt,
-  for-field-reads.Asked,
-  for-field-reads.Learnt,
-  list-below t,
-  list.Post,
-) (item-at t) item.Post
-item-enum-known-q-2 t c = search needs
-
--- src/lib.rt:406:13
-item-mark-requires-2 : (t : ℕ) → item-lts.Need-mark-requires-2 (
-  item-at-reads.Asked,
-  item-at-reads.Learnt,
-  mark-reads.Asked,
-  mark-reads.Learnt,
-  put-row-reads.Asked,
-  put-row-reads.Learnt,
-  for-field-reads.Asked,
-  for-field-reads.Learnt,
-  list-below t,
-  list.Post,
-) (item-at t) item.Post
-item-mark-requires-2 t c κs = search needs
-
--- src/lib.rt:407:49
-item-for-field-requires : (t : ℕ) → item-lts.Need-for-field-requires (
-  item-at-reads.Asked,
-  item-at-reads.Learnt,
-  mark-reads.Asked,
-  mark-reads.Learnt,
-  put-row-reads.Asked,
-  put-row-reads.Learnt,
-  for-field-reads.Asked,
-  for-field-reads.Learnt,
-  list-below t,
-  list.Post,
-) (item-at t) item.Post
-item-for-field-requires t c κs = search needs
-
--- src/lib.rt:407:19
-item-list-requires : (t : ℕ) → item-lts.Need-list-requires (
-  item-at-reads.Asked,
-  item-at-reads.Learnt,
-  mark-reads.Asked,
-  mark-reads.Learnt,
-  put-row-reads.Asked,
-  put-row-reads.Learnt,
-  for-field-reads.Asked,
-  for-field-reads.Learnt,
-  list-below t,
-  list.Post,
-) (item-at t) item.Post
-item-list-requires t c κs = let w = ((rw (c .before .before .before .before .before .q2 .given .1) at (c .before .before .before .before .before .before .before .item-at .ensures)) (c .before .before .before .before .before .before .before .before .before .before .before .before .before .pre .1 .1 .ks) (c .before .before .before .before .before .before .before .before .before .before .before .before .before .pre .1 .1 .marks)) in rw (c .for-field .ensures) (omega (arith, w .first .least, w .first .less, w .second .least, w .second .less, w .second .within, w .below, c .before .before .before .before .before .before .before .before .before .before .before .before .before .pre .1 .0))
-
--- src/lib.rt:408:27
-item-enum-known-w : (t : ℕ) → item-lts.Need-enum-known-w (
-  item-at-reads.Asked,
-  item-at-reads.Learnt,
-  mark-reads.Asked,
-  mark-reads.Learnt,
-  put-row-reads.Asked,
-  put-row-reads.Learnt,
-  for-field-reads.Asked,
-  for-field-reads.Learnt,
-  list-below t,
-  list.Post,
-) (item-at t) item.Post
-item-enum-known-w t c = search needs
-
--- src/lib.rt:409:30
-item-enum-known-k : (t : ℕ) → item-lts.Need-enum-known-k (
-  item-at-reads.Asked,
-  item-at-reads.Learnt,
-  mark-reads.Asked,
-  mark-reads.Learnt,
-  put-row-reads.Asked,
-  put-row-reads.Learnt,
-  for-field-reads.Asked,
-  for-field-reads.Learnt,
-  list-below t,
-  list.Post,
-) (item-at t) item.Post
-item-enum-known-k t c = search needs
-
--- src/lib.rt:412:23
-item-enum-known-v : (t : ℕ) → item-lts.Need-enum-known-v (
-  item-at-reads.Asked,
-  item-at-reads.Learnt,
-  mark-reads.Asked,
-  mark-reads.Learnt,
-  put-row-reads.Asked,
-  put-row-reads.Learnt,
-  for-field-reads.Asked,
-  for-field-reads.Learnt,
-  list-below t,
-  list.Post,
-) (item-at t) item.Post
-item-enum-known-v t c = search needs
-
--- src/lib.rt:413:23
-item-enum-known-k-2 : (t : ℕ) → item-lts.Need-enum-known-k-2 (
-  item-at-reads.Asked,
-  item-at-reads.Learnt,
-  mark-reads.Asked,
-  mark-reads.Learnt,
-  put-row-reads.Asked,
-  put-row-reads.Learnt,
-  for-field-reads.Asked,
-  for-field-reads.Learnt,
-  list-below t,
-  list.Post,
-) (item-at t) item.Post
-item-enum-known-k-2 t c = search needs
-
--- src/lib.rt:375:1
-item-returns : (t : ℕ) → item-lts.Need-returns (
-  item-at-reads.Asked,
-  item-at-reads.Learnt,
-  mark-reads.Asked,
-  mark-reads.Learnt,
-  put-row-reads.Asked,
-  put-row-reads.Learnt,
-  for-field-reads.Asked,
-  for-field-reads.Learnt,
-  list-below t,
-  list.Post,
-) (item-at t) item.Post
-item-returns t c = λ ks m. λ fuel. items-none _ _ (c .before .before .before .before .before .before .before .before .args .f) _ _ fuel ks ((rw (c .enum-told .given .1) at (c .before .before .item-at .ensures)) ks m _ fuel) (c .before .before .before .before .before .before .before .before .pre .1 .0 .here)
-
--- src/lib.rt:375:1
-item-same-length : (t : ℕ) → item-lts.Need-same-length (
-  item-at-reads.Asked,
-  item-at-reads.Learnt,
-  mark-reads.Asked,
-  mark-reads.Learnt,
-  put-row-reads.Asked,
-  put-row-reads.Learnt,
-  for-field-reads.Asked,
-  for-field-reads.Learnt,
-  list-below t,
-  list.Post,
-) (item-at t) item.Post
-item-same-length t c = search needs
-
--- src/lib.rt:375:1
-item-returns-2 : (t : ℕ) → item-lts.Need-returns-2 (
-  item-at-reads.Asked,
-  item-at-reads.Learnt,
-  mark-reads.Asked,
-  mark-reads.Learnt,
-  put-row-reads.Asked,
-  put-row-reads.Learnt,
-  for-field-reads.Asked,
-  for-field-reads.Learnt,
-  list-below t,
-  list.Post,
-) (item-at t) item.Post
-item-returns-2 t c = λ ks m. let w = (rw (c .before .before .before .before .before .before .before .before .before .before .before .q .given .1) at (c .before .before .before .before .before .before .before .before .before .before .before .before .before .item-at .ensures)) ks m in item-void _ _ _ (c .before .before .before .before .before .before .before .before .before .before .before .before .before .before .before .before .before .before .before .args .f) _ ks _ _ _ _ _ _ w (rw (c .before .before .before .before .before .before .before .before .mark .ensures) (marks-more _ ks _ (omega (arith, w .below, c .before .before .before .before .before .before .before .before .before .before .before .before .before .before .before .before .before .before .before .pre .1 .0 .known)) m)) (c .before .before .before .put-row .ensures)
-
--- src/lib.rt:375:1
-item-same-length-2 : (t : ℕ) → item-lts.Need-same-length-2 (
-  item-at-reads.Asked,
-  item-at-reads.Learnt,
-  mark-reads.Asked,
-  mark-reads.Learnt,
-  put-row-reads.Asked,
-  put-row-reads.Learnt,
-  for-field-reads.Asked,
-  for-field-reads.Learnt,
-  list-below t,
-  list.Post,
-) (item-at t) item.Post
-item-same-length-2 t c = search needs
-
--- src/lib.rt:375:1
-item-returns-3 : (t : ℕ) → item-lts.Need-returns-3 (
-  item-at-reads.Asked,
-  item-at-reads.Learnt,
-  mark-reads.Asked,
-  mark-reads.Learnt,
-  put-row-reads.Asked,
-  put-row-reads.Learnt,
-  for-field-reads.Asked,
-  for-field-reads.Learnt,
-  list-below t,
-  list.Post,
-) (item-at t) item.Post
-item-returns-3 t c = λ ks m. let w = (rw (c .before .before .before .before .before .before .before .before .before .before .before .q2 .given .1) at (c .before .before .before .before .before .before .before .before .before .before .before .before .before .item-at .ensures)) ks m in item-list _ _ _ (c .before .before .before .before .before .before .before .before .before .before .before .before .before .before .before .before .before .before .before .args .f) _ ks _ _ _ _ _ w _ _ (rw (c .before .before .before .before .before .before .before .before .mark2 .ensures) (marks-more _ ks _ (omega (arith, w .below, c .before .before .before .before .before .before .before .before .before .before .before .before .before .before .before .before .before .before .before .pre .1 .0 .known)) m)) (rw (c .before .before .before .before .before .before .for-field .ensures, c .before .w .given .1) at (c .before .before .before .before .before .list .ensures))
-
--- src/lib.rt:375:1
-item-same-length-3 : (t : ℕ) → item-lts.Need-same-length-3 (
-  item-at-reads.Asked,
-  item-at-reads.Learnt,
-  mark-reads.Asked,
-  mark-reads.Learnt,
-  put-row-reads.Asked,
-  put-row-reads.Learnt,
-  for-field-reads.Asked,
-  for-field-reads.Learnt,
-  list-below t,
-  list.Post,
-) (item-at t) item.Post
-item-same-length-3 t c = search needs
-
--- src/lib.rt:375:1
-item-returns-4 : (t : ℕ) → item-lts.Need-returns-4 (
-  item-at-reads.Asked,
-  item-at-reads.Learnt,
-  mark-reads.Asked,
-  mark-reads.Learnt,
-  put-row-reads.Asked,
-  put-row-reads.Learnt,
-  for-field-reads.Asked,
-  for-field-reads.Learnt,
-  list-below t,
-  list.Post,
-) (item-at t) item.Post
-item-returns-4 t c = λ ks m. λ fuel. item-refused _ _ _ (c .before .before .before .before .before .before .before .before .before .before .before .before .before .before .before .before .before .before .before .args .f) _ ks [] [] [] _ _ ((rw (c .before .before .before .before .before .before .before .before .before .before .before .q2 .given .1) at (c .before .before .before .before .before .before .before .before .before .before .before .before .before .item-at .ensures)) ks m) _ _ (rw (c .before .before .before .before .before .before .for-field .ensures, c .before .k .given .1) at (c .before .before .before .before .before .list .ensures)) fuel
-
--- src/lib.rt:375:1
-item-returns-5 : (t : ℕ) → item-lts.Need-returns-5 (
-  item-at-reads.Asked,
-  item-at-reads.Learnt,
-  mark-reads.Asked,
-  mark-reads.Learnt,
-  put-row-reads.Asked,
-  put-row-reads.Learnt,
-  for-field-reads.Asked,
-  for-field-reads.Learnt,
-  list-below t,
-  list.Post,
-) (item-at t) item.Post
-item-returns-5 t c = λ ks m. item-passed _ (c .before .before .before .before .before .before .before .before .before .args .n) _ (c .before .before .before .before .before .before .before .before .before .args .f) _ ks _ _ _ _ ((rw (c .before .v .given .1) at (c .before .before .before .item-at .ensures)) ks m) m refl
-
--- src/lib.rt:375:1
-item-returns-6 : (t : ℕ) → item-lts.Need-returns-6 (
-  item-at-reads.Asked,
-  item-at-reads.Learnt,
-  mark-reads.Asked,
-  mark-reads.Learnt,
-  put-row-reads.Asked,
-  put-row-reads.Learnt,
-  for-field-reads.Asked,
-  for-field-reads.Learnt,
-  list-below t,
-  list.Post,
-) (item-at t) item.Post
-item-returns-6 t c = λ ks m. λ fuel. (rw (c .before .k2 .given .1) at (c .before .before .before .item-at .ensures)) ks m _ fuel
-
-abbrev items-Inv-loop : items-lts.InvT-loop
-items-Inv-loop table unpacked n s rows₀ inside seen₀ g₀ rows seen g = Iteming (schemaAt table unpacked n) s g₀ g inside rows₀ rows seen
-
-abbrev items-μ-loop : items-lts.MeasureT-loop
-items-μ-loop table unpacked n s rows₀ inside seen₀ g₀ rows seen g = length s - g .at
-
--- src/lib.rt:429:20
-items-no-marks-requires : (t : ℕ) → items-lts.Need-no-marks-requires (
+-- src/lib.rt:482:27
+fields-enum-known-k-2 : (t : ℕ) → fields-lts.Need-enum-known-k-2 (
   no-marks-reads.Asked,
   no-marks-reads.Learnt,
-  item-below t,
-  item.Post,
+  next-part-reads.Asked,
+  next-part-reads.Learnt,
+  for-field-reads.Asked,
+  for-field-reads.Learnt,
+  list-below t,
+  list.Post,
   moved-reads.Asked,
   moved-reads.Learnt,
-) (items-at t) items.Post items-Inv-loop items-μ-loop
-items-no-marks-requires t c κs = search needs
+) (fields-at t) fields.Post fields-Inv-loop fields-μ-loop
+fields-enum-known-k-2 t c = search needs
 
--- src/lib.rt:431:5
-items-loop-holds : (t : ℕ) → items-lts.Need-loop-holds (
+-- src/lib.rt:482:36
+fields-same-length-3 : (t : ℕ) → fields-lts.Need-same-length-3 (
   no-marks-reads.Asked,
   no-marks-reads.Learnt,
-  item-below t,
-  item.Post,
+  next-part-reads.Asked,
+  next-part-reads.Learnt,
+  for-field-reads.Asked,
+  for-field-reads.Learnt,
+  list-below t,
+  list.Post,
   moved-reads.Asked,
   moved-reads.Learnt,
-) (items-at t) items.Post items-Inv-loop items-μ-loop
-items-loop-holds t c = iteming-start _ _ _ _ _ _ (c .no-marks .ensures) (c .before .before .before .before .before .pre .1 .here)
+) (fields-at t) fields.Post fields-Inv-loop fields-μ-loop
+fields-same-length-3 t c = search needs
 
--- src/lib.rt:432:15
-items-item-requires : (t : ℕ) → items-lts.Need-item-requires (
+-- src/lib.rt:482:36
+fields-returns-3 : (t : ℕ) → fields-lts.Need-returns-3 (
   no-marks-reads.Asked,
   no-marks-reads.Learnt,
-  item-below t,
-  item.Post,
+  next-part-reads.Asked,
+  next-part-reads.Learnt,
+  for-field-reads.Asked,
+  for-field-reads.Learnt,
+  list-below t,
+  list.Post,
   moved-reads.Asked,
   moved-reads.Learnt,
-) (items-at t) items.Post items-Inv-loop items-μ-loop
-items-item-requires t c κs = let r = iteming-room (c .before .before .loop .inv) _ (c .before .before .before .before .before .before .before .before .pre .1) in let d = iteming-depth (c .before .before .loop .inv) in let m : Marked _ = record { ks = c .before .before .loop .inv .seen; marks = c .before .before .loop .inv .marked } in search needs
-
--- src/lib.rt:433:22
-items-enum-known-v : (t : ℕ) → items-lts.Need-enum-known-v (
-  no-marks-reads.Asked,
-  no-marks-reads.Learnt,
-  item-below t,
-  item.Post,
-  moved-reads.Asked,
-  moved-reads.Learnt,
-) (items-at t) items.Post items-Inv-loop items-μ-loop
-items-enum-known-v t c = search needs
-
--- src/lib.rt:434:17
-items-moved-requires : (t : ℕ) → items-lts.Need-moved-requires (
-  no-marks-reads.Asked,
-  no-marks-reads.Learnt,
-  item-below t,
-  item.Post,
-  moved-reads.Asked,
-  moved-reads.Learnt,
-) (items-at t) items.Post items-Inv-loop items-μ-loop
-items-moved-requires t c κs = search needs
-
--- src/lib.rt:431:5
-items-loop-less : (t : ℕ) → items-lts.Need-loop-less (
-  no-marks-reads.Asked,
-  no-marks-reads.Learnt,
-  item-below t,
-  item.Post,
-  moved-reads.Asked,
-  moved-reads.Learnt,
-) (items-at t) items.Post items-Inv-loop items-μ-loop
-items-loop-less t c = let t = (iteming-turn (c .before .before .before .before .before .before .before .before .before .loop .inv) _ _ (c .before .before .before .before .before .before .item .result) (c .before .before .before .before .before .before .item .ensures) _ _ (c .before .before .v .given .1)) in rw (c .moved .ensures) (omega (arith, t))
-
--- src/lib.rt:431:5
-items-loop-again : (t : ℕ) → items-lts.Need-loop-again (
-  no-marks-reads.Asked,
-  no-marks-reads.Learnt,
-  item-below t,
-  item.Post,
-  moved-reads.Asked,
-  moved-reads.Learnt,
-) (items-at t) items.Post items-Inv-loop items-μ-loop
-items-loop-again t c = iteming-on (c .before .before .before .before .before .before .before .before .before .loop .inv) _ _ (c .before .before .before .before .before .before .item .result) (c .before .before .before .before .before .before .item .ensures) _ _ _ (c .before .before .v .given .1) (c .moved .ensures)
-
--- src/lib.rt:436:23
-items-enum-known-o : (t : ℕ) → items-lts.Need-enum-known-o (
-  no-marks-reads.Asked,
-  no-marks-reads.Learnt,
-  item-below t,
-  item.Post,
-  moved-reads.Asked,
-  moved-reads.Learnt,
-) (items-at t) items.Post items-Inv-loop items-μ-loop
-items-enum-known-o t c = search needs
-
--- src/lib.rt:437:17
-items-same-length : (t : ℕ) → items-lts.Need-same-length (
-  no-marks-reads.Asked,
-  no-marks-reads.Learnt,
-  item-below t,
-  item.Post,
-  moved-reads.Asked,
-  moved-reads.Learnt,
-) (items-at t) items.Post items-Inv-loop items-μ-loop
-items-same-length t c = search needs
-
--- src/lib.rt:437:17
-items-returns : (t : ℕ) → items-lts.Need-returns (
-  no-marks-reads.Asked,
-  no-marks-reads.Learnt,
-  item-below t,
-  item.Post,
-  moved-reads.Asked,
-  moved-reads.Learnt,
-) (items-at t) items.Post items-Inv-loop items-μ-loop
-items-returns t c = iteming-out (c .before .before .before .before .before .before .before .before .loop .inv) _ _ (c .before .before .before .before .before .item .result) (c .before .before .before .before .before .item .ensures) _ (c .before .o .given .1)
+) (fields-at t) fields.Post fields-Inv-loop fields-μ-loop
+fields-returns-3 t c = rw (c .before .k2 .given .1) at (c .before .before .before .before .before .next-part .ensures _ _ (c .before .before .before .before .before .before .before .before .loop .inv))
 
 abbrev list-Inv-loop : list-lts.InvT-loop
 list-Inv-loop table unpacked n s rows₀ e g₀ c₀ rows g c = Listing (schemaAt table unpacked n) s g₀ g rows₀ rows c
@@ -1978,7 +1416,7 @@ list-Inv-loop table unpacked n s rows₀ e g₀ c₀ rows g c = Listing (schemaA
 abbrev list-μ-loop : list-lts.MeasureT-loop
 list-μ-loop table unpacked n s rows₀ e g₀ c₀ rows g c = length s - g .at
 
--- src/lib.rt:353:9
+-- src/lib.rt:346:9
 list-ints-of-requires : (t : ℕ) → list-lts.Need-ints-of-requires (
   ints-of-reads.Asked,
   ints-of-reads.Learnt,
@@ -1989,7 +1427,7 @@ list-ints-of-requires : (t : ℕ) → list-lts.Need-ints-of-requires (
 ) (list-at t) list.Post list-Inv-loop list-μ-loop
 list-ints-of-requires t c κs = search needs
 
--- src/lib.rt:356:5
+-- src/lib.rt:349:5
 list-loop-holds : (t : ℕ) → list-lts.Need-loop-holds (
   ints-of-reads.Asked,
   ints-of-reads.Learnt,
@@ -2000,7 +1438,7 @@ list-loop-holds : (t : ℕ) → list-lts.Need-loop-holds (
 ) (list-at t) list.Post list-Inv-loop list-μ-loop
 list-loop-holds t c = listing-start _ _ _ _ (c .before .before .before .before .before .pre .1 .0 .here)
 
--- src/lib.rt:357:15
+-- src/lib.rt:350:15
 list-element-requires : (t : ℕ) → list-lts.Need-element-requires (
   ints-of-reads.Asked,
   ints-of-reads.Learnt,
@@ -2011,7 +1449,7 @@ list-element-requires : (t : ℕ) → list-lts.Need-element-requires (
 ) (list-at t) list.Post list-Inv-loop list-μ-loop
 list-element-requires t c κs = let r = (listing-room (c .before .loop .inv) _ (c .before .before .before .before .before .before .before .pre .1 .0)) in let d = listing-depth (c .before .loop .inv) in let k = listing-named (c .before .loop .inv) in let i = listing-ints (c .before .loop .inv) _ (c .before .before .ints-of .ensures) in let w = c .before .loop .inv .few in let p = c .before .before .before .before .before .before .before .pre .1 .1 in (omega (arith, d), (r, (omega (arith, k, w, p, r), i)))
 
--- src/lib.rt:358:23
+-- src/lib.rt:351:23
 list-enum-known-v : (t : ℕ) → list-lts.Need-enum-known-v (
   ints-of-reads.Asked,
   ints-of-reads.Learnt,
@@ -2022,7 +1460,7 @@ list-enum-known-v : (t : ℕ) → list-lts.Need-enum-known-v (
 ) (list-at t) list.Post list-Inv-loop list-μ-loop
 list-enum-known-v t c = search needs
 
--- src/lib.rt:359:17
+-- src/lib.rt:352:17
 list-next-value-requires : (t : ℕ) → list-lts.Need-next-value-requires (
   ints-of-reads.Asked,
   ints-of-reads.Learnt,
@@ -2033,7 +1471,7 @@ list-next-value-requires : (t : ℕ) → list-lts.Need-next-value-requires (
 ) (list-at t) list.Post list-Inv-loop list-μ-loop
 list-next-value-requires t c κs = search needs
 
--- src/lib.rt:360:17
+-- src/lib.rt:353:17
 list-add-c : (t : ℕ) → list-lts.Need-add-c (
   ints-of-reads.Asked,
   ints-of-reads.Learnt,
@@ -2044,7 +1482,7 @@ list-add-c : (t : ℕ) → list-lts.Need-add-c (
 ) (list-at t) list.Post list-Inv-loop list-μ-loop
 list-add-c t c = let r = (listing-room (c .before .before .before .before .before .before .before .before .loop .inv) _ (c .before .before .before .before .before .before .before .before .before .before .before .before .before .before .pre .1 .0)) in omega (arith, r, c .before .before .before .before .before .before .before .before .loop .inv .few)
 
--- src/lib.rt:356:5
+-- src/lib.rt:349:5
 list-loop-less : (t : ℕ) → list-lts.Need-loop-less (
   ints-of-reads.Asked,
   ints-of-reads.Learnt,
@@ -2055,7 +1493,7 @@ list-loop-less : (t : ℕ) → list-lts.Need-loop-less (
 ) (list-at t) list.Post list-Inv-loop list-μ-loop
 list-loop-less t c = let t = (listing-turn (c .before .before .before .before .before .before .before .before .loop .inv) _ (c .before .before .before .before .before .before .element .result) _ _ (c .before .before .before .before .before .before .element .ensures) (c .before .before .v .given .1)) in rw (c .next-value .ensures) (omega (arith, t))
 
--- src/lib.rt:356:5
+-- src/lib.rt:349:5
 list-loop-again : (t : ℕ) → list-lts.Need-loop-again (
   ints-of-reads.Asked,
   ints-of-reads.Learnt,
@@ -2066,7 +1504,7 @@ list-loop-again : (t : ℕ) → list-lts.Need-loop-again (
 ) (list-at t) list.Post list-Inv-loop list-μ-loop
 list-loop-again t c = listing-on (c .before .before .before .before .before .before .before .before .loop .inv) _ (c .before .before .before .before .before .before .element .result) _ _ _ (c .before .before .before .before .before .before .element .ensures) (c .before .before .v .given .1) (c .next-value .ensures)
 
--- src/lib.rt:362:25
+-- src/lib.rt:355:25
 list-enum-known-v-2 : (t : ℕ) → list-lts.Need-enum-known-v-2 (
   ints-of-reads.Asked,
   ints-of-reads.Learnt,
@@ -2077,7 +1515,7 @@ list-enum-known-v-2 : (t : ℕ) → list-lts.Need-enum-known-v-2 (
 ) (list-at t) list.Post list-Inv-loop list-μ-loop
 list-enum-known-v-2 t c = search needs
 
--- src/lib.rt:363:17
+-- src/lib.rt:356:17
 list-same-length : (t : ℕ) → list-lts.Need-same-length (
   ints-of-reads.Asked,
   ints-of-reads.Learnt,
@@ -2088,7 +1526,7 @@ list-same-length : (t : ℕ) → list-lts.Need-same-length (
 ) (list-at t) list.Post list-Inv-loop list-μ-loop
 list-same-length t c = search needs
 
--- src/lib.rt:363:17
+-- src/lib.rt:356:17
 list-returns : (t : ℕ) → list-lts.Need-returns (
   ints-of-reads.Asked,
   ints-of-reads.Learnt,
@@ -2099,7 +1537,7 @@ list-returns : (t : ℕ) → list-lts.Need-returns (
 ) (list-at t) list.Post list-Inv-loop list-μ-loop
 list-returns t c = listing-done (c .before .before .before .before .before .before .before .loop .inv) _ (c .before .before .before .before .before .element .result) _ _ (c .before .before .before .before .before .element .ensures) (c .before .v2 .given .1)
 
--- src/lib.rt:365:28
+-- src/lib.rt:358:28
 list-enum-known-k : (t : ℕ) → list-lts.Need-enum-known-k (
   ints-of-reads.Asked,
   ints-of-reads.Learnt,
@@ -2110,7 +1548,7 @@ list-enum-known-k : (t : ℕ) → list-lts.Need-enum-known-k (
 ) (list-at t) list.Post list-Inv-loop list-μ-loop
 list-enum-known-k t c = search needs
 
--- src/lib.rt:366:17
+-- src/lib.rt:359:17
 list-same-length-2 : (t : ℕ) → list-lts.Need-same-length-2 (
   ints-of-reads.Asked,
   ints-of-reads.Learnt,
@@ -2121,7 +1559,7 @@ list-same-length-2 : (t : ℕ) → list-lts.Need-same-length-2 (
 ) (list-at t) list.Post list-Inv-loop list-μ-loop
 list-same-length-2 t c = search needs
 
--- src/lib.rt:366:17
+-- src/lib.rt:359:17
 list-returns-2 : (t : ℕ) → list-lts.Need-returns-2 (
   ints-of-reads.Asked,
   ints-of-reads.Learnt,
@@ -2132,7 +1570,7 @@ list-returns-2 : (t : ℕ) → list-lts.Need-returns-2 (
 ) (list-at t) list.Post list-Inv-loop list-μ-loop
 list-returns-2 t c = listing-refused (c .before .before .before .before .before .before .before .loop .inv) _ (c .before .before .before .before .before .element .result) _ _ (c .before .before .before .before .before .element .ensures) (c .before .k .given .1)
 
--- src/lib.rt:302:11
+-- src/lib.rt:295:11
 list-value-quick-int-requires : (t : ℕ) → list-value-lts.Need-quick-int-requires (
   quick-int-reads.Asked,
   quick-int-reads.Learnt,
@@ -2141,7 +1579,7 @@ list-value-quick-int-requires : (t : ℕ) → list-value-lts.Need-quick-int-requ
 ) (list-value-at t) list-value.Post
 list-value-quick-int-requires t c κs = c .before .before .before .before .before .pre .1
 
--- src/lib.rt:303:19
+-- src/lib.rt:296:19
 list-value-enum-known-v : (t : ℕ) → list-value-lts.Need-enum-known-v (
   quick-int-reads.Asked,
   quick-int-reads.Learnt,
@@ -2150,7 +1588,7 @@ list-value-enum-known-v : (t : ℕ) → list-value-lts.Need-enum-known-v (
 ) (list-value-at t) list-value.Post
 list-value-enum-known-v t c = search needs
 
--- src/lib.rt:304:22
+-- src/lib.rt:297:22
 list-value-enum-known-v-2 : (t : ℕ) → list-value-lts.Need-enum-known-v-2 (
   quick-int-reads.Asked,
   quick-int-reads.Learnt,
@@ -2159,7 +1597,7 @@ list-value-enum-known-v-2 : (t : ℕ) → list-value-lts.Need-enum-known-v-2 (
 ) (list-value-at t) list-value.Post
 list-value-enum-known-v-2 t c = search needs
 
--- src/lib.rt:305:56
+-- src/lib.rt:298:60
 list-value-enum-told : (t : ℕ) → list-value-lts.Need-enum-told (
   quick-int-reads.Asked,
   quick-int-reads.Learnt,
@@ -2168,7 +1606,7 @@ list-value-enum-told : (t : ℕ) → list-value-lts.Need-enum-told (
 ) (list-value-at t) list-value.Post
 list-value-enum-told t c = search needs
 
--- src/lib.rt:305:30
+-- src/lib.rt:298:30
 list-value-choice-requires : (t : ℕ) → list-value-lts.Need-choice-requires (
   quick-int-reads.Asked,
   quick-int-reads.Learnt,
@@ -2177,7 +1615,7 @@ list-value-choice-requires : (t : ℕ) → list-value-lts.Need-choice-requires (
 ) (list-value-at t) list-value.Post
 list-value-choice-requires t c κs = omega (arith, c .before .before .before .before .before .before .before .before .before .before .before .pre .1 .0, c .before .before .before .before .before .before .before .before .before .before .before .pre .1 .1 .0)
 
--- src/lib.rt:306:23
+-- src/lib.rt:299:23
 list-value-enum-known-v-3 : (t : ℕ) → list-value-lts.Need-enum-known-v-3 (
   quick-int-reads.Asked,
   quick-int-reads.Learnt,
@@ -2186,7 +1624,7 @@ list-value-enum-known-v-3 : (t : ℕ) → list-value-lts.Need-enum-known-v-3 (
 ) (list-value-at t) list-value.Post
 list-value-enum-known-v-3 t c = search needs
 
--- src/lib.rt:307:26
+-- src/lib.rt:300:26
 list-value-enum-known-k : (t : ℕ) → list-value-lts.Need-enum-known-k (
   quick-int-reads.Asked,
   quick-int-reads.Learnt,
@@ -2195,7 +1633,7 @@ list-value-enum-known-k : (t : ℕ) → list-value-lts.Need-enum-known-k (
 ) (list-value-at t) list-value.Post
 list-value-enum-known-k t c = search needs
 
--- src/lib.rt:287:1
+-- src/lib.rt:280:1
 list-value-same-length : (t : ℕ) → list-value-lts.Need-same-length (
   quick-int-reads.Asked,
   quick-int-reads.Learnt,
@@ -2204,7 +1642,7 @@ list-value-same-length : (t : ℕ) → list-value-lts.Need-same-length (
 ) (list-value-at t) list-value.Post
 list-value-same-length t c = search needs
 
--- src/lib.rt:287:1
+-- src/lib.rt:280:1
 list-value-returns : (t : ℕ) → list-value-lts.Need-returns (
   quick-int-reads.Asked,
   quick-int-reads.Learnt,
@@ -2213,7 +1651,7 @@ list-value-returns : (t : ℕ) → list-value-lts.Need-returns (
 ) (list-value-at t) list-value.Post
 list-value-returns t c = quick-element _ _ (c .before .before .before .before .before .before .before .before .before .before .before .args .f) _ _ _ _ _ (rw (c .before .v .given .1) at (c .before .before .before .before .before .quick-int .ensures))
 
--- src/lib.rt:287:1
+-- src/lib.rt:280:1
 list-value-same-length-2 : (t : ℕ) → list-value-lts.Need-same-length-2 (
   quick-int-reads.Asked,
   quick-int-reads.Learnt,
@@ -2222,7 +1660,7 @@ list-value-same-length-2 : (t : ℕ) → list-value-lts.Need-same-length-2 (
 ) (list-value-at t) list-value.Post
 list-value-same-length-2 t c = search needs
 
--- src/lib.rt:287:1
+-- src/lib.rt:280:1
 list-value-returns-2 : (t : ℕ) → list-value-lts.Need-returns-2 (
   quick-int-reads.Asked,
   quick-int-reads.Learnt,
@@ -2231,7 +1669,7 @@ list-value-returns-2 : (t : ℕ) → list-value-lts.Need-returns-2 (
 ) (list-value-at t) list-value.Post
 list-value-returns-2 t c = quick-ended _ _ (c .before .before .before .before .before .before .before .before .before .before .before .args .f) _ _ _ _ (rw (c .before .v2 .given .1) at (c .before .before .before .before .before .quick-int .ensures))
 
--- src/lib.rt:287:1
+-- src/lib.rt:280:1
 list-value-same-length-3 : (t : ℕ) → list-value-lts.Need-same-length-3 (
   quick-int-reads.Asked,
   quick-int-reads.Learnt,
@@ -2240,7 +1678,7 @@ list-value-same-length-3 : (t : ℕ) → list-value-lts.Need-same-length-3 (
 ) (list-value-at t) list-value.Post
 list-value-same-length-3 t c = search needs
 
--- src/lib.rt:287:1
+-- src/lib.rt:280:1
 list-value-returns-3 : (t : ℕ) → list-value-lts.Need-returns-3 (
   quick-int-reads.Asked,
   quick-int-reads.Learnt,
@@ -2249,7 +1687,7 @@ list-value-returns-3 : (t : ℕ) → list-value-lts.Need-returns-3 (
 ) (list-value-at t) list-value.Post
 list-value-returns-3 t c = rw ((rw (c .before .before .before .before .before .before .before .enum-told .given .1) at (c .before .before .before .before .before .before .before .before .before .before .before .quick-int .ensures)), c .before .v3 .given .1) at (c .before .before .before .before .before .choice .ensures)
 
--- src/lib.rt:287:1
+-- src/lib.rt:280:1
 list-value-same-length-4 : (t : ℕ) → list-value-lts.Need-same-length-4 (
   quick-int-reads.Asked,
   quick-int-reads.Learnt,
@@ -2258,7 +1696,7 @@ list-value-same-length-4 : (t : ℕ) → list-value-lts.Need-same-length-4 (
 ) (list-value-at t) list-value.Post
 list-value-same-length-4 t c = search needs
 
--- src/lib.rt:287:1
+-- src/lib.rt:280:1
 list-value-returns-4 : (t : ℕ) → list-value-lts.Need-returns-4 (
   quick-int-reads.Asked,
   quick-int-reads.Learnt,
@@ -2267,7 +1705,7 @@ list-value-returns-4 : (t : ℕ) → list-value-lts.Need-returns-4 (
 ) (list-value-at t) list-value.Post
 list-value-returns-4 t c = rw ((rw (c .before .before .before .before .before .before .before .enum-told .given .1) at (c .before .before .before .before .before .before .before .before .before .before .before .quick-int .ensures)), c .before .k .given .1) at (c .before .before .before .before .before .choice .ensures)
 
--- src/lib.rt:266:9
+-- src/lib.rt:259:9
 value-core-requires : (t : ℕ) → value-lts.Need-core-requires (
   core-reads.Asked,
   core-reads.Learnt,
@@ -2282,7 +1720,7 @@ value-core-requires : (t : ℕ) → value-lts.Need-core-requires (
 ) (value-at t) value.Post
 value-core-requires t c κs = search needs
 
--- src/lib.rt:267:11
+-- src/lib.rt:260:11
 value-kind-requires : (t : ℕ) → value-lts.Need-kind-requires (
   core-reads.Asked,
   core-reads.Learnt,
@@ -2297,7 +1735,7 @@ value-kind-requires : (t : ℕ) → value-lts.Need-kind-requires (
 ) (value-at t) value.Post
 value-kind-requires t c κs = search needs
 
--- src/lib.rt:268:24
+-- src/lib.rt:261:24
 value-enum-told : (t : ℕ) → value-lts.Need-enum-told (
   core-reads.Asked,
   core-reads.Learnt,
@@ -2312,7 +1750,7 @@ value-enum-told : (t : ℕ) → value-lts.Need-enum-told (
 ) (value-at t) value.Post
 value-enum-told t c = search needs
 
--- src/lib.rt:268:24
+-- src/lib.rt:261:24
 value-no-value-requires : (t : ℕ) → value-lts.Need-no-value-requires (
   core-reads.Asked,
   core-reads.Learnt,
@@ -2327,7 +1765,7 @@ value-no-value-requires : (t : ℕ) → value-lts.Need-no-value-requires (
 ) (value-at t) value.Post
 value-no-value-requires t c κs = omega (arith, c .before .before .before .before .before .before .before .before .pre .1 .0 .short)
 
--- src/lib.rt:269:59
+-- src/lib.rt:262:64
 value-enum-told-2 : (t : ℕ) → value-lts.Need-enum-told-2 (
   core-reads.Asked,
   core-reads.Learnt,
@@ -2342,7 +1780,7 @@ value-enum-told-2 : (t : ℕ) → value-lts.Need-enum-told-2 (
 ) (value-at t) value.Post
 value-enum-told-2 t c = search needs
 
--- src/lib.rt:269:26
+-- src/lib.rt:262:26
 value-simple-requires : (t : ℕ) → value-lts.Need-simple-requires (
   core-reads.Asked,
   core-reads.Learnt,
@@ -2357,7 +1795,7 @@ value-simple-requires : (t : ℕ) → value-lts.Need-simple-requires (
 ) (value-at t) value.Post
 value-simple-requires t c κs = omega (arith, c .before .before .before .before .before .before .before .before .before .pre .1)
 
--- src/lib.rt:270:52
+-- src/lib.rt:263:56
 value-enum-told-3 : (t : ℕ) → value-lts.Need-enum-told-3 (
   core-reads.Asked,
   core-reads.Learnt,
@@ -2372,7 +1810,7 @@ value-enum-told-3 : (t : ℕ) → value-lts.Need-enum-told-3 (
 ) (value-at t) value.Post
 value-enum-told-3 t c = search needs
 
--- src/lib.rt:270:26
+-- src/lib.rt:263:26
 value-braced-requires : (t : ℕ) → value-lts.Need-braced-requires (
   core-reads.Asked,
   core-reads.Learnt,
@@ -2387,7 +1825,7 @@ value-braced-requires : (t : ℕ) → value-lts.Need-braced-requires (
 ) (value-at t) value.Post
 value-braced-requires t c κs = omega (arith, c .before .before .before .before .before .before .before .before .before .pre .1)
 
--- src/lib.rt:271:25
+-- src/lib.rt:264:25
 value-enum-told-4 : (t : ℕ) → value-lts.Need-enum-told-4 (
   core-reads.Asked,
   core-reads.Learnt,
@@ -2402,7 +1840,7 @@ value-enum-told-4 : (t : ℕ) → value-lts.Need-enum-told-4 (
 ) (value-at t) value.Post
 value-enum-told-4 t c = search needs
 
--- src/lib.rt:271:25
+-- src/lib.rt:264:25
 value-no-value-requires-2 : (t : ℕ) → value-lts.Need-no-value-requires-2 (
   core-reads.Asked,
   core-reads.Learnt,
@@ -2417,7 +1855,7 @@ value-no-value-requires-2 : (t : ℕ) → value-lts.Need-no-value-requires-2 (
 ) (value-at t) value.Post
 value-no-value-requires-2 t c κs = omega (arith, c .before .before .before .before .before .before .before .before .pre .1 .0 .short)
 
--- src/lib.rt:272:29
+-- src/lib.rt:265:29
 value-enum-told-5 : (t : ℕ) → value-lts.Need-enum-told-5 (
   core-reads.Asked,
   core-reads.Learnt,
@@ -2432,7 +1870,7 @@ value-enum-told-5 : (t : ℕ) → value-lts.Need-enum-told-5 (
 ) (value-at t) value.Post
 value-enum-told-5 t c = search needs
 
--- src/lib.rt:272:29
+-- src/lib.rt:265:29
 value-no-value-requires-3 : (t : ℕ) → value-lts.Need-no-value-requires-3 (
   core-reads.Asked,
   core-reads.Learnt,
@@ -2447,7 +1885,7 @@ value-no-value-requires-3 : (t : ℕ) → value-lts.Need-no-value-requires-3 (
 ) (value-at t) value.Post
 value-no-value-requires-3 t c κs = omega (arith, c .before .before .before .before .before .before .before .before .pre .1 .0 .short)
 
--- src/lib.rt:261:1
+-- src/lib.rt:254:1
 value-returns : (t : ℕ) → value-lts.Need-returns (
   core-reads.Asked,
   core-reads.Learnt,
@@ -2463,7 +1901,7 @@ value-returns : (t : ℕ) → value-lts.Need-returns (
 unfolding isPlace
 value-returns t c = plain-none _ _ (c .before .before .before .before .before .before .before .before .before .args .f) _ _ (c .no-value .result) schema.void (rw (← c .before .before .before .before .core .ensures) (sym (c .before .before .before .kind .ensures) ∙ ap shapeOf (c .before .enum-told .given .1))) refl (c .no-value .ensures)
 
--- src/lib.rt:261:1
+-- src/lib.rt:254:1
 value-same-length : (t : ℕ) → value-lts.Need-same-length (
   core-reads.Asked,
   core-reads.Learnt,
@@ -2478,7 +1916,7 @@ value-same-length : (t : ℕ) → value-lts.Need-same-length (
 ) (value-at t) value.Post
 value-same-length t c = search needs
 
--- src/lib.rt:261:1
+-- src/lib.rt:254:1
 value-returns-2 : (t : ℕ) → value-lts.Need-returns-2 (
   core-reads.Asked,
   core-reads.Learnt,
@@ -2493,7 +1931,7 @@ value-returns-2 : (t : ℕ) → value-lts.Need-returns-2 (
 ) (value-at t) value.Post
 value-returns-2 t c = plain-simple _ _ (c .before .before .before .before .before .before .before .before .before .before .before .before .args .f) _ _ (c .before .before .simple .result) _ (c .before .before .before .before .before .before .before .core .ensures) (sym (c .before .before .before .before .before .before .kind .ensures) ∙ ap shapeOf (c .before .before .before .before .enum-told2 .given .1)) (c .before .before .simple .ensures)
 
--- src/lib.rt:261:1
+-- src/lib.rt:254:1
 value-same-length-2 : (t : ℕ) → value-lts.Need-same-length-2 (
   core-reads.Asked,
   core-reads.Learnt,
@@ -2508,7 +1946,7 @@ value-same-length-2 : (t : ℕ) → value-lts.Need-same-length-2 (
 ) (value-at t) value.Post
 value-same-length-2 t c = search needs
 
--- src/lib.rt:261:1
+-- src/lib.rt:254:1
 value-returns-3 : (t : ℕ) → value-lts.Need-returns-3 (
   core-reads.Asked,
   core-reads.Learnt,
@@ -2523,7 +1961,7 @@ value-returns-3 : (t : ℕ) → value-lts.Need-returns-3 (
 ) (value-at t) value.Post
 value-returns-3 t c = plain-struct _ _ (c .before .before .before .before .before .before .before .before .before .before .before .before .args .f) _ _ (c .before .before .braced .result) _ (c .before .before .before .before .before .before .before .core .ensures) (sym (c .before .before .before .before .before .before .kind .ensures) ∙ ap shapeOf (c .before .before .before .before .enum-told3 .given .1)) (c .before .before .braced .ensures)
 
--- src/lib.rt:261:1
+-- src/lib.rt:254:1
 value-returns-4 : (t : ℕ) → value-lts.Need-returns-4 (
   core-reads.Asked,
   core-reads.Learnt,
@@ -2539,7 +1977,7 @@ value-returns-4 : (t : ℕ) → value-lts.Need-returns-4 (
 unfolding isPlace
 value-returns-4 t c = plain-none _ _ (c .before .before .before .before .before .before .before .before .before .args .f) _ _ (c .no-value2 .result) schema.union (rw (← c .before .before .before .before .core .ensures) (sym (c .before .before .before .kind .ensures) ∙ ap shapeOf (c .before .enum-told4 .given .1))) refl (c .no-value2 .ensures)
 
--- src/lib.rt:261:1
+-- src/lib.rt:254:1
 value-returns-5 : (t : ℕ) → value-lts.Need-returns-5 (
   core-reads.Asked,
   core-reads.Learnt,
@@ -2555,18 +1993,14 @@ value-returns-5 : (t : ℕ) → value-lts.Need-returns-5 (
 unfolding isPlace
 value-returns-5 t c = plain-none _ _ (c .before .before .before .before .before .before .before .before .before .args .f) _ _ (c .no-value3 .result) schema.reference (rw (← c .before .before .before .before .core .ensures) (sym (c .before .before .before .kind .ensures) ∙ ap shapeOf (c .before .enum-told5 .given .1))) refl (c .no-value3 .ensures)
 
-pub +body+braced+choice+element+field+fields+item+items+list+list-value+value-spec :
-    {M : Type 1} → statement M
-+body+braced+choice+element+field+fields+item+items+list+list-value+value-spec =
+pub +body+braced+choice+element+fields+list+list-value+value-spec : {M : Type 1} → statement M
++body+braced+choice+element+fields+list+list-value+value-spec =
     close
     μ-body
     μ-braced
     μ-choice
     μ-element
-    μ-field
     μ-fields
-    μ-item
-    μ-items
     μ-list
     μ-list-value
     μ-value
@@ -2686,32 +2120,15 @@ pub +body+braced+choice+element+field+fields+item+items+list+list-value+value-sp
     (element-returns-4 t)
     (element-same-length-5 t)
     (element-returns-5 t))
-    (λ t. field-lts.spec
-    (field-at-reads.Asked, field-at-reads.Learnt, list-below t, list.Post)
-    (field-at t)
-    field.Post
-    (field-field-at-requires t)
-    (field-enum-told t)
-    (field-list-requires t)
-    (field-enum-known-v t)
-    (field-enum-known-k t)
-    (field-enum-told-2 t)
-    (field-enum-known-k-2 t)
-    (field-same-length t)
-    (field-returns t)
-    (field-same-length-2 t)
-    (field-returns-2 t)
-    (field-returns-3 t)
-    (field-returns-4 t))
     (λ t. fields-lts.spec (
-      next-untagged-reads.Asked,
-      next-untagged-reads.Learnt,
-      items-below t,
-      items.Post,
+      no-marks-reads.Asked,
+      no-marks-reads.Learnt,
+      next-part-reads.Asked,
+      next-part-reads.Learnt,
       for-field-reads.Asked,
       for-field-reads.Learnt,
-      field-below t,
-      field.Post,
+      list-below t,
+      list.Post,
       moved-reads.Asked,
       moved-reads.Learnt,
     )
@@ -2719,84 +2136,29 @@ pub +body+braced+choice+element+field+fields+item+items+list+list-value+value-sp
     fields.Post
     fields-Inv-loop
     fields-μ-loop
+    (fields-no-marks-requires t)
     (fields-loop-holds t)
-    (fields-next-untagged-requires t)
-    (fields-enum-told t)
-    (fields-items-requires t)
-    (fields-same-length t)
-    (fields-returns t)
+    (fields-next-part-requires t)
     (fields-enum-known-q t)
     (fields-for-field-requires t)
-    (fields-field-requires t)
-    (fields-enum-known-v t)
+    (fields-list-requires t)
+    (fields-enum-known-w t)
     (fields-moved-requires t)
-    (fields-add-i t)
     (fields-loop-less t)
     (fields-loop-again t)
-    (fields-enum-known-o t)
+    (fields-enum-known-k t)
+    (fields-same-length t)
+    (fields-returns t)
+    (fields-enum-known-v t)
+    (fields-moved-requires-2 t)
+    (fields-loop-less-2 t)
+    (fields-loop-again-2 t)
+    (fields-enum-known-v-2 t)
     (fields-same-length-2 t)
-    (fields-returns-2 t))
-    (λ t. item-lts.spec (
-      item-at-reads.Asked,
-      item-at-reads.Learnt,
-      mark-reads.Asked,
-      mark-reads.Learnt,
-      put-row-reads.Asked,
-      put-row-reads.Learnt,
-      for-field-reads.Asked,
-      for-field-reads.Learnt,
-      list-below t,
-      list.Post,
-    )
-    (item-at t)
-    item.Post
-    (item-item-at-requires t)
-    (item-enum-told t)
-    (item-enum-known-q t)
-    (item-mark-requires t)
-    (item-add-t31 t)
-    (item-add-t32 t)
-    (item-put-row-requires t)
-    (item-add-t31-2 t)
-    (item-enum-known-q-2 t)
-    (item-mark-requires-2 t)
-    (item-for-field-requires t)
-    (item-list-requires t)
-    (item-enum-known-w t)
-    (item-enum-known-k t)
-    (item-enum-known-v t)
-    (item-enum-known-k-2 t)
-    (item-returns t)
-    (item-same-length t)
-    (item-returns-2 t)
-    (item-same-length-2 t)
-    (item-returns-3 t)
-    (item-same-length-3 t)
-    (item-returns-4 t)
-    (item-returns-5 t)
-    (item-returns-6 t))
-    (λ t. items-lts.spec (
-      no-marks-reads.Asked,
-      no-marks-reads.Learnt,
-      item-below t,
-      item.Post,
-      moved-reads.Asked,
-      moved-reads.Learnt,
-    )
-    (items-at t)
-    items.Post
-    items-Inv-loop
-    items-μ-loop
-    (items-no-marks-requires t)
-    (items-loop-holds t)
-    (items-item-requires t)
-    (items-enum-known-v t)
-    (items-moved-requires t)
-    (items-loop-less t)
-    (items-loop-again t)
-    (items-enum-known-o t)
-    (items-same-length t)
-    (items-returns t))
+    (fields-returns-2 t)
+    (fields-enum-known-k-2 t)
+    (fields-same-length-3 t)
+    (fields-returns-3 t))
     (λ t. list-lts.spec (
       ints-of-reads.Asked,
       ints-of-reads.Learnt,
