@@ -1,9 +1,9 @@
 // The tokens of a message, read by a cursor over its bytes, and number 22.
 ghost use mathlib.Core.Path.{_≡_};
-ghost use mathlib.Core.Bool.{true};
+ghost use mathlib.Core.Bool.{true, false};
 ghost use Prim.Native.Nat.{ℕ, _+_, _-_, _*_, _/_, _^_, _≤_, _<_};
 ghost use lib.Bits.{bitXor};
-ghost use lib.ListN.{length};
+ghost use lib.ListN.{length, getD};
 ghost use Rattle.numbers.specs.Limits.{openLimit};
 ghost use Rattle.classes.specs.Bytes.{isBlank, isWordByte, isPlain, isStringByte};
 ghost use Rattle.message_rules.specs.Scan.{cut, scanFault};
@@ -78,14 +78,11 @@ fn string_end(s: &[u8], at: usize) -> usize
     i
 }
 
-// What stands at from, where no blank is.
-fn token(s: &[u8], from: usize) -> Lexeme
+// What stands at from, where no blank and no word's byte is: a mark, a string, or nothing.
+fn mark_or_string(s: &[u8], from: usize, b: u8) -> Lexeme
+    requires { ⌜ (from < length (now s)) × (b ≡ getD (now s) from 0) × (isWordByte b ≡ false) ⌝ }
     ensures { λ r. ⌜ ((base : ℕ) → Reads (restAt base (now (s .entry)) from) base (now (s .entry)) from r) ⌝ }
 {
-    if s.len() <= from {
-        return Lexeme::End;
-    }
-    let b = s[from];
     if b == b'=' {
         return Lexeme::Equals(from, Cursor { at: from + 1 });
     }
@@ -109,11 +106,22 @@ fn token(s: &[u8], from: usize) -> Lexeme
         }
         return Lexeme::Bad(from);
     }
+    Lexeme::Bad(from)
+}
+
+// What stands at from, where no blank is.
+fn token(s: &[u8], from: usize) -> Lexeme
+    ensures { λ r. ⌜ ((base : ℕ) → Reads (restAt base (now (s .entry)) from) base (now (s .entry)) from r) ⌝ }
+{
+    if s.len() <= from {
+        return Lexeme::End;
+    }
+    let b = s[from];
     if classes::is_word_byte(b) {
-        let to = word_end(s, from);
+        let to = word_end(s, from + 1);
         return Lexeme::Word(from, Cursor { at: to });
     }
-    Lexeme::Bad(from)
+    mark_or_string(s, from, b)
 }
 
 impl Cursor {
