@@ -15,7 +15,7 @@ use Rattle.classes.specs.Bytes.{isDigit}
 use Rattle.classes.proofs.Segment.{segment}
 use Rattle.schema.proofs.CountLaws.{clash-bool, and-both}
 use Rattle.numbers.specs.Packed.{packedLimit}
-use Rattle.tokens.specs.Digits.{joined, Nines}
+use Rattle.tokens.specs.Digits.{joined, zeros, highHalves, sixes, Nines}
 use Rattle.tokens.proofs.Naturals.{Summed, summed-start, summed-more}
 
 -- the number of k bytes that are all m
@@ -110,14 +110,14 @@ module _ (s : List ℕ) (at : ℕ) (byte : (i : ℕ) → getD s i 0 < 256) where
       let e : at + suc k ≡ at + k + 1 = omega arith in
       rw e (summed-more s at (at + k) (spread k) (spread (suc k)) (summed-first h k (omega arith) (λ i g. f i (omega arith))) (omega arith) (d .0) (rw (d .1)))
 
-  pub eight-summed : (c d : ℕ) → at + 8 ≤ length s → c ≤ 7 → d ≡ bitXor (joined 8 s at) 0x3030_3030_3030_3030 / 2 ^ (64 - 8 * c) → Nines d → Summed s at (at + c) d
+  pub eight-summed : (c d : ℕ) → at + 8 ≤ length s → c ≤ 7 → d ≡ bitXor (joined 8 s at) zeros / 2 ^ (64 - 8 * c) → Nines d → Summed s at (at + c) d
   unfolding repeated
   eight-summed c d h l e n =
       let p = powers c l in
       let q : c + (8 - c) ≡ 8 = omega arith in
       let z : d ≡ spread c = e ∙ (ap (λ x. x / 2 ^ (64 - 8 * c)) (spread-is 8) ∙ (ap (λ x. spread 8 / x) (p .0) ∙ (ap (λ x. spread x / 256 ^ (8 - c)) (sym q) ∙ spread-high c (8 - c)))) in
       let b = spread-below c in
-      let w : (spread c + 0x0606_0606_0606_0606) % packedLimit ≡ spread c + 0x0606_0606_0606_0606 = mod-eq-of-lt (omega (arith, p .1)) in
+      let w : (spread c + sixes) % packedLimit ≡ spread c + sixes = mod-eq-of-lt (omega (arith, p .1)) in
       rw z (summed-first h c (omega arith) (digits-small c 8 (omega arith) (rw z at (n .halves)) (rw (z, w) at (n .still))))
 
 -- ---- what the code joins and tests
@@ -136,5 +136,5 @@ eight-joined s at a b e f =
     let g = rw (p, q, r, t) at f in
     omega arith
 
-pub nines : (d w : ℕ) → w ≡ (d + 0x0606_0606_0606_0606) % packedLimit → eqb (bitAnd d 0xF0F0_F0F0_F0F0_F0F0) 0 && eqb (bitAnd w 0xF0F0_F0F0_F0F0_F0F0) 0 ≡ true → Nines d
-nines d w e b = and-both (eqb (bitAnd d 0xF0F0_F0F0_F0F0_F0F0) 0) (eqb (bitAnd w 0xF0F0_F0F0_F0F0_F0F0) 0) b (λ x y. record { halves = eqb-true (bitAnd d 0xF0F0_F0F0_F0F0_F0F0) 0 x; still = rw e at (eqb-true (bitAnd w 0xF0F0_F0F0_F0F0_F0F0) 0 y) })
+pub nines : (d w : ℕ) → w ≡ (d + sixes) % packedLimit → eqb (bitAnd d highHalves) 0 && eqb (bitAnd w highHalves) 0 ≡ true → Nines d
+nines d w e b = and-both (eqb (bitAnd d highHalves) 0) (eqb (bitAnd w highHalves) 0) b (λ x y. record { halves = eqb-true (bitAnd d highHalves) 0 x; still = rw e at (eqb-true (bitAnd w highHalves) 0 y) })

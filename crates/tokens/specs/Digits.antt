@@ -47,7 +47,17 @@ unfoldable pub joined : ℕ → List ℕ → ℕ → ℕ
 joined zero s at = 0
 joined (suc k) s at = joined k s at * 256 + getD s (at + k) 0
 
+-- in each of eight bytes: the digit 0, the high half, and 6
+abbrev pub zeros : ℕ
+zeros = 0x3030_3030_3030_3030
+
+abbrev pub highHalves : ℕ
+highHalves = 0xF0F0_F0F0_F0F0_F0F0
+
+abbrev pub sixes : ℕ
+sixes = 0x0606_0606_0606_0606
+
 -- the high half of each byte is 0, and still is with 6 more: each byte is at most 9
 pub record Nines (d : ℕ) : Type 0 where
-  pub halves : bitAnd d 0xF0F0_F0F0_F0F0_F0F0 ≡ 0
-  pub still : bitAnd ((d + 0x0606_0606_0606_0606) % packedLimit) 0xF0F0_F0F0_F0F0_F0F0 ≡ 0
+  pub halves : bitAnd d highHalves ≡ 0
+  pub still : bitAnd ((d + sixes) % packedLimit) highHalves ≡ 0

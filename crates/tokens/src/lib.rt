@@ -10,7 +10,7 @@ ghost use Rattle.message_rules.specs.Scan.{cut, scanFault};
 ghost use Rattle.tokens.specs.Cursor.{rowEnd, cutAt, restAt, Reads};
 ghost use Rattle.tokens.specs.Head.{HeadAt, headOf, markHead, LacksComma};
 ghost use Rattle.tokens.specs.Scanned.{foundOf};
-ghost use Rattle.tokens.specs.Digits.{Led, DigitsEnd, DigitsAt, joined, Nines};
+ghost use Rattle.tokens.specs.Digits.{Led, DigitsEnd, DigitsAt, joined, zeros, Nines};
 ghost use Rattle.tokens.specs.Turn.{ScanTurn, Plains, PlainEnd};
 
 // How many braces may be open.
@@ -297,13 +297,23 @@ fn digits_by_byte(s: &[u8], at: usize) -> Digits
     digits_before(s, at, i, sum, 0)
 }
 
+// A byte as a u64.
 fn wide(b: u8) -> u64
     ensures { λ r. ⌜ (r ≡ b) × (r < 256) ⌝ }
 {
     b as u64
 }
 
-// A guess at how many of eight bytes are digits: those before the first byte without a bit that every digit has.
+// In each of eight bytes: the digit 0, the bit 4 that every digit has, the high half, and 6.
+const ZEROS: u64 = 0x3030_3030_3030_3030;
+
+const BITS: u64 = 0x1010_1010_1010_1010;
+
+const HIGH_HALVES: u64 = 0xF0F0_F0F0_F0F0_F0F0;
+
+const SIXES: u64 = 0x0606_0606_0606_0606;
+
+// A guess at how many of eight bytes are digits: those before the first without the bit 4.
 fn digit_guess(s: &[u8], at: usize) -> usize
     requires { ⌜ at + 8 ≤ length (now s) ⌝ }
 {
@@ -315,9 +325,10 @@ fn digit_guess(s: &[u8], at: usize) -> usize
         | wide(s[at + 5]) << 40
         | wide(s[at + 6]) << 48
         | wide(s[at + 7]) << 56;
-    count(u64::trailing_zeros(!w & 0x1010_1010_1010_1010) / 8)
+    count(u64::trailing_zeros(!w & BITS) / 8)
 }
 
+// A u32 as a usize.
 fn count(n: u32) -> usize {
     n as usize
 }
@@ -330,6 +341,7 @@ fn four_at(s: &[u8], at: usize) -> u64
     ((wide(s[at]) * 256 + wide(s[at + 1])) * 256 + wide(s[at + 2])) * 256 + wide(s[at + 3])
 }
 
+// Eight bytes as one number, the first highest.
 fn eight_at(s: &[u8], at: usize) -> u64
     requires { ⌜ at + 8 ≤ length (now s) ⌝ }
     ensures { λ r. ⌜ r ≡ joined 8 (now (s .entry)) at ⌝ }
@@ -341,16 +353,15 @@ fn eight_at(s: &[u8], at: usize) -> u64
 fn are_digits(d: u64) -> bool
     ensures { λ r. ⌜ (r ≡ true → Nines d) ⌝ }
 {
-    (d & 0xF0F0_F0F0_F0F0_F0F0 == 0)
-        & (std::num::wrapping_add_u64(d, 0x0606_0606_0606_0606) & 0xF0F0_F0F0_F0F0_F0F0 == 0)
+    (d & HIGH_HALVES == 0) & (std::num::wrapping_add_u64(d, SIXES) & HIGH_HALVES == 0)
 }
 
 // The first c of eight bytes, their digits packed where they are digits.
 fn first_digits(s: &[u8], at: usize, c: usize) -> u64
     requires { ⌜ (at + 8 ≤ length (now s)) × (0 < c) × (c < 8) ⌝ }
-    ensures { λ r. ⌜ r ≡ bitXor (joined 8 (now (s .entry)) at) 0x3030_3030_3030_3030 / 2 ^ (64 - 8 * c) ⌝ }
+    ensures { λ r. ⌜ r ≡ bitXor (joined 8 (now (s .entry)) at) zeros / 2 ^ (64 - 8 * c) ⌝ }
 {
-    (eight_at(s, at) ^ 0x3030_3030_3030_3030) >> (64 - 8 * c)
+    (eight_at(s, at) ^ ZEROS) >> (64 - 8 * c)
 }
 
 // The digits at a place by eight bytes at once, so that no branch depends on how many there are. Other where these bytes

@@ -4,9 +4,10 @@
 use crate::definition;
 use crate::generate::Rng;
 use crate::plain;
-use std::fmt;
 use std::hint::black_box;
+use std::path::Path;
 use std::time::{Duration, Instant};
+use std::{fmt, fs, io};
 
 /// The row count, or a number and a place.
 type Answer = Result<usize, (u32, usize)>;
@@ -75,37 +76,56 @@ pub fn has_library() -> bool {
     PROVED.is_some()
 }
 
-/// One table and message, with enough numbers lent.
+/// A table and messages that are read in turn, with enough numbers lent. Of one message alone the
+/// processor learns every branch by heart.
 struct Input {
     name: &'static str,
     table: Vec<u8>,
-    message: Vec<u8>,
+    messages: Vec<Vec<u8>>,
 }
 
 impl Input {
     fn new(name: &'static str, definition: &[u8], message: Vec<u8>) -> Input {
+        Input::of_many(name, definition, vec![message])
+    }
+
+    fn of_many(name: &'static str, definition: &[u8], messages: Vec<Vec<u8>>) -> Input {
         let table = definition::compile(definition, 65_536).expect("a lawful definition");
-        assert!(message.len() <= 16_384, "{name} is too long");
+        let most = messages.iter().map(Vec::len).max();
+        assert!(
+            most.is_some_and(|most| most <= 16_384),
+            "{name}: no message, or too long"
+        );
         Input {
             name,
             table,
-            message,
+            messages,
         }
     }
 
-    /// A reader's answer and all lent numbers after.
-    fn answer(&self, reader: Reader) -> (Answer, Vec<u32>) {
-        let mut rows = vec![LENT; 4 * MOST_ROWS + 3];
-        let answer = reader(&self.table, &self.message, &mut rows);
-        (answer, rows)
+    /// The bytes of a message, on average.
+    fn bytes(&self) -> usize {
+        self.messages.iter().map(Vec::len).sum::<usize>() / self.messages.len()
     }
 
-    /// How long so many readings take.
+    /// A reader's answers and all lent numbers after each.
+    fn answers(&self, reader: Reader) -> Vec<(Answer, Vec<u32>)> {
+        let answer = |message: &Vec<u8>| {
+            let mut rows = vec![LENT; 4 * MOST_ROWS + 3];
+            let answer = reader(&self.table, message, &mut rows);
+            (answer, rows)
+        };
+        self.messages.iter().map(answer).collect()
+    }
+
+    /// How long it takes to read all messages so many times.
     fn time(&self, reader: Reader, turns: u32, rows: &mut [u32]) -> Duration {
         let start = Instant::now();
         for _ in 0..turns {
-            let (table, message) = (black_box(&self.table), black_box(&self.message));
-            black_box(reader(table, message, black_box(&mut *rows)).is_ok());
+            for message in &self.messages {
+                let (table, message) = (black_box(&self.table), black_box(message));
+                black_box(reader(table, message, black_box(&mut *rows)).is_ok());
+            }
         }
         start.elapsed()
     }
@@ -132,7 +152,8 @@ impl Input {
         for _ in 0..ROUNDS {
             for (best, &(reader, turns)) in best.iter_mut().zip(&timed) {
                 let time = self.time(reader, turns, &mut rows);
-                *best = best.min(time.as_secs_f64() * 1e9 / f64::from(turns));
+                let readings = f64::from(turns) * self.messages.len() as f64;
+                *best = best.min(time.as_secs_f64() * 1e9 / readings);
             }
         }
         best
@@ -144,9 +165,16 @@ const TILE: &[u8] = b"struct tile { int<1..99999> id as ?; date surveyed; \
 const DEEP: &[u8] = b"struct r { r x[0..1]; };";
 const CHAIN: &[u8] = b"struct r { u a; }; union u { int<0..9> n as ?; u a; };";
 
+/// How many tiles differ.
+const TILES: u64 = 64;
+
 /// A tile with so many soundings, of one to five digits.
 fn tile(soundings: usize) -> Vec<u8> {
-    let mut rng = Rng::new(1);
+    seeded_tile(1, soundings)
+}
+
+fn seeded_tile(seed: u64, soundings: usize) -> Vec<u8> {
+    let mut rng = Rng::new(seed);
     let mut message = b"17 surveyed=20240310 d=".to_vec();
     for number in 0..soundings {
         let (low, high) = [
@@ -163,7 +191,14 @@ fn tile(soundings: usize) -> Vec<u8> {
     message
 }
 
-/// The same with a sounding that is too deep at its end.
+/// Tiles that differ, each with so many soundings.
+fn tiles(soundings: usize) -> Vec<Vec<u8>> {
+    (1..=TILES)
+        .map(|seed| seeded_tile(seed, soundings))
+        .collect()
+}
+
+/// A tile with a sounding that is too deep at its end.
 fn faulty_tile(soundings: usize) -> Vec<u8> {
     [tile(soundings - 1), b",30001".to_vec()].concat()
 }
@@ -200,6 +235,7 @@ fn inputs() -> Vec<Input> {
         Input::new("tile, 2 soundings", TILE, tile(2)),
         Input::new("tile, 100 soundings", TILE, tile(100)),
         Input::new("tile, 2,500 soundings", TILE, tile(2_500)),
+        Input::of_many("64 such tiles in turn", TILE, tiles(2_500)),
         Input::new("255 fields in order", &wide(), wide_message(false)),
         Input::new("255 fields mixed", &wide(), wide_message(true)),
         Input::new("sixteen braces deep", DEEP, deep_message()),
@@ -243,25 +279,26 @@ fn readers(plain_only: bool) -> Vec<(&'static str, Reader)> {
     proved.into_iter().chain(plain).collect()
 }
 
-/// The answer to an input, none where the readers' answers differ, which it prints.
+/// The answer to an input's first message, none where the readers' answers differ, which it prints.
 fn common_answer(input: &Input, readers: &[(&str, Reader)]) -> Option<Answer> {
-    let (answer, rows) = input.answer(plain::read);
+    let answers = input.answers(plain::read);
     let mut equal = true;
     for &(name, reader) in readers {
-        let (other, other_rows) = input.answer(reader);
-        if (other, &other_rows) == (answer, &rows) {
-            continue;
+        for ((answer, rows), (other, other_rows)) in answers.iter().zip(input.answers(reader)) {
+            if (other, &other_rows) == (*answer, rows) {
+                continue;
+            }
+            let how = if other == *answer {
+                "rows differ"
+            } else {
+                "differ"
+            };
+            let (other, answer) = (shown(other), shown(*answer));
+            println!("{}: {name} {other}, plain {answer}: {how}", input.name);
+            equal = false;
         }
-        let how = if other == answer {
-            "rows differ"
-        } else {
-            "differ"
-        };
-        let (other, answer) = (shown(other), shown(answer));
-        println!("{}: {name} {other}, plain {answer}: {how}", input.name);
-        equal = false;
     }
-    equal.then_some(answer)
+    equal.then(|| answers[0].0)
 }
 
 fn print_heads(library: bool) {
@@ -305,7 +342,7 @@ pub fn run(plain_only: bool) -> bool {
             equal = false;
             continue;
         };
-        let (table, bytes) = (input.table.len(), input.message.len());
+        let (table, bytes) = (input.table.len(), input.bytes());
         let answer = shown(answer);
         print!("{:<22} {table:>6} {bytes:>6}  {answer:<12}", input.name);
         print_times(&input.best(&timed), bytes);
@@ -313,26 +350,58 @@ pub fn run(plain_only: bool) -> bool {
     equal
 }
 
+/// Writes the table and the message of each input that has one message to a folder, as NUMBER.table
+/// and NUMBER.msg; and the names, a line each, as `names`.
+pub fn write_inputs(folder: &Path) -> io::Result<()> {
+    let mut names = String::new();
+    let single = |input: &Input| input.messages.len() == 1;
+    for (number, input) in inputs().into_iter().filter(single).enumerate() {
+        fs::write(folder.join(format!("{number}.table")), &input.table)?;
+        fs::write(folder.join(format!("{number}.msg")), &input.messages[0])?;
+        names.push_str(&format!("{}\n", input.name));
+    }
+    fs::write(folder.join("names"), names)
+}
+
 #[cfg(test)]
 mod tests {
     use super::*;
     use crate::message;
+
+    /// The reference program's answer to a message and all lent numbers after.
+    fn reference(table: &[u8], message: &[u8]) -> (Answer, Vec<u32>) {
+        let mut rows = vec![LENT; 4 * MOST_ROWS + 3];
+        let answer = message::read_into(table, message, &mut rows);
+        (
+            answer.map_err(|refusal| (refusal.number, refusal.place)),
+            rows,
+        )
+    }
 
     /// The inputs mean what their names say.
     #[test]
     fn inputs_get_the_reference_answers() {
         let mut answers = Vec::new();
         for input in inputs() {
-            let mut wanted = vec![LENT; 4 * MOST_ROWS + 3];
-            let want = message::read_into(&input.table, &input.message, &mut wanted);
-            let want = want.map_err(|refusal| (refusal.number, refusal.place));
-            let wanted = (want, wanted);
-            assert_eq!(input.answer(plain::read), wanted, "{}", input.name);
-            assert_eq!(input.answer(plain::read_twice), wanted, "{}", input.name);
-            answers.push(want.map_err(|(number, _)| number));
+            let reference = |message: &Vec<u8>| reference(&input.table, message);
+            let wanted: Vec<_> = input.messages.iter().map(reference).collect();
+            assert_eq!(input.answers(plain::read), wanted, "{}", input.name);
+            assert_eq!(input.answers(plain::read_twice), wanted, "{}", input.name);
+            let number = wanted[0].0.map_err(|(number, _)| number);
+            assert!(wanted
+                .iter()
+                .all(|(answer, _)| answer.map_err(|(number, _)| number) == number));
+            answers.push(number);
         }
-        let wanted = [5, 103, 2_503, 256, 256, 17, 8_193];
-        assert_eq!(answers[..7], wanted.map(Ok));
-        assert_eq!(answers[7..], [Err(24)]);
+        let wanted = [5, 103, 2_503, 2_503, 256, 256, 17, 8_193];
+        assert_eq!(answers[..8], wanted.map(Ok));
+        assert_eq!(answers[8..], [Err(24)]);
+    }
+
+    /// Of the tiles that are read in turn no two are the same.
+    #[test]
+    fn tiles_differ() {
+        let tiles: std::collections::BTreeSet<_> = tiles(2_500).into_iter().collect();
+        assert_eq!(tiles.len() as u64, TILES);
     }
 }

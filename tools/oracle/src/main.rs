@@ -1,6 +1,7 @@
 //! The reference program: answers frames, makes frames, and checks itself by brute force.
 
 use std::io::{self, BufReader, BufWriter};
+use std::path::Path;
 use std::process::ExitCode;
 
 const USAGE: &str = "\
@@ -9,6 +10,7 @@ usage: oracle answer                 answer the frames of standard input, a line
        oracle generate SEED COUNT    write frames to standard output, the worked cases first
        oracle brute SEED COUNT       compare the reference with plain enumerations
        oracle bench [--plain]        time the proved and the plain reader, or the plain one alone
+       oracle bench --inputs FOLDER  write what is timed: NUMBER.table, NUMBER.msg, and the names
        oracle --help                 this page
 ";
 
@@ -36,6 +38,7 @@ fn main() -> ExitCode {
         ["brute", seed, count] => with_numbers(seed, count, oracle::brute::run),
         ["bench"] => bench(false),
         ["bench", "--plain"] => bench(true),
+        ["bench", "--inputs", folder] => done(oracle::bench::write_inputs(Path::new(folder))),
         ["--help" | "-h"] => {
             print!("{USAGE}");
             ExitCode::SUCCESS
@@ -47,7 +50,12 @@ fn main() -> ExitCode {
 fn answer() -> ExitCode {
     let input = BufReader::with_capacity(1 << 16, io::stdin().lock());
     let output = BufWriter::with_capacity(1 << 16, io::stdout().lock());
-    match oracle::frames::answer(input, output) {
+    done(oracle::frames::answer(input, output))
+}
+
+/// The status of what was read or written.
+fn done(result: io::Result<()>) -> ExitCode {
+    match result {
         Ok(()) => ExitCode::SUCCESS,
         Err(error) => {
             eprintln!("oracle: {error}");
