@@ -84,5 +84,8 @@ two-first x h =
     subst (λ k. Packed k (x / 10 * 256 + x % 10)) a (subst (λ q. Packed ((0 * 10 + x / 10) * 10 + x % 10) q) b (more (x % 10) (omega arith) (more (x / 10) (omega arith) none)))
 
 -- the digits two by two
-pub pairs : (x a b c : ℕ) → x < 100_000_000 → a ≡ x / 100 → b ≡ a / 100 → c ≡ b / 100 → (e f g h : ℕ) → e ≡ c / 10 * 256 + c % 10 → f ≡ b % 100 / 10 * 256 + b % 100 % 10 → g ≡ a % 100 / 10 * 256 + a % 100 % 10 → h ≡ x % 100 / 10 * 256 + x % 100 % 10 → PackedBound x (((e * 65536 + f) * 65536 + g) * 65536 + h)
-pairs x a b c l p q r e f g h i j k m = rw (i, j, k, m) (packed-bound x _ (two-more x p (two-more a q (two-more b r (two-first c (omega arith))))))
+pub three-pairs : (x a b : ℕ) → x < 1_000_000 → a ≡ x / 100 → b ≡ a / 100 → (e f g : ℕ) → e ≡ b / 10 * 256 + b % 10 → f ≡ a % 100 / 10 * 256 + a % 100 % 10 → g ≡ x % 100 / 10 * 256 + x % 100 % 10 → PackedBound x ((e * 65536 + f) * 65536 + g)
+three-pairs x a b l p q e f g i j k = rw (i, j, k) (packed-bound x _ (two-more x p (two-more a q (two-first b (omega arith)))))
+
+pub four-pairs : (x a b c : ℕ) → x < 100_000_000 → a ≡ x / 100 → b ≡ a / 100 → c ≡ b / 100 → (e f g h : ℕ) → e ≡ c / 10 * 256 + c % 10 → f ≡ b % 100 / 10 * 256 + b % 100 % 10 → g ≡ a % 100 / 10 * 256 + a % 100 % 10 → h ≡ x % 100 / 10 * 256 + x % 100 % 10 → PackedBound x (((e * 65536 + f) * 65536 + g) * 65536 + h)
+four-pairs x a b c l p q r e f g h i j k m = rw (i, j, k, m) (packed-bound x _ (two-more x p (two-more a q (two-more b r (two-first c (omega arith))))))

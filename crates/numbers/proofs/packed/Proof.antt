@@ -1,6 +1,4 @@
-use mathlib.Core.Path.{refl}
-use native.Mathlib.Omega.{arith}
-use Rattle.numbers.proofs.Packing.{one-digit, packed-none, pairs}
+use Rattle.numbers.proofs.Packing.{one-digit, packed-none}
 use borrow.Author.Needs.{needs}
 use Rattle.numbers.proofs.packed.Statement.{statement}
 use Rattle.numbers.proofs.packed.Tie as tie
@@ -14,38 +12,17 @@ returns c = rw (c .wide64 .ensures .0) (one-digit _ (c .before .if1 .taken))
 returns-2 : tie.Need-returns-2
 returns-2 c = packed-none _ (c .if2 .taken)
 
-two-digits-requires : tie.Need-two-digits-requires
-two-digits-requires c κs = search needs
-
-mul-high : tie.Need-mul-high
-mul-high c = search needs
-
-two-digits-requires-2 : tie.Need-two-digits-requires-2
-two-digits-requires-2 c κs = search needs
-
-add-high : tie.Need-add-high
-add-high c = search needs
-
-mul-result : tie.Need-mul-result
-mul-result c = search needs
-
-two-digits-requires-3 : tie.Need-two-digits-requires-3
-two-digits-requires-3 c κs = search needs
-
-add-result : tie.Need-add-result
-add-result c = search needs
-
-mul-result-2 : tie.Need-mul-result-2
-mul-result-2 c = search needs
-
-two-digits-requires-4 : tie.Need-two-digits-requires-4
-two-digits-requires-4 c κs = search needs
-
-add-result-2 : tie.Need-add-result-2
-add-result-2 c = search needs
+six-digits-requires : tie.Need-six-digits-requires
+six-digits-requires c κs = search needs
 
 returns-3 : tie.Need-returns-3
-returns-3 c = pairs _ _ _ _ (omega arith) refl refl refl _ _ _ _ (c .before .before .before .two-digits .ensures .0) (c .before .before .two-digits2 .ensures .0) (c .before .two-digits3 .ensures .0) (c .two-digits4 .ensures .0)
+returns-3 c = c .six-digits .ensures
+
+eight-digits-requires : tie.Need-eight-digits-requires
+eight-digits-requires c κs = search needs
+
+returns-4 : tie.Need-returns-4
+returns-4 c = c .eight-digits .ensures
 
 pub packed-spec : {M : Type 1} → statement M
 packed-spec =
@@ -54,14 +31,7 @@ packed-spec =
     wide64-requires
     returns
     returns-2
-    two-digits-requires
-    mul-high
-    two-digits-requires-2
-    add-high
-    mul-result
-    two-digits-requires-3
-    add-result
-    mul-result-2
-    two-digits-requires-4
-    add-result-2
-    returns-3)
+    six-digits-requires
+    returns-3
+    eight-digits-requires
+    returns-4)
