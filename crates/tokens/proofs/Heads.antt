@@ -50,8 +50,19 @@ module _ (base : ℕ) (s : List ℕ) (i : ℕ) where
 
 -- a mark that stands at i
 module _ (base : ℕ) (s : List ℕ) (i : ℕ) (h : i < length s) where
+  here : (t : Token) (b : ℕ) → getD s i 0 ≡ b → isBlank b ≡ false → Step (restAt base s i) base s i t i (i + 1) → Step (cutAt base s i) base s i t i (i + 1)
+  here t b e z w = rw (solid base s i h (ap isBlank e ∙ z)) w
+
+  pub here-opening : getD s i 0 ≡ 123 → Step (cutAt base s i) base s i opening i (i + 1)
+  unfolding isBlank
+  here-opening e = here opening 123 e refl (step-opening base s i h e)
+
+  pub here-closing : getD s i 0 ≡ 125 → Step (cutAt base s i) base s i closing i (i + 1)
+  unfolding isBlank
+  here-closing e = here closing 125 e refl (step-closing base s i h e)
+
   mark-at : (k b : ℕ) → k ≤ 6 → (k ≡ 0 → ⊥) → getD s i 0 ≡ b → isBlank b ≡ false → Step (restAt base s i) base s i (tokenOf k s i (i + 1)) i (i + 1) → HeadAt base s i (markHead k i)
-  mark-at k b f n e z w = head-some base s i k i (record { at = i + 1 }) f n (rw (solid base s i h (ap isBlank e ∙ z)) w)
+  mark-at k b f n e z w = head-some base s i k i (record { at = i + 1 }) f n (here (tokenOf k s i (i + 1)) b e z w)
 
   pub mark-equals : getD s i 0 ≡ 61 → HeadAt base s i (markHead 3 i)
   unfolding tokenOf isBlank

@@ -400,6 +400,25 @@ pub fn digits_at(s: &[u8], at: usize) -> Digits
     }
 }
 
+impl Cursor {
+    // The token that stands next. A brace that stands here is read at once.
+    fn brace_or_next(self, s: &[u8]) -> Lexeme
+        ensures { λ r. ⌜ ((base : ℕ) → Reads (cutAt base (now (s .entry)) (self .at)) base (now (s .entry)) (self .at) r) ⌝ }
+    {
+        let at = self.at;
+        if at < s.len() {
+            let b = s[at];
+            if b == b'{' {
+                return Lexeme::Opening(at, Cursor { at: at + 1 });
+            }
+            if b == b'}' {
+                return Lexeme::Closing(at, Cursor { at: at + 1 });
+            }
+        }
+        self.next(s)
+    }
+}
+
 // Whether number 22 is due, and where.
 pub enum Scanned {
     Clean,
@@ -416,7 +435,7 @@ fn scan_turn(s: &[u8], u: Cursor, deep: usize) -> Turn
     requires { ⌜ deep ≤ openLimit ⌝ }
     ensures { λ r. ⌜ ScanTurn (now (s .entry)) (u .at) deep r ⌝ }
 {
-    match u.next(s) {
+    match u.brace_or_next(s) {
         Lexeme::Word(_, v) => Turn::On(v, deep),
         Lexeme::Text(_, v) => Turn::On(v, deep),
         Lexeme::Equals(_, v) => Turn::On(v, deep),

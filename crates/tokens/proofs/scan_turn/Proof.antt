@@ -6,8 +6,8 @@ use borrow.Author.Needs.{needs}
 use Rattle.tokens.proofs.scan_turn.Statement.{statement}
 use Rattle.tokens.proofs.scan_turn.Tie as tie
 
-next-requires : tie.Need-next-requires
-next-requires c κs = search needs
+brace-or-next-requires : tie.Need-brace-or-next-requires
+brace-or-next-requires c κs = search needs
 
 enum-known-v : tie.Need-enum-known-v
 enum-known-v c = search needs
@@ -25,7 +25,7 @@ enum-known-a : tie.Need-enum-known-a
 enum-known-a c = search needs
 
 returns : tie.Need-returns
-returns c = scan-deep _ _ _ (c .before .before .before .before .next .result) (c .before .before .before .before .before .before .pre) (c .before .before .before .before .next .ensures 0) _ _ (c .before .before .a .given .1) (c .if1 .taken)
+returns c = scan-deep _ _ _ (c .before .before .before .before .brace-or-next .result) (c .before .before .before .before .before .before .pre) (c .before .before .before .before .brace-or-next .ensures 0) _ _ (c .before .before .a .given .1) (c .if1 .taken)
 
 add-t16 : tie.Need-add-t16
 add-t16 c = search needs
@@ -34,7 +34,7 @@ enum-known-v-5 : tie.Need-enum-known-v-5
 enum-known-v-5 c = search needs
 
 returns-2 : tie.Need-returns-2
-returns-2 c = scan-closing _ _ _ (c .before .before .before .before .next .result) (c .before .before .before .before .before .before .pre) (c .before .before .before .before .next .ensures 0) _ _ _ (c .before .before .v5 .given .1) (omega (arith, c .if2 .taken))
+returns-2 c = scan-closing _ _ _ (c .before .before .before .before .brace-or-next .result) (c .before .before .before .before .before .before .pre) (c .before .before .before .before .brace-or-next .ensures 0) _ _ _ (c .before .before .v5 .given .1) (omega (arith, c .if2 .taken))
 
 sub-t18 : tie.Need-sub-t18
 sub-t18 c = search needs
@@ -46,34 +46,34 @@ enum-known-a-2 : tie.Need-enum-known-a-2
 enum-known-a-2 c = search needs
 
 returns-3 : tie.Need-returns-3
-returns-3 c = scan-word _ _ _ (c .before .before .before .next .result) (c .before .before .before .before .before .pre) (c .before .before .before .next .ensures 0) _ _ (c .before .v .given .1)
+returns-3 c = scan-word _ _ _ (c .before .before .before .brace-or-next .result) (c .before .before .before .before .before .pre) (c .before .before .before .brace-or-next .ensures 0) _ _ (c .before .v .given .1)
 
 returns-4 : tie.Need-returns-4
-returns-4 c = scan-string _ _ _ (c .before .before .before .next .result) (c .before .before .before .before .before .pre) (c .before .before .before .next .ensures 0) _ _ (c .before .v2 .given .1)
+returns-4 c = scan-string _ _ _ (c .before .before .before .brace-or-next .result) (c .before .before .before .before .before .pre) (c .before .before .before .brace-or-next .ensures 0) _ _ (c .before .v2 .given .1)
 
 returns-5 : tie.Need-returns-5
-returns-5 c = scan-equals _ _ _ (c .before .before .before .next .result) (c .before .before .before .before .before .pre) (c .before .before .before .next .ensures 0) _ _ (c .before .v3 .given .1)
+returns-5 c = scan-equals _ _ _ (c .before .before .before .brace-or-next .result) (c .before .before .before .before .before .pre) (c .before .before .before .brace-or-next .ensures 0) _ _ (c .before .v3 .given .1)
 
 returns-6 : tie.Need-returns-6
-returns-6 c = scan-comma _ _ _ (c .before .before .before .next .result) (c .before .before .before .before .before .pre) (c .before .before .before .next .ensures 0) _ _ (c .before .v4 .given .1)
+returns-6 c = scan-comma _ _ _ (c .before .before .before .brace-or-next .result) (c .before .before .before .before .before .pre) (c .before .before .before .brace-or-next .ensures 0) _ _ (c .before .v4 .given .1)
 
 returns-7 : tie.Need-returns-7
-returns-7 c = scan-opening _ _ _ (c .before .before .before .before .next .result) (c .before .before .before .before .before .before .pre) (c .before .before .before .before .next .ensures 0) _ _ (c .before .before .a .given .1) (c .if1 .left)
+returns-7 c = scan-opening _ _ _ (c .before .before .before .before .brace-or-next .result) (c .before .before .before .before .before .before .pre) (c .before .before .before .before .brace-or-next .ensures 0) _ _ (c .before .before .a .given .1) (c .if1 .left)
 
 returns-8 : tie.Need-returns-8
-returns-8 c = scan-closing _ _ _ (c .before .before .before .before .next .result) (c .before .before .before .before .before .before .pre) (c .before .before .before .before .next .ensures 0) _ _ _ (c .before .before .v5 .given .1) refl
+returns-8 c = scan-closing _ _ _ (c .before .before .before .before .brace-or-next .result) (c .before .before .before .before .before .before .pre) (c .before .before .before .before .brace-or-next .ensures 0) _ _ _ (c .before .before .v5 .given .1) refl
 
 returns-9 : tie.Need-returns-9
-returns-9 c = scan-end _ _ _ (c .before .before .next .result) (c .before .before .before .before .pre) (c .before .before .next .ensures 0) (c .enum-told .given .1)
+returns-9 c = scan-end _ _ _ (c .before .before .brace-or-next .result) (c .before .before .before .before .pre) (c .before .before .brace-or-next .ensures 0) (c .enum-told .given .1)
 
 returns-10 : tie.Need-returns-10
-returns-10 c = scan-bad _ _ _ (c .before .before .before .next .result) (c .before .before .before .before .before .pre) (c .before .before .before .next .ensures 0) _ (c .before .a2 .given .1)
+returns-10 c = scan-bad _ _ _ (c .before .before .before .brace-or-next .result) (c .before .before .before .before .before .pre) (c .before .before .before .brace-or-next .ensures 0) _ (c .before .a2 .given .1)
 
 pub scan-turn-spec : {M : Type 1} → statement M
 scan-turn-spec =
     tie.close
     (tie.spec
-    next-requires
+    brace-or-next-requires
     enum-known-v
     enum-known-v-2
     enum-known-v-3
