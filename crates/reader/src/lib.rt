@@ -203,7 +203,7 @@ fn choice(table: &[u8], unpacked: &[u32], n: usize, s: &[u8], rows: &mut [u32], 
     loop {
         let u = lookup::core(table, unpacked, n, g.parameter);
         if !is_union(table, unpacked, n, u) {
-            let got = value(table, unpacked, n, s, rows, g);
+            let got = value(table, unpacked, n, s, rows, g, u);
             return close_chain(rows, f.base, f.row, g.row, got);
         }
         match choices::choose(table, unpacked, n, s, g, u) {
@@ -250,13 +250,21 @@ fn braced(
     }
 }
 
-// A value of what is no union.
-fn value(table: &[u8], unpacked: &[u32], n: usize, s: &[u8], rows: &mut [u32], f: Frame) -> Got
+// A value of what is no union: f.parameter's, whose own kind is that of u.
+fn value(
+    table: &[u8],
+    unpacked: &[u32],
+    n: usize,
+    s: &[u8],
+    rows: &mut [u32],
+    f: Frame,
+    u: usize,
+) -> Got
     requires { ⌜ Room f (length (now s)) n ⌝ }
     requires { ⌜ f .parameter < n ⌝ }
+    requires { ⌜ u ≡ schemaAt (now table) (now unpacked) n .core (f .parameter) ⌝ }
     ensures { λ r. ⌜ PlainAt (schemaAt (now (table .entry)) (now (unpacked .entry)) n) (now (s .entry)) f (now (rows .entry)) (now (rows .exit)) r ⌝ }
 {
-    let u = lookup::core(table, unpacked, n, f.parameter);
     match lookup::kind(table, unpacked, n, u) {
         Shape::Void => values::no_value(s, f),
         Shape::Simple => values::simple(table, unpacked, n, s, rows, f, u),

@@ -143,7 +143,7 @@ value-at t = and 4 value-kinds.ps (is 4 value-kinds.ps μ-value t) value.Pre
 abbrev value-below : ℕ → In 4 value-kinds.ps
 value-below t = and 4 value-kinds.ps (falls 4 value-kinds.ps _<_ μ-value t) value.Pre
 
--- src/lib.rt:502:13
+-- src/lib.rt:510:13
 body-head-requires : (t : ℕ) → body-lts.Need-head-requires (
   head-reads.Asked,
   head-reads.Learnt,
@@ -154,7 +154,7 @@ body-head-requires : (t : ℕ) → body-lts.Need-head-requires (
 ) (body-at t) body.Post
 body-head-requires t c κs = search needs
 
--- src/lib.rt:503:32
+-- src/lib.rt:511:32
 body-add-t11 : (t : ℕ) → body-lts.Need-add-t11 (
   head-reads.Asked,
   head-reads.Learnt,
@@ -165,7 +165,7 @@ body-add-t11 : (t : ℕ) → body-lts.Need-add-t11 (
 ) (body-at t) body.Post
 body-add-t11 t c = omega (arith, c .before .before .head .ensures 0 .within, c .before .before .before .before .before .before .before .before .before .pre .1 .short)
 
--- src/lib.rt:503:9
+-- src/lib.rt:511:9
 body-returns : (t : ℕ) → body-lts.Need-returns (
   head-reads.Asked,
   head-reads.Learnt,
@@ -176,7 +176,7 @@ body-returns : (t : ℕ) → body-lts.Need-returns (
 ) (body-at t) body.Post
 body-returns t c = body-none _ _ (c .before .before .before .before .before .before .before .before .before .args .f) _ (c .before .before .head .result) (c .before .before .head .ensures _) (c .before .before .before .if1 .taken)
 
--- src/lib.rt:505:41
+-- src/lib.rt:513:41
 body-deeper-requires : (t : ℕ) → body-lts.Need-deeper-requires (
   head-reads.Asked,
   head-reads.Learnt,
@@ -187,7 +187,7 @@ body-deeper-requires : (t : ℕ) → body-lts.Need-deeper-requires (
 ) (body-at t) body.Post
 body-deeper-requires t c κs = pos-of-ne-zero (c .before .if1 .left)
 
--- src/lib.rt:505:5
+-- src/lib.rt:513:5
 body-fields-requires : (t : ℕ) → body-lts.Need-fields-requires (
   head-reads.Asked,
   head-reads.Learnt,
@@ -198,7 +198,7 @@ body-fields-requires : (t : ℕ) → body-lts.Need-fields-requires (
 ) (body-at t) body.Post
 body-fields-requires t c κs = rw (c .deeper .ensures) (omega (arith, c .before .before .before .before .before .before .before .before .pre .1, pos-of-ne-zero (c .before .before .if1 .left)))
 
--- src/lib.rt:488:1
+-- src/lib.rt:496:1
 body-same-length : (t : ℕ) → body-lts.Need-same-length (
   head-reads.Asked,
   head-reads.Learnt,
@@ -209,7 +209,7 @@ body-same-length : (t : ℕ) → body-lts.Need-same-length (
 ) (body-at t) body.Post
 body-same-length t c = search needs
 
--- src/lib.rt:488:1
+-- src/lib.rt:496:1
 body-returns-2 : (t : ℕ) → body-lts.Need-returns-2 (
   head-reads.Asked,
   head-reads.Learnt,
@@ -529,7 +529,7 @@ choice-value-requires : (t : ℕ) → choice-lts.Need-value-requires (
   whole-reads.Asked,
   whole-reads.Learnt,
 ) (choice-at t) choice.Post choice-Inv-loop choice-μ-loop
-choice-value-requires t c κs = let r = (choosing-room (c .before .before .before .before .loop .inv)) in omega (arith, r, c .before .before .before .before .loop .inv .down .named, choosing-depth (c .before .before .before .before .loop .inv))
+choice-value-requires t c κs = let r = (choosing-room (c .before .before .before .before .loop .inv)) in omega (arith, r, c .before .before .before .before .loop .inv .down .named, choosing-depth (c .before .before .before .before .loop .inv), c .before .before .before .core .ensures)
 
 -- src/lib.rt:207:13
 choice-close-chain-requires : (t : ℕ) → choice-lts.Need-close-chain-requires (
@@ -888,7 +888,7 @@ choice-returns-3 : (t : ℕ) → choice-lts.Need-returns-3 (
 ) (choice-at t) choice.Post choice-Inv-loop choice-μ-loop
 choice-returns-3 t c = choosing-stopped (c .before .before .before .before .before .before .before .loop .inv) _ _ _ (c .before .before .before .before .before .before .core .ensures) (sym (c .before .before .before .before .before .is-union .ensures) ∙ not-false _ (c .before .before .before .before .if1 .left)) (rw (c .before .k .given .1) at (c .before .before .before .choose .ensures))
 
--- src/lib.rt:321:11
+-- src/lib.rt:329:11
 element-list-value-requires : (t : ℕ) → element-lts.Need-list-value-requires (
   list-value-below t,
   list-value.Post,
@@ -897,7 +897,7 @@ element-list-value-requires : (t : ℕ) → element-lts.Need-list-value-requires
 ) (element-at t) element.Post
 element-list-value-requires t c κs = (omega arith, c .before .before .before .before .before .pre .1)
 
--- src/lib.rt:322:19
+-- src/lib.rt:330:19
 element-enum-known-v : (t : ℕ) → element-lts.Need-enum-known-v (
   list-value-below t,
   list-value.Post,
@@ -906,7 +906,7 @@ element-enum-known-v : (t : ℕ) → element-lts.Need-enum-known-v (
 ) (element-at t) element.Post
 element-enum-known-v t c = search needs
 
--- src/lib.rt:323:21
+-- src/lib.rt:331:21
 element-enum-known-v-2 : (t : ℕ) → element-lts.Need-enum-known-v-2 (
   list-value-below t,
   list-value.Post,
@@ -915,7 +915,7 @@ element-enum-known-v-2 : (t : ℕ) → element-lts.Need-enum-known-v-2 (
 ) (element-at t) element.Post
 element-enum-known-v-2 t c = search needs
 
--- src/lib.rt:331:13
+-- src/lib.rt:339:13
 element-add-after-value : (t : ℕ) → element-lts.Need-add-after-value (
   list-value-below t,
   list-value.Post,
@@ -924,7 +924,7 @@ element-add-after-value : (t : ℕ) → element-lts.Need-add-after-value (
 ) (element-at t) element.Post
 element-add-after-value t c = omega (arith, c .before .before .before .before .before .before .before .before .before .before .before .pre .1 .1)
 
--- src/lib.rt:323:36
+-- src/lib.rt:331:36
 element-after-value-requires : (t : ℕ) → element-lts.Need-after-value-requires (
   list-value-below t,
   list-value.Post,
@@ -933,7 +933,7 @@ element-after-value-requires : (t : ℕ) → element-lts.Need-after-value-requir
 ) (element-at t) element.Post
 element-after-value-requires t c κs = omega (arith, c .before .before .before .before .before .before .before .before .before .before .before .pre .1 .0 .short)
 
--- src/lib.rt:333:25
+-- src/lib.rt:341:25
 element-enum-known-w : (t : ℕ) → element-lts.Need-enum-known-w (
   list-value-below t,
   list-value.Post,
@@ -942,7 +942,7 @@ element-enum-known-w : (t : ℕ) → element-lts.Need-enum-known-w (
 ) (element-at t) element.Post
 element-enum-known-w t c = search needs
 
--- src/lib.rt:334:28
+-- src/lib.rt:342:28
 element-enum-told : (t : ℕ) → element-lts.Need-enum-told (
   list-value-below t,
   list-value.Post,
@@ -951,7 +951,7 @@ element-enum-told : (t : ℕ) → element-lts.Need-enum-told (
 ) (element-at t) element.Post
 element-enum-told t c = search needs
 
--- src/lib.rt:335:28
+-- src/lib.rt:343:28
 element-enum-known-k : (t : ℕ) → element-lts.Need-enum-known-k (
   list-value-below t,
   list-value.Post,
@@ -960,7 +960,7 @@ element-enum-known-k : (t : ℕ) → element-lts.Need-enum-known-k (
 ) (element-at t) element.Post
 element-enum-known-k t c = search needs
 
--- src/lib.rt:337:24
+-- src/lib.rt:345:24
 element-enum-known-k-2 : (t : ℕ) → element-lts.Need-enum-known-k-2 (
   list-value-below t,
   list-value.Post,
@@ -969,7 +969,7 @@ element-enum-known-k-2 : (t : ℕ) → element-lts.Need-enum-known-k-2 (
 ) (element-at t) element.Post
 element-enum-known-k-2 t c = search needs
 
--- src/lib.rt:306:1
+-- src/lib.rt:314:1
 element-same-length : (t : ℕ) → element-lts.Need-same-length (
   list-value-below t,
   list-value.Post,
@@ -978,7 +978,7 @@ element-same-length : (t : ℕ) → element-lts.Need-same-length (
 ) (element-at t) element.Post
 element-same-length t c = search needs
 
--- src/lib.rt:306:1
+-- src/lib.rt:314:1
 element-returns : (t : ℕ) → element-lts.Need-returns (
   list-value-below t,
   list-value.Post,
@@ -987,7 +987,7 @@ element-returns : (t : ℕ) → element-lts.Need-returns (
 ) (element-at t) element.Post
 element-returns t c = rw (c .before .v .given .1) at (c .before .before .before .before .before .list-value .ensures)
 
--- src/lib.rt:306:1
+-- src/lib.rt:314:1
 element-same-length-2 : (t : ℕ) → element-lts.Need-same-length-2 (
   list-value-below t,
   list-value.Post,
@@ -996,7 +996,7 @@ element-same-length-2 : (t : ℕ) → element-lts.Need-same-length-2 (
 ) (element-at t) element.Post
 element-same-length-2 t c = search needs
 
--- src/lib.rt:306:1
+-- src/lib.rt:314:1
 element-returns-2 : (t : ℕ) → element-lts.Need-returns-2 (
   list-value-below t,
   list-value.Post,
@@ -1005,7 +1005,7 @@ element-returns-2 : (t : ℕ) → element-lts.Need-returns-2 (
 ) (element-at t) element.Post
 element-returns-2 t c = element-more _ _ (c .before .before .before .before .before .before .before .before .before .before .before .before .before .before .before .args .f) _ _ _ _ _ (rw (c .before .before .before .before .before .v2 .given .1) at (c .before .before .before .before .before .before .before .before .before .list-value .ensures)) _ (rw (c .before .w .given .1) at (c .before .before .before .after-value .ensures))
 
--- src/lib.rt:306:1
+-- src/lib.rt:314:1
 element-same-length-3 : (t : ℕ) → element-lts.Need-same-length-3 (
   list-value-below t,
   list-value.Post,
@@ -1014,7 +1014,7 @@ element-same-length-3 : (t : ℕ) → element-lts.Need-same-length-3 (
 ) (element-at t) element.Post
 element-same-length-3 t c = search needs
 
--- src/lib.rt:306:1
+-- src/lib.rt:314:1
 element-returns-3 : (t : ℕ) → element-lts.Need-returns-3 (
   list-value-below t,
   list-value.Post,
@@ -1023,7 +1023,7 @@ element-returns-3 : (t : ℕ) → element-lts.Need-returns-3 (
 ) (element-at t) element.Post
 element-returns-3 t c = element-last _ _ (c .before .before .before .before .before .before .before .before .before .before .before .before .before .before .args .f) _ _ _ _ _ (rw (c .before .before .before .before .v2 .given .1) at (c .before .before .before .before .before .before .before .before .list-value .ensures)) (rw (c .enum-told .given .1) at (c .before .before .after-value .ensures))
 
--- src/lib.rt:306:1
+-- src/lib.rt:314:1
 element-same-length-4 : (t : ℕ) → element-lts.Need-same-length-4 (
   list-value-below t,
   list-value.Post,
@@ -1032,7 +1032,7 @@ element-same-length-4 : (t : ℕ) → element-lts.Need-same-length-4 (
 ) (element-at t) element.Post
 element-same-length-4 t c = search needs
 
--- src/lib.rt:306:1
+-- src/lib.rt:314:1
 element-returns-4 : (t : ℕ) → element-lts.Need-returns-4 (
   list-value-below t,
   list-value.Post,
@@ -1041,7 +1041,7 @@ element-returns-4 : (t : ℕ) → element-lts.Need-returns-4 (
 ) (element-at t) element.Post
 element-returns-4 t c = element-after _ _ (c .before .before .before .before .before .before .before .before .before .before .before .before .before .before .before .args .f) _ _ _ _ _ (rw (c .before .before .before .before .before .v2 .given .1) at (c .before .before .before .before .before .before .before .before .before .list-value .ensures)) _ _ (rw (c .before .k .given .1) at (c .before .before .before .after-value .ensures))
 
--- src/lib.rt:306:1
+-- src/lib.rt:314:1
 element-same-length-5 : (t : ℕ) → element-lts.Need-same-length-5 (
   list-value-below t,
   list-value.Post,
@@ -1050,7 +1050,7 @@ element-same-length-5 : (t : ℕ) → element-lts.Need-same-length-5 (
 ) (element-at t) element.Post
 element-same-length-5 t c = search needs
 
--- src/lib.rt:306:1
+-- src/lib.rt:314:1
 element-returns-5 : (t : ℕ) → element-lts.Need-returns-5 (
   list-value-below t,
   list-value.Post,
@@ -1065,7 +1065,7 @@ fields-Inv-loop table unpacked n s rows₀ inside seen₀ g₀ i₀ rows seen g 
 abbrev fields-μ-loop : fields-lts.MeasureT-loop
 fields-μ-loop table unpacked n s rows₀ inside seen₀ g₀ i₀ rows seen g i = length s - g .at
 
--- src/lib.rt:462:20
+-- src/lib.rt:470:20
 fields-no-marks-requires : (t : ℕ) → fields-lts.Need-no-marks-requires (
   no-marks-reads.Asked,
   no-marks-reads.Learnt,
@@ -1080,7 +1080,7 @@ fields-no-marks-requires : (t : ℕ) → fields-lts.Need-no-marks-requires (
 ) (fields-at t) fields.Post fields-Inv-loop fields-μ-loop
 fields-no-marks-requires t c κs = search needs
 
--- src/lib.rt:465:5
+-- src/lib.rt:473:5
 fields-loop-holds : (t : ℕ) → fields-lts.Need-loop-holds (
   no-marks-reads.Asked,
   no-marks-reads.Learnt,
@@ -1095,7 +1095,7 @@ fields-loop-holds : (t : ℕ) → fields-lts.Need-loop-holds (
 ) (fields-at t) fields.Post fields-Inv-loop fields-μ-loop
 fields-loop-holds t c = bodying-start _ _ _ _ _ _ _ _ (c .no-marks .ensures) (c .before .before .before .before .before .pre .1 .here)
 
--- src/lib.rt:466:15
+-- src/lib.rt:474:15
 fields-next-part-requires : (t : ℕ) → fields-lts.Need-next-part-requires (
   no-marks-reads.Asked,
   no-marks-reads.Learnt,
@@ -1110,7 +1110,7 @@ fields-next-part-requires : (t : ℕ) → fields-lts.Need-next-part-requires (
 ) (fields-at t) fields.Post fields-Inv-loop fields-μ-loop
 fields-next-part-requires t c κs = (bodying-room (c .before .before .loop .inv) _ (c .before .before .before .before .before .before .before .before .pre .1), record { ks = c .before .before .loop .inv .seen; marks = c .before .before .loop .inv .marked })
 
--- src/lib.rt:467:24
+-- src/lib.rt:475:24
 fields-enum-known-q : (t : ℕ) → fields-lts.Need-enum-known-q (
   no-marks-reads.Asked,
   no-marks-reads.Learnt,
@@ -1125,7 +1125,7 @@ fields-enum-known-q : (t : ℕ) → fields-lts.Need-enum-known-q (
 ) (fields-at t) fields.Post fields-Inv-loop fields-μ-loop
 fields-enum-known-q t c = search needs
 
--- src/lib.rt:468:21
+-- src/lib.rt:476:21
 fields-for-field-requires : (t : ℕ) → fields-lts.Need-for-field-requires (
   no-marks-reads.Asked,
   no-marks-reads.Learnt,
@@ -1140,7 +1140,7 @@ fields-for-field-requires : (t : ℕ) → fields-lts.Need-for-field-requires (
 ) (fields-at t) fields.Post fields-Inv-loop fields-μ-loop
 fields-for-field-requires t c κs = search needs
 
--- src/lib.rt:469:23
+-- src/lib.rt:477:23
 fields-list-requires : (t : ℕ) → fields-lts.Need-list-requires (
   no-marks-reads.Asked,
   no-marks-reads.Learnt,
@@ -1155,7 +1155,7 @@ fields-list-requires : (t : ℕ) → fields-lts.Need-list-requires (
 ) (fields-at t) fields.Post fields-Inv-loop fields-μ-loop
 fields-list-requires t c κs = let r = bodying-room (c .before .before .before .before .before .before .before .before .before .before .loop .inv) _ (c .before .before .before .before .before .before .before .before .before .before .before .before .before .before .before .before .pre .1) in let d = (rw (c .before .before .before .q .given .1) at (c .before .before .before .before .before .before .before .next-part .ensures _ _ (c .before .before .before .before .before .before .before .before .before .before .loop .inv))) in rw (c .before .for-field .ensures) (omega (arith, r, d .below, d .far, d .within, bodying-depth (c .before .before .before .before .before .before .before .before .before .before .loop .inv)))
 
--- src/lib.rt:470:31
+-- src/lib.rt:478:31
 fields-enum-known-w : (t : ℕ) → fields-lts.Need-enum-known-w (
   no-marks-reads.Asked,
   no-marks-reads.Learnt,
@@ -1170,7 +1170,7 @@ fields-enum-known-w : (t : ℕ) → fields-lts.Need-enum-known-w (
 ) (fields-at t) fields.Post fields-Inv-loop fields-μ-loop
 fields-enum-known-w t c = search needs
 
--- src/lib.rt:471:25
+-- src/lib.rt:479:25
 fields-moved-requires : (t : ℕ) → fields-lts.Need-moved-requires (
   no-marks-reads.Asked,
   no-marks-reads.Learnt,
@@ -1185,7 +1185,7 @@ fields-moved-requires : (t : ℕ) → fields-lts.Need-moved-requires (
 ) (fields-at t) fields.Post fields-Inv-loop fields-μ-loop
 fields-moved-requires t c κs = search needs
 
--- src/lib.rt:465:5
+-- src/lib.rt:473:5
 fields-loop-less : (t : ℕ) → fields-lts.Need-loop-less (
   no-marks-reads.Asked,
   no-marks-reads.Learnt,
@@ -1200,7 +1200,7 @@ fields-loop-less : (t : ℕ) → fields-lts.Need-loop-less (
 ) (fields-at t) fields.Post fields-Inv-loop fields-μ-loop
 fields-loop-less t c = let d = (rw (c .before .before .before .before .before .before .before .before .before .before .q .given .1) at (c .before .before .before .before .before .before .before .before .before .before .before .before .before .before .next-part .ensures _ _ (c .before .before .before .before .before .before .before .before .before .before .before .before .before .before .before .before .before .loop .inv))) in let l = (rw (c .before .before .before .before .before .before .before .before .for-field .ensures, c .before .before .w .given .1) at (c .before .before .before .before .before .before .list .ensures)) in rw (c .moved .ensures) (omega (arith, d .far, l .moved .far, l .moved .within))
 
--- src/lib.rt:465:5
+-- src/lib.rt:473:5
 fields-loop-again : (t : ℕ) → fields-lts.Need-loop-again (
   no-marks-reads.Asked,
   no-marks-reads.Learnt,
@@ -1215,7 +1215,7 @@ fields-loop-again : (t : ℕ) → fields-lts.Need-loop-again (
 ) (fields-at t) fields.Post fields-Inv-loop fields-μ-loop
 fields-loop-again t c = rw (c .moved .ensures) ((rw (c .before .before .before .before .before .before .before .before .before .before .q .given .1) at (c .before .before .before .before .before .before .before .before .before .before .before .before .before .before .next-part .ensures _ _ (c .before .before .before .before .before .before .before .before .before .before .before .before .before .before .before .before .before .loop .inv))) .read _ _ _ (rw (c .before .before .before .before .before .before .before .before .for-field .ensures, c .before .before .w .given .1) at (c .before .before .before .before .before .before .list .ensures)))
 
--- src/lib.rt:474:34
+-- src/lib.rt:482:34
 fields-enum-known-k : (t : ℕ) → fields-lts.Need-enum-known-k (
   no-marks-reads.Asked,
   no-marks-reads.Learnt,
@@ -1230,7 +1230,7 @@ fields-enum-known-k : (t : ℕ) → fields-lts.Need-enum-known-k (
 ) (fields-at t) fields.Post fields-Inv-loop fields-μ-loop
 fields-enum-known-k t c = search needs
 
--- src/lib.rt:474:43
+-- src/lib.rt:482:43
 fields-same-length : (t : ℕ) → fields-lts.Need-same-length (
   no-marks-reads.Asked,
   no-marks-reads.Learnt,
@@ -1245,7 +1245,7 @@ fields-same-length : (t : ℕ) → fields-lts.Need-same-length (
 ) (fields-at t) fields.Post fields-Inv-loop fields-μ-loop
 fields-same-length t c = search needs
 
--- src/lib.rt:474:43
+-- src/lib.rt:482:43
 fields-returns : (t : ℕ) → fields-lts.Need-returns (
   no-marks-reads.Asked,
   no-marks-reads.Learnt,
@@ -1260,7 +1260,7 @@ fields-returns : (t : ℕ) → fields-lts.Need-returns (
 ) (fields-at t) fields.Post fields-Inv-loop fields-μ-loop
 fields-returns t c = (rw (c .before .before .before .before .before .before .before .before .before .q .given .1) at (c .before .before .before .before .before .before .before .before .before .before .before .before .before .next-part .ensures _ _ (c .before .before .before .before .before .before .before .before .before .before .before .before .before .before .before .before .loop .inv))) .refused _ _ (rw (c .before .before .before .before .before .before .before .for-field .ensures, c .before .k .given .1) at (c .before .before .before .before .before .list .ensures))
 
--- src/lib.rt:477:22
+-- src/lib.rt:485:22
 fields-enum-known-v : (t : ℕ) → fields-lts.Need-enum-known-v (
   no-marks-reads.Asked,
   no-marks-reads.Learnt,
@@ -1275,7 +1275,7 @@ fields-enum-known-v : (t : ℕ) → fields-lts.Need-enum-known-v (
 ) (fields-at t) fields.Post fields-Inv-loop fields-μ-loop
 fields-enum-known-v t c = search needs
 
--- src/lib.rt:478:17
+-- src/lib.rt:486:17
 fields-moved-requires-2 : (t : ℕ) → fields-lts.Need-moved-requires-2 (
   no-marks-reads.Asked,
   no-marks-reads.Learnt,
@@ -1290,7 +1290,7 @@ fields-moved-requires-2 : (t : ℕ) → fields-lts.Need-moved-requires-2 (
 ) (fields-at t) fields.Post fields-Inv-loop fields-μ-loop
 fields-moved-requires-2 t c κs = search needs
 
--- src/lib.rt:465:5
+-- src/lib.rt:473:5
 fields-loop-less-2 : (t : ℕ) → fields-lts.Need-loop-less-2 (
   no-marks-reads.Asked,
   no-marks-reads.Learnt,
@@ -1305,7 +1305,7 @@ fields-loop-less-2 : (t : ℕ) → fields-lts.Need-loop-less-2 (
 ) (fields-at t) fields.Post fields-Inv-loop fields-μ-loop
 fields-loop-less-2 t c = let w = (rw (c .before .before .v .given .1) at (c .before .before .before .before .before .before .next-part .ensures _ _ (c .before .before .before .before .before .before .before .before .before .loop .inv))) in rw (c .moved2 .ensures) (omega (arith, w .0, w .1 .loop .line .moved .within))
 
--- src/lib.rt:465:5
+-- src/lib.rt:473:5
 fields-loop-again-2 : (t : ℕ) → fields-lts.Need-loop-again-2 (
   no-marks-reads.Asked,
   no-marks-reads.Learnt,
@@ -1320,7 +1320,7 @@ fields-loop-again-2 : (t : ℕ) → fields-lts.Need-loop-again-2 (
 ) (fields-at t) fields.Post fields-Inv-loop fields-μ-loop
 fields-loop-again-2 t c = rw (c .moved2 .ensures, untagged-end) ((rw (c .before .before .v .given .1) at (c .before .before .before .before .before .before .next-part .ensures _ _ (c .before .before .before .before .before .before .before .before .before .loop .inv))) .1)
 
--- src/lib.rt:481:24
+-- src/lib.rt:489:24
 fields-enum-known-v-2 : (t : ℕ) → fields-lts.Need-enum-known-v-2 (
   no-marks-reads.Asked,
   no-marks-reads.Learnt,
@@ -1335,7 +1335,7 @@ fields-enum-known-v-2 : (t : ℕ) → fields-lts.Need-enum-known-v-2 (
 ) (fields-at t) fields.Post fields-Inv-loop fields-μ-loop
 fields-enum-known-v-2 t c = search needs
 
--- src/lib.rt:481:33
+-- src/lib.rt:489:33
 fields-same-length-2 : (t : ℕ) → fields-lts.Need-same-length-2 (
   no-marks-reads.Asked,
   no-marks-reads.Learnt,
@@ -1350,7 +1350,7 @@ fields-same-length-2 : (t : ℕ) → fields-lts.Need-same-length-2 (
 ) (fields-at t) fields.Post fields-Inv-loop fields-μ-loop
 fields-same-length-2 t c = search needs
 
--- src/lib.rt:481:33
+-- src/lib.rt:489:33
 fields-returns-2 : (t : ℕ) → fields-lts.Need-returns-2 (
   no-marks-reads.Asked,
   no-marks-reads.Learnt,
@@ -1365,7 +1365,7 @@ fields-returns-2 : (t : ℕ) → fields-lts.Need-returns-2 (
 ) (fields-at t) fields.Post fields-Inv-loop fields-μ-loop
 fields-returns-2 t c = rw (c .before .v2 .given .1) at (c .before .before .before .before .before .next-part .ensures _ _ (c .before .before .before .before .before .before .before .before .loop .inv))
 
--- src/lib.rt:482:27
+-- src/lib.rt:490:27
 fields-enum-known-k-2 : (t : ℕ) → fields-lts.Need-enum-known-k-2 (
   no-marks-reads.Asked,
   no-marks-reads.Learnt,
@@ -1380,7 +1380,7 @@ fields-enum-known-k-2 : (t : ℕ) → fields-lts.Need-enum-known-k-2 (
 ) (fields-at t) fields.Post fields-Inv-loop fields-μ-loop
 fields-enum-known-k-2 t c = search needs
 
--- src/lib.rt:482:36
+-- src/lib.rt:490:36
 fields-same-length-3 : (t : ℕ) → fields-lts.Need-same-length-3 (
   no-marks-reads.Asked,
   no-marks-reads.Learnt,
@@ -1395,7 +1395,7 @@ fields-same-length-3 : (t : ℕ) → fields-lts.Need-same-length-3 (
 ) (fields-at t) fields.Post fields-Inv-loop fields-μ-loop
 fields-same-length-3 t c = search needs
 
--- src/lib.rt:482:36
+-- src/lib.rt:490:36
 fields-returns-3 : (t : ℕ) → fields-lts.Need-returns-3 (
   no-marks-reads.Asked,
   no-marks-reads.Learnt,
@@ -1416,7 +1416,7 @@ list-Inv-loop table unpacked n s rows₀ e g₀ c₀ rows g c = Listing (schemaA
 abbrev list-μ-loop : list-lts.MeasureT-loop
 list-μ-loop table unpacked n s rows₀ e g₀ c₀ rows g c = length s - g .at
 
--- src/lib.rt:346:9
+-- src/lib.rt:354:9
 list-ints-of-requires : (t : ℕ) → list-lts.Need-ints-of-requires (
   ints-of-reads.Asked,
   ints-of-reads.Learnt,
@@ -1427,7 +1427,7 @@ list-ints-of-requires : (t : ℕ) → list-lts.Need-ints-of-requires (
 ) (list-at t) list.Post list-Inv-loop list-μ-loop
 list-ints-of-requires t c κs = search needs
 
--- src/lib.rt:349:5
+-- src/lib.rt:357:5
 list-loop-holds : (t : ℕ) → list-lts.Need-loop-holds (
   ints-of-reads.Asked,
   ints-of-reads.Learnt,
@@ -1438,7 +1438,7 @@ list-loop-holds : (t : ℕ) → list-lts.Need-loop-holds (
 ) (list-at t) list.Post list-Inv-loop list-μ-loop
 list-loop-holds t c = listing-start _ _ _ _ (c .before .before .before .before .before .pre .1 .0 .here)
 
--- src/lib.rt:350:15
+-- src/lib.rt:358:15
 list-element-requires : (t : ℕ) → list-lts.Need-element-requires (
   ints-of-reads.Asked,
   ints-of-reads.Learnt,
@@ -1449,7 +1449,7 @@ list-element-requires : (t : ℕ) → list-lts.Need-element-requires (
 ) (list-at t) list.Post list-Inv-loop list-μ-loop
 list-element-requires t c κs = let r = (listing-room (c .before .loop .inv) _ (c .before .before .before .before .before .before .before .pre .1 .0)) in let d = listing-depth (c .before .loop .inv) in let k = listing-named (c .before .loop .inv) in let i = listing-ints (c .before .loop .inv) _ (c .before .before .ints-of .ensures) in let w = c .before .loop .inv .few in let p = c .before .before .before .before .before .before .before .pre .1 .1 in (omega (arith, d), (r, (omega (arith, k, w, p, r), i)))
 
--- src/lib.rt:351:23
+-- src/lib.rt:359:23
 list-enum-known-v : (t : ℕ) → list-lts.Need-enum-known-v (
   ints-of-reads.Asked,
   ints-of-reads.Learnt,
@@ -1460,7 +1460,7 @@ list-enum-known-v : (t : ℕ) → list-lts.Need-enum-known-v (
 ) (list-at t) list.Post list-Inv-loop list-μ-loop
 list-enum-known-v t c = search needs
 
--- src/lib.rt:352:17
+-- src/lib.rt:360:17
 list-next-value-requires : (t : ℕ) → list-lts.Need-next-value-requires (
   ints-of-reads.Asked,
   ints-of-reads.Learnt,
@@ -1471,7 +1471,7 @@ list-next-value-requires : (t : ℕ) → list-lts.Need-next-value-requires (
 ) (list-at t) list.Post list-Inv-loop list-μ-loop
 list-next-value-requires t c κs = search needs
 
--- src/lib.rt:353:17
+-- src/lib.rt:361:17
 list-add-c : (t : ℕ) → list-lts.Need-add-c (
   ints-of-reads.Asked,
   ints-of-reads.Learnt,
@@ -1482,7 +1482,7 @@ list-add-c : (t : ℕ) → list-lts.Need-add-c (
 ) (list-at t) list.Post list-Inv-loop list-μ-loop
 list-add-c t c = let r = (listing-room (c .before .before .before .before .before .before .before .before .loop .inv) _ (c .before .before .before .before .before .before .before .before .before .before .before .before .before .before .pre .1 .0)) in omega (arith, r, c .before .before .before .before .before .before .before .before .loop .inv .few)
 
--- src/lib.rt:349:5
+-- src/lib.rt:357:5
 list-loop-less : (t : ℕ) → list-lts.Need-loop-less (
   ints-of-reads.Asked,
   ints-of-reads.Learnt,
@@ -1493,7 +1493,7 @@ list-loop-less : (t : ℕ) → list-lts.Need-loop-less (
 ) (list-at t) list.Post list-Inv-loop list-μ-loop
 list-loop-less t c = let t = (listing-turn (c .before .before .before .before .before .before .before .before .loop .inv) _ (c .before .before .before .before .before .before .element .result) _ _ (c .before .before .before .before .before .before .element .ensures) (c .before .before .v .given .1)) in rw (c .next-value .ensures) (omega (arith, t))
 
--- src/lib.rt:349:5
+-- src/lib.rt:357:5
 list-loop-again : (t : ℕ) → list-lts.Need-loop-again (
   ints-of-reads.Asked,
   ints-of-reads.Learnt,
@@ -1504,7 +1504,7 @@ list-loop-again : (t : ℕ) → list-lts.Need-loop-again (
 ) (list-at t) list.Post list-Inv-loop list-μ-loop
 list-loop-again t c = listing-on (c .before .before .before .before .before .before .before .before .loop .inv) _ (c .before .before .before .before .before .before .element .result) _ _ _ (c .before .before .before .before .before .before .element .ensures) (c .before .before .v .given .1) (c .next-value .ensures)
 
--- src/lib.rt:355:25
+-- src/lib.rt:363:25
 list-enum-known-v-2 : (t : ℕ) → list-lts.Need-enum-known-v-2 (
   ints-of-reads.Asked,
   ints-of-reads.Learnt,
@@ -1515,7 +1515,7 @@ list-enum-known-v-2 : (t : ℕ) → list-lts.Need-enum-known-v-2 (
 ) (list-at t) list.Post list-Inv-loop list-μ-loop
 list-enum-known-v-2 t c = search needs
 
--- src/lib.rt:356:17
+-- src/lib.rt:364:17
 list-same-length : (t : ℕ) → list-lts.Need-same-length (
   ints-of-reads.Asked,
   ints-of-reads.Learnt,
@@ -1526,7 +1526,7 @@ list-same-length : (t : ℕ) → list-lts.Need-same-length (
 ) (list-at t) list.Post list-Inv-loop list-μ-loop
 list-same-length t c = search needs
 
--- src/lib.rt:356:17
+-- src/lib.rt:364:17
 list-returns : (t : ℕ) → list-lts.Need-returns (
   ints-of-reads.Asked,
   ints-of-reads.Learnt,
@@ -1537,7 +1537,7 @@ list-returns : (t : ℕ) → list-lts.Need-returns (
 ) (list-at t) list.Post list-Inv-loop list-μ-loop
 list-returns t c = listing-done (c .before .before .before .before .before .before .before .loop .inv) _ (c .before .before .before .before .before .element .result) _ _ (c .before .before .before .before .before .element .ensures) (c .before .v2 .given .1)
 
--- src/lib.rt:358:28
+-- src/lib.rt:366:28
 list-enum-known-k : (t : ℕ) → list-lts.Need-enum-known-k (
   ints-of-reads.Asked,
   ints-of-reads.Learnt,
@@ -1548,7 +1548,7 @@ list-enum-known-k : (t : ℕ) → list-lts.Need-enum-known-k (
 ) (list-at t) list.Post list-Inv-loop list-μ-loop
 list-enum-known-k t c = search needs
 
--- src/lib.rt:359:17
+-- src/lib.rt:367:17
 list-same-length-2 : (t : ℕ) → list-lts.Need-same-length-2 (
   ints-of-reads.Asked,
   ints-of-reads.Learnt,
@@ -1559,7 +1559,7 @@ list-same-length-2 : (t : ℕ) → list-lts.Need-same-length-2 (
 ) (list-at t) list.Post list-Inv-loop list-μ-loop
 list-same-length-2 t c = search needs
 
--- src/lib.rt:359:17
+-- src/lib.rt:367:17
 list-returns-2 : (t : ℕ) → list-lts.Need-returns-2 (
   ints-of-reads.Asked,
   ints-of-reads.Learnt,
@@ -1570,7 +1570,7 @@ list-returns-2 : (t : ℕ) → list-lts.Need-returns-2 (
 ) (list-at t) list.Post list-Inv-loop list-μ-loop
 list-returns-2 t c = listing-refused (c .before .before .before .before .before .before .before .loop .inv) _ (c .before .before .before .before .before .element .result) _ _ (c .before .before .before .before .before .element .ensures) (c .before .k .given .1)
 
--- src/lib.rt:295:11
+-- src/lib.rt:303:11
 list-value-quick-int-requires : (t : ℕ) → list-value-lts.Need-quick-int-requires (
   quick-int-reads.Asked,
   quick-int-reads.Learnt,
@@ -1579,7 +1579,7 @@ list-value-quick-int-requires : (t : ℕ) → list-value-lts.Need-quick-int-requ
 ) (list-value-at t) list-value.Post
 list-value-quick-int-requires t c κs = c .before .before .before .before .before .pre .1
 
--- src/lib.rt:296:19
+-- src/lib.rt:304:19
 list-value-enum-known-v : (t : ℕ) → list-value-lts.Need-enum-known-v (
   quick-int-reads.Asked,
   quick-int-reads.Learnt,
@@ -1588,7 +1588,7 @@ list-value-enum-known-v : (t : ℕ) → list-value-lts.Need-enum-known-v (
 ) (list-value-at t) list-value.Post
 list-value-enum-known-v t c = search needs
 
--- src/lib.rt:297:22
+-- src/lib.rt:305:22
 list-value-enum-known-v-2 : (t : ℕ) → list-value-lts.Need-enum-known-v-2 (
   quick-int-reads.Asked,
   quick-int-reads.Learnt,
@@ -1597,7 +1597,7 @@ list-value-enum-known-v-2 : (t : ℕ) → list-value-lts.Need-enum-known-v-2 (
 ) (list-value-at t) list-value.Post
 list-value-enum-known-v-2 t c = search needs
 
--- src/lib.rt:298:60
+-- src/lib.rt:306:60
 list-value-enum-told : (t : ℕ) → list-value-lts.Need-enum-told (
   quick-int-reads.Asked,
   quick-int-reads.Learnt,
@@ -1606,7 +1606,7 @@ list-value-enum-told : (t : ℕ) → list-value-lts.Need-enum-told (
 ) (list-value-at t) list-value.Post
 list-value-enum-told t c = search needs
 
--- src/lib.rt:298:30
+-- src/lib.rt:306:30
 list-value-choice-requires : (t : ℕ) → list-value-lts.Need-choice-requires (
   quick-int-reads.Asked,
   quick-int-reads.Learnt,
@@ -1615,7 +1615,7 @@ list-value-choice-requires : (t : ℕ) → list-value-lts.Need-choice-requires (
 ) (list-value-at t) list-value.Post
 list-value-choice-requires t c κs = omega (arith, c .before .before .before .before .before .before .before .before .before .before .before .pre .1 .0, c .before .before .before .before .before .before .before .before .before .before .before .pre .1 .1 .0)
 
--- src/lib.rt:299:23
+-- src/lib.rt:307:23
 list-value-enum-known-v-3 : (t : ℕ) → list-value-lts.Need-enum-known-v-3 (
   quick-int-reads.Asked,
   quick-int-reads.Learnt,
@@ -1624,7 +1624,7 @@ list-value-enum-known-v-3 : (t : ℕ) → list-value-lts.Need-enum-known-v-3 (
 ) (list-value-at t) list-value.Post
 list-value-enum-known-v-3 t c = search needs
 
--- src/lib.rt:300:26
+-- src/lib.rt:308:26
 list-value-enum-known-k : (t : ℕ) → list-value-lts.Need-enum-known-k (
   quick-int-reads.Asked,
   quick-int-reads.Learnt,
@@ -1633,7 +1633,7 @@ list-value-enum-known-k : (t : ℕ) → list-value-lts.Need-enum-known-k (
 ) (list-value-at t) list-value.Post
 list-value-enum-known-k t c = search needs
 
--- src/lib.rt:280:1
+-- src/lib.rt:288:1
 list-value-same-length : (t : ℕ) → list-value-lts.Need-same-length (
   quick-int-reads.Asked,
   quick-int-reads.Learnt,
@@ -1642,7 +1642,7 @@ list-value-same-length : (t : ℕ) → list-value-lts.Need-same-length (
 ) (list-value-at t) list-value.Post
 list-value-same-length t c = search needs
 
--- src/lib.rt:280:1
+-- src/lib.rt:288:1
 list-value-returns : (t : ℕ) → list-value-lts.Need-returns (
   quick-int-reads.Asked,
   quick-int-reads.Learnt,
@@ -1651,7 +1651,7 @@ list-value-returns : (t : ℕ) → list-value-lts.Need-returns (
 ) (list-value-at t) list-value.Post
 list-value-returns t c = quick-element _ _ (c .before .before .before .before .before .before .before .before .before .before .before .args .f) _ _ _ _ _ (rw (c .before .v .given .1) at (c .before .before .before .before .before .quick-int .ensures))
 
--- src/lib.rt:280:1
+-- src/lib.rt:288:1
 list-value-same-length-2 : (t : ℕ) → list-value-lts.Need-same-length-2 (
   quick-int-reads.Asked,
   quick-int-reads.Learnt,
@@ -1660,7 +1660,7 @@ list-value-same-length-2 : (t : ℕ) → list-value-lts.Need-same-length-2 (
 ) (list-value-at t) list-value.Post
 list-value-same-length-2 t c = search needs
 
--- src/lib.rt:280:1
+-- src/lib.rt:288:1
 list-value-returns-2 : (t : ℕ) → list-value-lts.Need-returns-2 (
   quick-int-reads.Asked,
   quick-int-reads.Learnt,
@@ -1669,7 +1669,7 @@ list-value-returns-2 : (t : ℕ) → list-value-lts.Need-returns-2 (
 ) (list-value-at t) list-value.Post
 list-value-returns-2 t c = quick-ended _ _ (c .before .before .before .before .before .before .before .before .before .before .before .args .f) _ _ _ _ (rw (c .before .v2 .given .1) at (c .before .before .before .before .before .quick-int .ensures))
 
--- src/lib.rt:280:1
+-- src/lib.rt:288:1
 list-value-same-length-3 : (t : ℕ) → list-value-lts.Need-same-length-3 (
   quick-int-reads.Asked,
   quick-int-reads.Learnt,
@@ -1678,7 +1678,7 @@ list-value-same-length-3 : (t : ℕ) → list-value-lts.Need-same-length-3 (
 ) (list-value-at t) list-value.Post
 list-value-same-length-3 t c = search needs
 
--- src/lib.rt:280:1
+-- src/lib.rt:288:1
 list-value-returns-3 : (t : ℕ) → list-value-lts.Need-returns-3 (
   quick-int-reads.Asked,
   quick-int-reads.Learnt,
@@ -1687,7 +1687,7 @@ list-value-returns-3 : (t : ℕ) → list-value-lts.Need-returns-3 (
 ) (list-value-at t) list-value.Post
 list-value-returns-3 t c = rw ((rw (c .before .before .before .before .before .before .before .enum-told .given .1) at (c .before .before .before .before .before .before .before .before .before .before .before .quick-int .ensures)), c .before .v3 .given .1) at (c .before .before .before .before .before .choice .ensures)
 
--- src/lib.rt:280:1
+-- src/lib.rt:288:1
 list-value-same-length-4 : (t : ℕ) → list-value-lts.Need-same-length-4 (
   quick-int-reads.Asked,
   quick-int-reads.Learnt,
@@ -1696,7 +1696,7 @@ list-value-same-length-4 : (t : ℕ) → list-value-lts.Need-same-length-4 (
 ) (list-value-at t) list-value.Post
 list-value-same-length-4 t c = search needs
 
--- src/lib.rt:280:1
+-- src/lib.rt:288:1
 list-value-returns-4 : (t : ℕ) → list-value-lts.Need-returns-4 (
   quick-int-reads.Asked,
   quick-int-reads.Learnt,
@@ -1705,25 +1705,8 @@ list-value-returns-4 : (t : ℕ) → list-value-lts.Need-returns-4 (
 ) (list-value-at t) list-value.Post
 list-value-returns-4 t c = rw ((rw (c .before .before .before .before .before .before .before .enum-told .given .1) at (c .before .before .before .before .before .before .before .before .before .before .before .quick-int .ensures)), c .before .k .given .1) at (c .before .before .before .before .before .choice .ensures)
 
--- src/lib.rt:259:9
-value-core-requires : (t : ℕ) → value-lts.Need-core-requires (
-  core-reads.Asked,
-  core-reads.Learnt,
-  kind-reads.Asked,
-  kind-reads.Learnt,
-  no-value-reads.Asked,
-  no-value-reads.Learnt,
-  simple-reads.Asked,
-  simple-reads.Learnt,
-  braced-below t,
-  braced.Post,
-) (value-at t) value.Post
-value-core-requires t c κs = search needs
-
--- src/lib.rt:260:11
+-- src/lib.rt:268:11
 value-kind-requires : (t : ℕ) → value-lts.Need-kind-requires (
-  core-reads.Asked,
-  core-reads.Learnt,
   kind-reads.Asked,
   kind-reads.Learnt,
   no-value-reads.Asked,
@@ -1735,10 +1718,8 @@ value-kind-requires : (t : ℕ) → value-lts.Need-kind-requires (
 ) (value-at t) value.Post
 value-kind-requires t c κs = search needs
 
--- src/lib.rt:261:24
+-- src/lib.rt:269:24
 value-enum-told : (t : ℕ) → value-lts.Need-enum-told (
-  core-reads.Asked,
-  core-reads.Learnt,
   kind-reads.Asked,
   kind-reads.Learnt,
   no-value-reads.Asked,
@@ -1750,10 +1731,8 @@ value-enum-told : (t : ℕ) → value-lts.Need-enum-told (
 ) (value-at t) value.Post
 value-enum-told t c = search needs
 
--- src/lib.rt:261:24
+-- src/lib.rt:269:24
 value-no-value-requires : (t : ℕ) → value-lts.Need-no-value-requires (
-  core-reads.Asked,
-  core-reads.Learnt,
   kind-reads.Asked,
   kind-reads.Learnt,
   no-value-reads.Asked,
@@ -1763,12 +1742,10 @@ value-no-value-requires : (t : ℕ) → value-lts.Need-no-value-requires (
   braced-below t,
   braced.Post,
 ) (value-at t) value.Post
-value-no-value-requires t c κs = omega (arith, c .before .before .before .before .before .before .before .before .pre .1 .0 .short)
+value-no-value-requires t c κs = omega (arith, c .before .before .before .before .before .before .before .pre .1 .0 .short)
 
--- src/lib.rt:262:64
+-- src/lib.rt:270:64
 value-enum-told-2 : (t : ℕ) → value-lts.Need-enum-told-2 (
-  core-reads.Asked,
-  core-reads.Learnt,
   kind-reads.Asked,
   kind-reads.Learnt,
   no-value-reads.Asked,
@@ -1780,10 +1757,8 @@ value-enum-told-2 : (t : ℕ) → value-lts.Need-enum-told-2 (
 ) (value-at t) value.Post
 value-enum-told-2 t c = search needs
 
--- src/lib.rt:262:26
+-- src/lib.rt:270:26
 value-simple-requires : (t : ℕ) → value-lts.Need-simple-requires (
-  core-reads.Asked,
-  core-reads.Learnt,
   kind-reads.Asked,
   kind-reads.Learnt,
   no-value-reads.Asked,
@@ -1793,12 +1768,10 @@ value-simple-requires : (t : ℕ) → value-lts.Need-simple-requires (
   braced-below t,
   braced.Post,
 ) (value-at t) value.Post
-value-simple-requires t c κs = omega (arith, c .before .before .before .before .before .before .before .before .before .pre .1)
+value-simple-requires t c κs = omega (arith, c .before .before .before .before .before .before .before .before .pre .1)
 
--- src/lib.rt:263:56
+-- src/lib.rt:271:56
 value-enum-told-3 : (t : ℕ) → value-lts.Need-enum-told-3 (
-  core-reads.Asked,
-  core-reads.Learnt,
   kind-reads.Asked,
   kind-reads.Learnt,
   no-value-reads.Asked,
@@ -1810,10 +1783,8 @@ value-enum-told-3 : (t : ℕ) → value-lts.Need-enum-told-3 (
 ) (value-at t) value.Post
 value-enum-told-3 t c = search needs
 
--- src/lib.rt:263:26
+-- src/lib.rt:271:26
 value-braced-requires : (t : ℕ) → value-lts.Need-braced-requires (
-  core-reads.Asked,
-  core-reads.Learnt,
   kind-reads.Asked,
   kind-reads.Learnt,
   no-value-reads.Asked,
@@ -1823,12 +1794,10 @@ value-braced-requires : (t : ℕ) → value-lts.Need-braced-requires (
   braced-below t,
   braced.Post,
 ) (value-at t) value.Post
-value-braced-requires t c κs = omega (arith, c .before .before .before .before .before .before .before .before .before .pre .1)
+value-braced-requires t c κs = omega (arith, c .before .before .before .before .before .before .before .before .pre .1)
 
--- src/lib.rt:264:25
+-- src/lib.rt:272:25
 value-enum-told-4 : (t : ℕ) → value-lts.Need-enum-told-4 (
-  core-reads.Asked,
-  core-reads.Learnt,
   kind-reads.Asked,
   kind-reads.Learnt,
   no-value-reads.Asked,
@@ -1840,10 +1809,8 @@ value-enum-told-4 : (t : ℕ) → value-lts.Need-enum-told-4 (
 ) (value-at t) value.Post
 value-enum-told-4 t c = search needs
 
--- src/lib.rt:264:25
+-- src/lib.rt:272:25
 value-no-value-requires-2 : (t : ℕ) → value-lts.Need-no-value-requires-2 (
-  core-reads.Asked,
-  core-reads.Learnt,
   kind-reads.Asked,
   kind-reads.Learnt,
   no-value-reads.Asked,
@@ -1853,12 +1820,10 @@ value-no-value-requires-2 : (t : ℕ) → value-lts.Need-no-value-requires-2 (
   braced-below t,
   braced.Post,
 ) (value-at t) value.Post
-value-no-value-requires-2 t c κs = omega (arith, c .before .before .before .before .before .before .before .before .pre .1 .0 .short)
+value-no-value-requires-2 t c κs = omega (arith, c .before .before .before .before .before .before .before .pre .1 .0 .short)
 
--- src/lib.rt:265:29
+-- src/lib.rt:273:29
 value-enum-told-5 : (t : ℕ) → value-lts.Need-enum-told-5 (
-  core-reads.Asked,
-  core-reads.Learnt,
   kind-reads.Asked,
   kind-reads.Learnt,
   no-value-reads.Asked,
@@ -1870,10 +1835,8 @@ value-enum-told-5 : (t : ℕ) → value-lts.Need-enum-told-5 (
 ) (value-at t) value.Post
 value-enum-told-5 t c = search needs
 
--- src/lib.rt:265:29
+-- src/lib.rt:273:29
 value-no-value-requires-3 : (t : ℕ) → value-lts.Need-no-value-requires-3 (
-  core-reads.Asked,
-  core-reads.Learnt,
   kind-reads.Asked,
   kind-reads.Learnt,
   no-value-reads.Asked,
@@ -1883,12 +1846,10 @@ value-no-value-requires-3 : (t : ℕ) → value-lts.Need-no-value-requires-3 (
   braced-below t,
   braced.Post,
 ) (value-at t) value.Post
-value-no-value-requires-3 t c κs = omega (arith, c .before .before .before .before .before .before .before .before .pre .1 .0 .short)
+value-no-value-requires-3 t c κs = omega (arith, c .before .before .before .before .before .before .before .pre .1 .0 .short)
 
 -- src/lib.rt:254:1
 value-returns : (t : ℕ) → value-lts.Need-returns (
-  core-reads.Asked,
-  core-reads.Learnt,
   kind-reads.Asked,
   kind-reads.Learnt,
   no-value-reads.Asked,
@@ -1899,12 +1860,10 @@ value-returns : (t : ℕ) → value-lts.Need-returns (
   braced.Post,
 ) (value-at t) value.Post
 unfolding isPlace
-value-returns t c = plain-none _ _ (c .before .before .before .before .before .before .before .before .before .args .f) _ _ (c .no-value .result) schema.void (rw (← c .before .before .before .before .core .ensures) (sym (c .before .before .before .kind .ensures) ∙ ap shapeOf (c .before .enum-told .given .1))) refl (c .no-value .ensures)
+value-returns t c = plain-none _ _ (c .before .before .before .before .before .before .before .before .args .f) _ _ (c .no-value .result) schema.void (rw (← c .before .before .before .before .before .before .before .before .pre .1 .1 .1) (sym (c .before .before .before .kind .ensures) ∙ ap shapeOf (c .before .enum-told .given .1))) refl (c .no-value .ensures)
 
 -- src/lib.rt:254:1
 value-same-length : (t : ℕ) → value-lts.Need-same-length (
-  core-reads.Asked,
-  core-reads.Learnt,
   kind-reads.Asked,
   kind-reads.Learnt,
   no-value-reads.Asked,
@@ -1918,8 +1877,6 @@ value-same-length t c = search needs
 
 -- src/lib.rt:254:1
 value-returns-2 : (t : ℕ) → value-lts.Need-returns-2 (
-  core-reads.Asked,
-  core-reads.Learnt,
   kind-reads.Asked,
   kind-reads.Learnt,
   no-value-reads.Asked,
@@ -1929,12 +1886,10 @@ value-returns-2 : (t : ℕ) → value-lts.Need-returns-2 (
   braced-below t,
   braced.Post,
 ) (value-at t) value.Post
-value-returns-2 t c = plain-simple _ _ (c .before .before .before .before .before .before .before .before .before .before .before .before .args .f) _ _ (c .before .before .simple .result) _ (c .before .before .before .before .before .before .before .core .ensures) (sym (c .before .before .before .before .before .before .kind .ensures) ∙ ap shapeOf (c .before .before .before .before .enum-told2 .given .1)) (c .before .before .simple .ensures)
+value-returns-2 t c = plain-simple _ _ (c .before .before .before .before .before .before .before .before .before .before .before .args .f) _ _ (c .before .before .simple .result) _ (c .before .before .before .before .before .before .before .before .before .before .before .pre .1 .1 .1) (sym (c .before .before .before .before .before .before .kind .ensures) ∙ ap shapeOf (c .before .before .before .before .enum-told2 .given .1)) (c .before .before .simple .ensures)
 
 -- src/lib.rt:254:1
 value-same-length-2 : (t : ℕ) → value-lts.Need-same-length-2 (
-  core-reads.Asked,
-  core-reads.Learnt,
   kind-reads.Asked,
   kind-reads.Learnt,
   no-value-reads.Asked,
@@ -1948,8 +1903,6 @@ value-same-length-2 t c = search needs
 
 -- src/lib.rt:254:1
 value-returns-3 : (t : ℕ) → value-lts.Need-returns-3 (
-  core-reads.Asked,
-  core-reads.Learnt,
   kind-reads.Asked,
   kind-reads.Learnt,
   no-value-reads.Asked,
@@ -1959,12 +1912,10 @@ value-returns-3 : (t : ℕ) → value-lts.Need-returns-3 (
   braced-below t,
   braced.Post,
 ) (value-at t) value.Post
-value-returns-3 t c = plain-struct _ _ (c .before .before .before .before .before .before .before .before .before .before .before .before .args .f) _ _ (c .before .before .braced .result) _ (c .before .before .before .before .before .before .before .core .ensures) (sym (c .before .before .before .before .before .before .kind .ensures) ∙ ap shapeOf (c .before .before .before .before .enum-told3 .given .1)) (c .before .before .braced .ensures)
+value-returns-3 t c = plain-struct _ _ (c .before .before .before .before .before .before .before .before .before .before .before .args .f) _ _ (c .before .before .braced .result) _ (c .before .before .before .before .before .before .before .before .before .before .before .pre .1 .1 .1) (sym (c .before .before .before .before .before .before .kind .ensures) ∙ ap shapeOf (c .before .before .before .before .enum-told3 .given .1)) (c .before .before .braced .ensures)
 
 -- src/lib.rt:254:1
 value-returns-4 : (t : ℕ) → value-lts.Need-returns-4 (
-  core-reads.Asked,
-  core-reads.Learnt,
   kind-reads.Asked,
   kind-reads.Learnt,
   no-value-reads.Asked,
@@ -1975,12 +1926,10 @@ value-returns-4 : (t : ℕ) → value-lts.Need-returns-4 (
   braced.Post,
 ) (value-at t) value.Post
 unfolding isPlace
-value-returns-4 t c = plain-none _ _ (c .before .before .before .before .before .before .before .before .before .args .f) _ _ (c .no-value2 .result) schema.union (rw (← c .before .before .before .before .core .ensures) (sym (c .before .before .before .kind .ensures) ∙ ap shapeOf (c .before .enum-told4 .given .1))) refl (c .no-value2 .ensures)
+value-returns-4 t c = plain-none _ _ (c .before .before .before .before .before .before .before .before .args .f) _ _ (c .no-value2 .result) schema.union (rw (← c .before .before .before .before .before .before .before .before .pre .1 .1 .1) (sym (c .before .before .before .kind .ensures) ∙ ap shapeOf (c .before .enum-told4 .given .1))) refl (c .no-value2 .ensures)
 
 -- src/lib.rt:254:1
 value-returns-5 : (t : ℕ) → value-lts.Need-returns-5 (
-  core-reads.Asked,
-  core-reads.Learnt,
   kind-reads.Asked,
   kind-reads.Learnt,
   no-value-reads.Asked,
@@ -1991,7 +1940,7 @@ value-returns-5 : (t : ℕ) → value-lts.Need-returns-5 (
   braced.Post,
 ) (value-at t) value.Post
 unfolding isPlace
-value-returns-5 t c = plain-none _ _ (c .before .before .before .before .before .before .before .before .before .args .f) _ _ (c .no-value3 .result) schema.reference (rw (← c .before .before .before .before .core .ensures) (sym (c .before .before .before .kind .ensures) ∙ ap shapeOf (c .before .enum-told5 .given .1))) refl (c .no-value3 .ensures)
+value-returns-5 t c = plain-none _ _ (c .before .before .before .before .before .before .before .before .args .f) _ _ (c .no-value3 .result) schema.reference (rw (← c .before .before .before .before .before .before .before .before .pre .1 .1 .1) (sym (c .before .before .before .kind .ensures) ∙ ap shapeOf (c .before .enum-told5 .given .1))) refl (c .no-value3 .ensures)
 
 pub +body+braced+choice+element+fields+list+list-value+value-spec : {M : Type 1} → statement M
 +body+braced+choice+element+fields+list+list-value+value-spec =
@@ -2209,8 +2158,6 @@ pub +body+braced+choice+element+fields+list+list-value+value-spec : {M : Type 1}
     (list-value-same-length-4 t)
     (list-value-returns-4 t))
     λ t. value-lts.spec (
-      core-reads.Asked,
-      core-reads.Learnt,
       kind-reads.Asked,
       kind-reads.Learnt,
       no-value-reads.Asked,
@@ -2222,7 +2169,6 @@ pub +body+braced+choice+element+fields+list+list-value+value-spec : {M : Type 1}
     )
     (value-at t)
     value.Post
-    (value-core-requires t)
     (value-kind-requires t)
     (value-enum-told t)
     (value-no-value-requires t)
