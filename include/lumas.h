@@ -1,9 +1,9 @@
 /*
  * Lumas: definitions compiled to tables, and messages read by them.
  *
- * Link target/staticlib/libexports.a, which `rt staticlib exports` writes (x86-64 Linux, no other
+ * Link target/staticlib/liblumas.a, which `rt staticlib lumas` writes (x86-64 Linux, no other
  * library but C's memset). docs/FORMAT.md has the format. What each function promises here is
- * proved of its code, for any bytes: crates/exports/src/lib.rt has the promises as equations.
+ * proved of its code, for any bytes: crates/lumas/src/lib.rt has the promises as equations.
  *
  * Every call ends with an answer, whatever bytes it is given. It reads and writes nothing but what
  * it was lent, allocates nothing, and keeps nothing between calls: the functions may be called from

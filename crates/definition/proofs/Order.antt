@@ -10,7 +10,7 @@ use lib.Seq.{sets, take-at}
 use borrow.Author.Tests.{lt-ltb, le-ltb}
 use Rattle.classes.specs.Lists.{pick}
 use Rattle.numbers.specs.Limits.{parameterLimit, textLimit}
-use Rattle.schema.specs.Record.{Record, Before}
+use Rattle.reading_rules.specs.Record.{Record, Before}
 use Rattle.definition_rules.specs.Words.{kindIsCompound}
 use Rattle.definition_rules.specs.Declarations.{Noted, declarationsOf}
 use Rattle.definition_rules.specs.Records.{recordsOf, topNames}
@@ -18,24 +18,24 @@ use Rattle.definition_rules.specs.Table.{encode, numberUp, just, decode}
 use Rattle.definition_rules.specs.Finite.{finites, isEndless}
 use Rattle.definition_rules.specs.Faults.{spotsWhere, recordSpots, rule7Broken, tagRepeated, rootNoStruct, dangling, repeatedNames, faults5, faults6, faults7, faults8, faults9, faults10}
 use Rattle.definition_rules.specs.Compile.{Check, check, Finding, clean, fault, leastOf, findingOf, firstFault, Verdict, refused, table, verdictOf, Answer, compiled, refusal, answerOf, lentAfter}
-use Rattle.declared.specs.declared.Place.{Place}
-use Rattle.declared.specs.declared.Place.the-variants.{Nowhere, At}
-use Rattle.declared.specs.Cells.{cellAt, part, notedFrom}
-use Rattle.declared.specs.Places.{atIf, lesser, leastPlace, leastFrom}
-use Rattle.declared.proofs.PlaceLaws.{least-append, from-same}
-use Rattle.records.specs.Stored.{recordIn, recordsAt}
-use Rattle.records.proofs.Laws.{length-records}
-use Rattle.walk.specs.Walked.{Counted, Uncounted, Walked}
-use Rattle.walk.specs.declared.Walk.{Walk}
-use Rattle.walk.specs.declared.Walk.the-variants.{Count, Bad}
-use Rattle.record_checks.specs.Sweeps.{Found}
-use Rattle.record_faults.specs.RecordFaults.{faultAt}
-use Rattle.record_faults.proofs.FaultLaws.{spots-from}
-use Rattle.writer.specs.Written.{Wrote, recordsIn as writtenRecords}
-use Rattle.writer.proofs.Widths.{Fit, labels-short}
-use Rattle.writer.proofs.Parents.{parents-fit}
-use Rattle.writer.proofs.ReadBack.{Held, held}
-use Rattle.writer.proofs.WriteLaws.{copied}
+use Rattle.definition_cells.specs.declared.Place.{Place}
+use Rattle.definition_cells.specs.declared.Place.the-variants.{Nowhere, At}
+use Rattle.definition_cells.specs.Cells.{cellAt, part, notedFrom}
+use Rattle.definition_cells.specs.Places.{atIf, lesser, leastPlace, leastFrom}
+use Rattle.definition_cells.proofs.PlaceLaws.{least-append, from-same}
+use Rattle.table_records.specs.Stored.{recordIn, recordsAt}
+use Rattle.table_records.proofs.Laws.{length-records}
+use Rattle.table_walk.specs.Walked.{Counted, Uncounted, Walked}
+use Rattle.table_walk.specs.declared.Walk.{Walk}
+use Rattle.table_walk.specs.declared.Walk.the-variants.{Count, Bad}
+use Rattle.table_checks.specs.Sweeps.{Found}
+use Rattle.definition_faults.specs.RecordFaults.{faultAt}
+use Rattle.definition_faults.proofs.FaultLaws.{spots-from}
+use Rattle.definition_writer.specs.Written.{Wrote, recordsIn as writtenRecords}
+use Rattle.definition_writer.proofs.Widths.{Fit, labels-short}
+use Rattle.definition_writer.proofs.Parents.{parents-fit}
+use Rattle.definition_writer.proofs.ReadBack.{Held, held}
+use Rattle.definition_writer.proofs.WriteLaws.{copied}
 use Rattle.definition.specs.Answers.{recordChecks, declarationChecks, recordsFrom, verdictFrom}
 
 -- ---- one check

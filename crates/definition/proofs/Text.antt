@@ -8,7 +8,7 @@ use lib.Dec.{ltb}
 use lib.ListN.{length, drop, drop-of-length-le}
 use borrow.Author.Tests.{lt-ltb, le-ltb}
 use Rattle.numbers.specs.Limits.{textLimit, parameterLimit}
-use Rattle.schema.specs.Record.{Record, Before}
+use Rattle.reading_rules.specs.Record.{Record, Before}
 use Rattle.definition_rules.specs.Table.{numberUp}
 use Rattle.definition_rules.specs.Scan.{Item, itemsOf, tokensOf, placeIf}
 use Rattle.definition_rules.specs.Declarations.{Spots, Noted, noted, Outcome, stuckAt, complete, parseTokens, declarationsOf}
@@ -18,16 +18,16 @@ use Rattle.definition_rules.specs.Faults.{spotsWhere, recordSpots, nameSpots, r
 use Rattle.definition_rules.specs.Compile.{Check, check, Finding, clean, fault, leastOf, firstFault, placeAt, placesAt, faults1, faults2, faults3, notedOf, outcomeOf, recordsOfText, checksOf, checksAfter, checksFrom, checks, Verdict, refused, table, verdictOf, verdict, Answer, refusal, answerOf, compileAnswer, lentAfter, tableAfter}
 use Rattle.table_rules.specs.Endless.{EndlessPromise}
 use Rattle.table_rules.proofs.Ten.{endless-promise}
-use Rattle.declared.specs.declared.Place.{Place}
-use Rattle.declared.specs.declared.Place.the-variants.{Nowhere, At}
-use Rattle.declared.specs.Cells.{cellAt, notedFrom}
-use Rattle.declared.specs.Places.{leastPlace}
-use Rattle.writer.proofs.Parents.{parents-before}
-use Rattle.forms.specs.Placed.{placedBy, placed}
-use Rattle.forms.specs.declared.Formed.{Formed}
-use Rattle.forms.specs.declared.Formed.the-variants.{Stuck, Over, Complete}
-use Rattle.forms.specs.Formed.{StuckIn, OverIn, CompleteIn, FormedAs}
-use Rattle.forms.proofs.PlacedLaws.{natural-type, natural-range, natural-name, natural-card, natural-tag, places-append, where-placed, records-placed, repeated-placed, declared-placed}
+use Rattle.definition_cells.specs.declared.Place.{Place}
+use Rattle.definition_cells.specs.declared.Place.the-variants.{Nowhere, At}
+use Rattle.definition_cells.specs.Cells.{cellAt, notedFrom}
+use Rattle.definition_cells.specs.Places.{leastPlace}
+use Rattle.definition_writer.proofs.Parents.{parents-before}
+use Rattle.definition_forms.specs.Placed.{placedBy, placed}
+use Rattle.definition_forms.specs.declared.Formed.{Formed}
+use Rattle.definition_forms.specs.declared.Formed.the-variants.{Stuck, Over, Complete}
+use Rattle.definition_forms.specs.Formed.{StuckIn, OverIn, CompleteIn, FormedAs}
+use Rattle.definition_forms.proofs.PlacedLaws.{natural-type, natural-range, natural-name, natural-card, natural-tag, places-append, where-placed, records-placed, repeated-placed, declared-placed}
 use Rattle.definition.specs.Answers.{recordChecks, declarationChecks, recordsFrom, verdictFrom}
 use Rattle.definition.proofs.Order.{hit, pass, refuses}
 

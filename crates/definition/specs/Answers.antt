@@ -1,12 +1,12 @@
 -- The answers of the compiler in the paper's terms, and the checks from the declarations on.
 use mathlib.Core.List.{List, [], _∷_}
 use Prim.Native.Nat.{ℕ}
-use Rattle.schema.specs.Record.{Record}
+use Rattle.reading_rules.specs.Record.{Record}
 use Rattle.definition_rules.specs.Declarations.{Noted, declarationsOf}
 use Rattle.definition_rules.specs.Records.{recordsOf}
 use Rattle.definition_rules.specs.Faults.{faults5, faults6, faults7, faults8, faults9, faults10}
 use Rattle.definition_rules.specs.Compile.{Check, check, Finding, clean, fault, firstFault, Verdict, verdictOf, Answer, compiled, refusal}
-use Rattle.declared.specs.Cells.{notedFrom}
+use Rattle.definition_cells.specs.Cells.{notedFrom}
 use Rattle.definition.specs.declared.Compiled.{Compiled}
 use Rattle.definition.specs.declared.Compiled.the-variants.{Table, Refused}
 use Rattle.definition.specs.declared.Stop.{Stop}

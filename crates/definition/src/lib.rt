@@ -1,19 +1,19 @@
 // The definition compiler: from a definition's text to its table.
-use declared::Place;
-use forms::Formed;
-use walk::Walk;
+use definition_cells::Place;
+use definition_forms::Formed;
+use table_walk::Walk;
 ghost use mathlib.Core.Path.{_≡_};
 ghost use mathlib.Core.List.{List};
 ghost use Prim.Native.Nat.{ℕ, _≤_, _<_};
 ghost use lib.ListN.{length};
 ghost use Rattle.numbers.specs.Limits.{parameterLimit, textLimit};
-ghost use Rattle.schema.specs.Record.{Record, Before, Nested};
+ghost use Rattle.reading_rules.specs.Record.{Record, Before, Nested};
 ghost use Rattle.definition_rules.specs.Table.{numberUp, just, decode};
 ghost use Rattle.definition_rules.specs.Compile.{firstFault, answerOf, lentAfter, compileAnswer, tableAfter};
 ghost use Rattle.table_rules.specs.Endless.{EndlessPromise};
-ghost use Rattle.declared.specs.Cells.{cellAt, notedFrom};
-ghost use Rattle.records.specs.Stored.{recordsAt};
-ghost use Rattle.tags.specs.Lists.{Linked};
+ghost use Rattle.definition_cells.specs.Cells.{cellAt, notedFrom};
+ghost use Rattle.table_records.specs.Stored.{recordsAt};
+ghost use Rattle.table_tags.specs.Lists.{Linked};
 ghost use Rattle.definition.specs.Answers.{answer, found, recordChecks, verdictFrom};
 
 // Success with the table's length, or a refusal with its number and place.
@@ -62,31 +62,31 @@ fn record_fault(text: &[u8], cells: &[u32], table: &[u8], unpacked: &[u32], n: u
     ensures { λ r. ⌜ (Nested (recordsAt (now (table .entry)) (now (unpacked .entry)) n) → found r ≡ firstFault (recordChecks (recordsAt (now (table .entry)) (now (unpacked .entry)) n) (notedFrom (now (text .entry)) (now (cells .entry)) n 0))) ⌝ }
 {
     let mut have = blank_marks();
-    match record_faults::least_fault(cells, table, unpacked, &have, n, 7) {
+    match definition_faults::least_fault(cells, table, unpacked, &have, n, 7) {
         Place::At(p) => {
             return Stop::Fault(7, p);
         }
         Place::Nowhere => {}
     }
-    let names = declaration_checks::repeated_name(text, cells, n);
-    let tags = record_faults::least_fault(cells, table, unpacked, &have, n, 8);
-    match declared::lesser(names, tags) {
+    let names = definition_checks::repeated_name(text, cells, n);
+    let tags = definition_faults::least_fault(cells, table, unpacked, &have, n, 8);
+    match definition_cells::lesser(names, tags) {
         Place::At(p) => {
             return Stop::Fault(8, p);
         }
         Place::Nowhere => {}
     }
-    let root = record_faults::least_fault(cells, table, unpacked, &have, n, 9);
-    let lost = declaration_checks::dangling(text, cells, n);
-    match declared::lesser(root, lost) {
+    let root = definition_faults::least_fault(cells, table, unpacked, &have, n, 9);
+    let lost = definition_checks::dangling(text, cells, n);
+    match definition_cells::lesser(root, lost) {
         Place::At(p) => {
             return Stop::Fault(9, p);
         }
         Place::Nowhere => {}
     }
     let mut rest = blank_marks();
-    record_checks::finites(table, unpacked, n, &mut have, &mut rest);
-    match record_faults::least_fault(cells, table, unpacked, &have, n, 10) {
+    table_checks::finites(table, unpacked, n, &mut have, &mut rest);
+    match definition_faults::least_fault(cells, table, unpacked, &have, n, 10) {
         Place::At(p) => Stop::Fault(10, p),
         Place::Nowhere => Stop::Clear,
     }
@@ -98,9 +98,9 @@ fn written_fault(text: &[u8], cells: &[u32], table: &[u8], n: usize) -> Stop
     ensures { λ r. ⌜ ((rs : List Record) → decode (now (table .entry)) ≡ just rs → length rs ≡ n → Nested rs → found r ≡ firstFault (recordChecks rs (notedFrom (now (text .entry)) (now (cells .entry)) n 0))) ⌝ }
 {
     let mut unpacked = blank_records();
-    match walk::unpack(table, &mut unpacked) {
+    match table_walk::unpack(table, &mut unpacked) {
         Walk::Count(_) => {
-            tags::link(table, &mut unpacked, n);
+            table_tags::link(table, &mut unpacked, n);
             record_fault(text, cells, table, &unpacked, n)
         }
         Walk::Bad => Stop::Clear,
@@ -115,21 +115,21 @@ fn compile_declarations(text: &[u8], cells: &[u32], n: usize, table: &mut [u8]) 
     ensures { λ r. ⌜ answer r ≡ answerOf (length (now (table .entry))) (verdictFrom (now (text .entry)) (now (cells .entry)) n) ⌝ }
     ensures { λ _. ⌜ now (table .exit) ≡ lentAfter (verdictFrom (now (text .entry)) (now (cells .entry)) n) (now (table .entry)) ⌝ }
 {
-    match declaration_checks::broken_form(text, cells, n) {
+    match definition_checks::broken_form(text, cells, n) {
         Place::At(p) => {
             return Compiled::Refused(5, p);
         }
         Place::Nowhere => {}
     }
-    match declaration_checks::broken_range(text, cells, n) {
+    match definition_checks::broken_range(text, cells, n) {
         Place::At(p) => {
             return Compiled::Refused(6, p);
         }
         Place::Nowhere => {}
     }
     let mut scratch = blank_bytes();
-    let len = writer::write_records(text, cells, n, &mut scratch);
-    match written_fault(text, cells, declared::part(&scratch, 0, len), n) {
+    let len = definition_writer::write_records(text, cells, n, &mut scratch);
+    match written_fault(text, cells, definition_cells::part(&scratch, 0, len), n) {
         Stop::Fault(k, p) => {
             return Compiled::Refused(k, p);
         }
@@ -138,7 +138,7 @@ fn compile_declarations(text: &[u8], cells: &[u32], n: usize, table: &mut [u8]) 
     if table.len() < len {
         return Compiled::Refused(11, len);
     }
-    writer::copy_out(&scratch, len, table);
+    definition_writer::copy_out(&scratch, len, table);
     Compiled::Table(len)
 }
 
@@ -152,14 +152,14 @@ pub fn compile(text: &[u8], table: &mut [u8]) -> Compiled
     if 65535 < text.len() {
         return Compiled::Refused(1, 65535);
     }
-    match scanner::scan_fault(text) {
+    match definition_scanner::scan_fault(text) {
         Place::At(p) => {
             return Compiled::Refused(2, p);
         }
         Place::Nowhere => {}
     }
     let mut cells = blank_cells();
-    match forms::forms(text, &mut cells) {
+    match definition_forms::forms(text, &mut cells) {
         Formed::Stuck(p) => Compiled::Refused(3, p),
         Formed::Over(p) => Compiled::Refused(4, p),
         Formed::Complete(n) => compile_declarations(text, &cells, n, table),

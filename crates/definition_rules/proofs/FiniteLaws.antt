@@ -7,8 +7,8 @@ use native.Mathlib.Omega.{arith}
 use lib.Dec.{leb, eqb}
 use lib.ListN.{length, getD, replicate}
 use Rattle.classes.specs.Lists.{pick}
-use Rattle.schema.specs.Record.{Record}
-use Rattle.schema.specs.Schema.{isUnder}
+use Rattle.reading_rules.specs.Record.{Record}
+use Rattle.reading_rules.specs.Schema.{isUnder}
 use Rattle.definition_rules.specs.Finite.{canDoWithout, endsNeeds, structStep, unionStep, finiteStep, round, rounds, finites}
 use Rattle.definition_rules.proofs.FirstFault.{Either, left, right}
 

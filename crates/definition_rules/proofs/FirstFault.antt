@@ -6,7 +6,7 @@ use Prim.Native.Nat.{ℕ, zero, suc, _+_, min, _≤_, _<_}
 use native.Mathlib.Omega.{arith}
 use lib.Dec.{eqb, leb}
 use borrow.Author.Tests.{leb-true, leb-false}
-use Rattle.schema.specs.Record.{Record}
+use Rattle.reading_rules.specs.Record.{Record}
 use Rattle.definition_rules.specs.Table.{encode}
 use Rattle.definition_rules.specs.Compile.{Check, check, Finding, clean, fault, leastOf, findingOf, firstFault, checks, Verdict, refused, table, verdictOf, verdict, recordsOfText}
 

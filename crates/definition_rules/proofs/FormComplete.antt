@@ -10,7 +10,7 @@ use Rattle.classes.specs.Lists.{sameBytes, pick}
 use Rattle.definition_rules.specs.Words.{kwAs, kwPlugin, takesRange, isCompound, isReference}
 use Rattle.definition_rules.specs.Scan.{Token, run, mark}
 use Rattle.definition_rules.specs.Forms.{MaybeRun, absent, given, Tag, ownName, tagless, explicit, Heading, heading, typeRun, putRange, putCard, putTag, putPlugin, putHead, Sort, parameter, fields, groups, tops, Form, plain, compound, noField, field, noGroup, group, lastTop, moreTops, printForm, Level, topLevel, fieldLevel, RangeAllowed, HeadAllowed, Allowed, Fits}
-use Rattle.schema.specs.Record.{Up, top, under}
+use Rattle.reading_rules.specs.Record.{Up, top, under}
 use Rattle.definition_rules.specs.Declarations.{Declaration, declaration, countForm, declare, treeDeclarations, Spots, spotsOf, cardSpot, tagSpot, Noted, noted, BodyMode, inFields, groupOpened, inGroup, groupsClosed, Frame, frame, Stage, afterName, afterCard, afterTag, afterPlugin, Phase, atStart, dueSemicolon, afterType, dueRange, dueRangeEnd, dueName, inHeading, dueCard, dueTag, dueCardEnd, Action, stop, move, note, allow, withCard, withTag, withPlugin, takesField, takesClose, takesGroupEnd, isExtension, afterField, fieldDone, parentOf, extensionOf, isInBody, startRun, startMark, headingEnd, headingRun, headingMark, step, Outcome, stuckAt, complete, mapOutcome, endIf, atEnd, parse, parseTokens, declarationsOf}
 
 -- ---- steps

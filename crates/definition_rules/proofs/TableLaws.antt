@@ -10,7 +10,7 @@ use lib.ListN.{length, length-append}
 use borrow.Author.Tests.{eqb-true, eqb-false, eq-eqb, ltb-true, ltb-false, lt-ltb, le-ltb}
 use Rattle.numbers.specs.Limits.{none16, bias}
 use Rattle.classes.specs.Lists.{pick}
-use Rattle.schema.specs.Record.{Record, Up, top, under}
+use Rattle.reading_rules.specs.Record.{Record, Up, top, under}
 use Rattle.definition_rules.specs.Table.{Maybe, none, just, upNumber, numberUp, bit, flagsNumber, flag1, flag2, flag4, encodeRecord, encode, get16, get32, getBytes, want, recordOf, decodeRecord, mapMaybe, decodeUpTo, decode}
 use Rattle.numbers.specs.LittleEndian.{put16, put32, signed}
 

@@ -11,7 +11,7 @@ use borrow.Author.Tests.{ltb-true, ltb-false, lt-ltb, le-ltb}
 use Rattle.classes.specs.Lists.{pick}
 use Rattle.definition_rules.specs.Scan.{Token}
 use Rattle.definition_rules.specs.Forms.{tops, Form, printForm, Fits}
-use Rattle.schema.specs.Record.{Record}
+use Rattle.reading_rules.specs.Record.{Record}
 use Rattle.definition_rules.specs.Declarations.{Noted, complete, stuckAt, parseTokens, declarationsOf, treeDeclarations}
 use Rattle.definition_rules.specs.Table.{Maybe, just, encode, decode}
 use Rattle.definition_rules.specs.Compile.{checks, Verdict, refused, table, verdict, Answer, compiled, refusal, answerOf, compileAnswer, lentAfter, tableAfter}

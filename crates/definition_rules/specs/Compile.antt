@@ -8,7 +8,7 @@ use Rattle.numbers.specs.Limits.{textLimit, parameterLimit}
 use Rattle.classes.specs.Lists.{pick}
 use Rattle.definition_rules.specs.Scan.{Item, itemsOf, tokensOf, placesOf, badPlaces, deepPlaces, placeIf}
 use Rattle.definition_rules.specs.Declarations.{Noted, Outcome, stuckAt, complete, parseTokens, declarationsOf}
-use Rattle.schema.specs.Record.{Record}
+use Rattle.reading_rules.specs.Record.{Record}
 use Rattle.definition_rules.specs.Records.{recordsOf}
 use Rattle.definition_rules.specs.Faults.{faults4, faults5, faults6, faults7, faults8, faults9, faults10}
 use Rattle.definition_rules.specs.Table.{encode}

@@ -10,7 +10,7 @@ use Rattle.classes.specs.Lists.{sameBytes, pick}
 use Rattle.definition_rules.specs.Words.{kwAs, kwPlugin, takesRange, isCompound, isReference}
 use Rattle.definition_rules.specs.Scan.{Token, run, mark}
 use Rattle.definition_rules.specs.Forms.{MaybeRun, absent, given, Tag, ownName, tagless, explicit, Heading, heading, typeRun, Sort, parameter, fields, groups, tops, Form, plain, compound, noField, field, noGroup, group, lastTop, moreTops}
-use Rattle.schema.specs.Record.{Up, top, under}
+use Rattle.reading_rules.specs.Record.{Up, top, under}
 
 -- parent, directly in an extension, heading
 pub data Declaration : Type 0 where

@@ -9,7 +9,7 @@ use Rattle.numbers.specs.Limits.{none16, countLimit}
 use Rattle.numbers.specs.Decimal.{isIntLike}
 use Rattle.numbers.specs.Range.{MaybeRange, noRange, range}
 use Rattle.classes.specs.Lists.{pick, sameBytes}
-use Rattle.schema.specs.Record.{Record, Up, top, under, recordAt, isTop, sameUp}
+use Rattle.reading_rules.specs.Record.{Record, Up, top, under, recordAt, isTop, sameUp}
 use Rattle.definition_rules.specs.Words.{kindOfRun, isReference, nameForm, tagForm, hasDot}
 use Rattle.definition_rules.specs.Scan.{placeIf}
 use Rattle.definition_rules.specs.Forms.{MaybeRun, absent, given, Tag, ownName, tagless, explicit, Heading, heading}

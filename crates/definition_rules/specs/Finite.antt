@@ -6,8 +6,8 @@ use lib.Dec.{leb, eqb}
 use lib.ListN.{length, getD, replicate}
 use Rattle.classes.specs.Lists.{pick}
 use Rattle.definition_rules.specs.Words.{kindIsCompound}
-use Rattle.schema.specs.Record.{Record, Up, top, under, recordAt}
-use Rattle.schema.specs.Schema.{isUnder}
+use Rattle.reading_rules.specs.Record.{Record, Up, top, under, recordAt}
+use Rattle.reading_rules.specs.Schema.{isUnder}
 
 -- "It can do without a field whose lo is 0, a field directly in an extension or a plugin field"
 unfoldable pub canDoWithout : Record → Bool

@@ -6,7 +6,7 @@ use lib.Dec.{eqb}
 use Rattle.numbers.specs.Limits.{none16, bias, intMost, lengthLimit}
 use Rattle.numbers.specs.Range.{MaybeNumber, unread, number, MaybeRange, range, lowOf, highOf, readIntRange, readCountRange}
 use Rattle.classes.specs.Lists.{pick, sameBytes}
-use Rattle.schema.specs.Record.{Record, Up, top, under}
+use Rattle.reading_rules.specs.Record.{Record, Up, top, under}
 use Rattle.definition_rules.specs.Words.{kindOfRun, kindTakesRange}
 use Rattle.definition_rules.specs.Forms.{MaybeRun, absent, given, Tag, ownName, tagless, explicit, Heading, heading}
 use Rattle.definition_rules.specs.Declarations.{Declaration, declaration}

@@ -7,7 +7,7 @@ use lib.ListN.{length}
 use Rattle.numbers.specs.Limits.{none16}
 use Rattle.numbers.specs.LittleEndian.{put16, put32, signed}
 use Rattle.classes.specs.Lists.{pick}
-use Rattle.schema.specs.Record.{Record, Up, top, under}
+use Rattle.reading_rules.specs.Record.{Record, Up, top, under}
 
 pub data Maybe (A : Type 0) : Type 0 where
   none : Maybe A

@@ -10,32 +10,32 @@ use lib.ListN.{length, take, drop, getD}
 use lib.Seq.{sets, sets-eq, length-sets}
 use borrow.Author.Tests.{le-leb, lt-leb}
 use Rattle.numbers.specs.Limits.{messageLimit, openLimit, rowWidth, noRow, parameterLimit}
-use Rattle.schema.specs.Schema.{schemaOf, Found, nowhere, found}
-use Rattle.schema.specs.Reading.{Tree, body}
-use Rattle.records.specs.Stored.{recordsAt}
+use Rattle.reading_rules.specs.Schema.{schemaOf, Found, nowhere, found}
+use Rattle.reading_rules.specs.Reading.{Tree, body}
+use Rattle.table_records.specs.Stored.{recordsAt}
 use Rattle.message_rules.specs.RowBytes.{rowBytes}
 use Rattle.message_rules.specs.Scan.{cut, scanFault, tokensOf}
 use Rattle.message_rules.specs.Scan.{Lexeme as Lex}
-use Rattle.schema.specs.Parse.{Result, refused, bodyAt, parse}
-use Rattle.schema.specs.Parse as parser
+use Rattle.reading_rules.specs.Parse.{Result, refused, bodyAt, parse}
+use Rattle.reading_rules.specs.Parse as parser
 use Rattle.message_rules.specs.Rows.{Row, rowCount, rowsOf, messageRows, cells}
 use Rattle.message_rules.specs.Verdict.{RoomFree, fault, rows, outcome, placeAt, afterScan, roomFree, Answer, accepted, refusal, withRoom, written}
 use Rattle.message_rules.proofs.RowLaws.{message-counted, cells-counted, rows-counted}
-use Rattle.tokens.specs.Cursor.{cutAt, lexemesAt}
-use Rattle.tokens.specs.Scanned.{foundOf}
-use Rattle.tokens.specs.declared.Scanned.{Scanned}
-use Rattle.tokens.specs.declared.Scanned.the-variants.{Clean, Fault}
-use Rattle.tokens.proofs.CutAt.{cut-start}
-use Rattle.unknown.specs.Along.{Stopped}
-use Rattle.unknown.proofs.AlongLaws.{place-left}
-use Rattle.rows.proofs.Stores.{rows-append}
-use Rattle.tags.specs.Lists.{Linked}
-use Rattle.lookup.specs.Questions.{schemaAt}
-use Rattle.lookup.proofs.Laws.{schema-is}
-use Rattle.values.specs.declared.Frame.{Frame}
-use Rattle.values.specs.declared.Got.{Got}
-use Rattle.values.specs.declared.Got.the-variants as got
-use Rattle.values.specs.Ends.{Room, Ended, Ends}
+use Rattle.message_tokens.specs.Cursor.{cutAt, lexemesAt}
+use Rattle.message_tokens.specs.Scanned.{foundOf}
+use Rattle.message_tokens.specs.declared.Scanned.{Scanned}
+use Rattle.message_tokens.specs.declared.Scanned.the-variants.{Clean, Fault}
+use Rattle.message_tokens.proofs.CutAt.{cut-start}
+use Rattle.message_unknown.specs.Along.{Stopped}
+use Rattle.message_unknown.proofs.AlongLaws.{place-left}
+use Rattle.message_rows.proofs.Stores.{rows-append}
+use Rattle.table_tags.specs.Lists.{Linked}
+use Rattle.message_lookup.specs.Questions.{schemaAt}
+use Rattle.message_lookup.proofs.Laws.{schema-is}
+use Rattle.message_values.specs.declared.Frame.{Frame}
+use Rattle.message_values.specs.declared.Got.{Got}
+use Rattle.message_values.specs.declared.Got.the-variants as got
+use Rattle.message_values.specs.Ends.{Room, Ended, Ends}
 use Rattle.message.specs.Reads.{answerOf, rootFrame, reading, Rows, Counted, Fills}
 use Rattle.message.specs.declared.Verdict.{Verdict}
 use Rattle.message.specs.declared.Verdict.the-variants.{Accepted, Refused}

@@ -9,18 +9,18 @@ use lib.ListN.{length, getD}
 use borrow.Author.Tests.{leb-true}
 use Rattle.classes.specs.Bytes.{IsBytes}
 use Rattle.numbers.specs.Limits.{parameterLimit}
-use Rattle.schema.specs.Record.{Record}
-use Rattle.schema.proofs.CountLaws.{clash-bool, and-both}
+use Rattle.reading_rules.specs.Record.{Record}
+use Rattle.reading_rules.proofs.CountLaws.{clash-bool, and-both}
 use Rattle.definition_rules.specs.Table.{Maybe, none, just, decode}
 use Rattle.table_rules.specs.RecordRules.{recordRules, tableRules}
 use Rattle.table_rules.proofs.Theorems.{bytes-records}
 use Rattle.message_rules.specs.Verdict.{Answer, accepted, refusal, RoomFree, withRoom, written, roomFree, orEmpty, recordsIn, readWith, rowsWith, readAnswer, rowsAfter}
 use Rattle.message_rules.specs.Promise.{ReadPromise}
 use Rattle.message_rules.proofs.Compiled.{read-promise}
-use Rattle.records.specs.Stored.{recordsAt}
-use Rattle.walk.specs.declared.Walk.{Walk}
-use Rattle.walk.specs.declared.Walk.the-variants.{Count, Bad}
-use Rattle.walk.specs.Walked.{Counted, Uncounted, Walked}
+use Rattle.table_records.specs.Stored.{recordsAt}
+use Rattle.table_walk.specs.declared.Walk.{Walk}
+use Rattle.table_walk.specs.declared.Walk.the-variants.{Count, Bad}
+use Rattle.table_walk.specs.Walked.{Counted, Uncounted, Walked}
 
 -- ---- 20
 

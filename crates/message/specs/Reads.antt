@@ -5,14 +5,14 @@ use Prim.Native.Nat.{ℕ}
 use lib.ListN.{length}
 use lib.Seq.{sets}
 use Rattle.numbers.specs.Limits.{openLimit}
-use Rattle.lookup.specs.Questions.{schemaAt}
+use Rattle.message_lookup.specs.Questions.{schemaAt}
 use Rattle.message_rules.specs.Scan.{cut, tokensOf}
-use Rattle.schema.specs.Parse.{parse}
+use Rattle.reading_rules.specs.Parse.{parse}
 use Rattle.message_rules.specs.Rows.{Row, cells}
 use Rattle.message_rules.specs.Verdict.{RoomFree, fault, rows, outcome, Answer, accepted, refusal}
-use Rattle.values.specs.declared.Frame.{Frame}
-use Rattle.values.specs.declared.Got.{Got}
-use Rattle.values.specs.declared.Got.the-variants as got
+use Rattle.message_values.specs.declared.Frame.{Frame}
+use Rattle.message_values.specs.declared.Got.{Got}
+use Rattle.message_values.specs.declared.Got.the-variants as got
 use Rattle.message.specs.declared.Verdict.{Verdict}
 use Rattle.message.specs.declared.Verdict.the-variants.{Accepted, Refused}
 

@@ -5,19 +5,19 @@ ghost use Prim.Native.Nat.{_≤_, _<_};
 ghost use lib.ListN.{length};
 ghost use lib.Seq.{sets};
 ghost use Rattle.numbers.specs.Limits.{messageLimit, parameterLimit};
-ghost use Rattle.records.specs.Stored.{recordsAt};
-ghost use Rattle.tags.specs.Lists.{Linked};
-ghost use Rattle.walk.specs.Walked.{Enough};
+ghost use Rattle.table_records.specs.Stored.{recordsAt};
+ghost use Rattle.table_tags.specs.Lists.{Linked};
+ghost use Rattle.table_walk.specs.Walked.{Enough};
 ghost use Rattle.message_rules.specs.RowBytes.{rowBytes};
 ghost use Rattle.message_rules.specs.Rows.{Row, cells};
 ghost use Rattle.message_rules.specs.Verdict.{roomFree, withRoom, written, readAnswer, rowsAfter};
 ghost use Rattle.message_rules.specs.Promise.{ReadPromise};
 ghost use Rattle.message.specs.Reads.{answerOf, rootFrame, reading, Counted, Fills};
-use rows::Row;
-use tokens::Scanned;
-use values::Frame;
-use values::Got;
-use walk::Walk;
+use message_rows::Row;
+use message_tokens::Scanned;
+use message_values::Frame;
+use message_values::Got;
+use table_walk::Walk;
 
 // The rows' count, or a number and a place.
 pub enum Verdict {
@@ -75,7 +75,7 @@ fn count(table: &[u8], unpacked: &[u32], n: usize, message: &[u8], rows: &mut [u
     ensures { λ r. ⌜ Counted (reading (now (table .entry)) (now (unpacked .entry)) n (now (message .entry))) r ⌝ }
     ensures { λ _. ⌜ now (rows .exit) ≡ now (rows .entry) ⌝ }
 {
-    reader::body(table, unpacked, n, message, &mut rows[0..0], root(), false)
+    message_reader::body(table, unpacked, n, message, &mut rows[0..0], root(), false)
 }
 
 // The second pass, which fills the rows.
@@ -83,7 +83,7 @@ fn fill(table: &[u8], unpacked: &[u32], n: usize, message: &[u8], rows: &mut [u3
     requires { ⌜ (length (now message) ≤ messageLimit) × (n ≤ parameterLimit) ⌝ }
     ensures { λ _. ⌜ Fills (reading (now (table .entry)) (now (unpacked .entry)) n (now (message .entry))) (now (rows .entry)) (now (rows .exit)) ⌝ }
 {
-    rows::put_row(
+    message_rows::put_row(
         rows,
         0,
         Row {
@@ -93,7 +93,7 @@ fn fill(table: &[u8], unpacked: &[u32], n: usize, message: &[u8], rows: &mut [u3
             end: message.len(),
         },
     );
-    reader::body(table, unpacked, n, message, rows, root(), false);
+    message_reader::body(table, unpacked, n, message, rows, root(), false);
 }
 
 // A message read by the n unpacked records of the table: 21, 22, then the leftmost of 23 to 28, then 29.
@@ -112,7 +112,7 @@ fn read_records(
     if MESSAGE_LIMIT < message.len() {
         return Verdict::Refused(21, MESSAGE_LIMIT);
     }
-    match tokens::scan_fault(message) {
+    match message_tokens::scan_fault(message) {
         Scanned::Fault(at) => {
             return Verdict::Refused(22, at);
         }

@@ -8,11 +8,11 @@ use native.Mathlib.Omega.{arith}
 use lib.ListN.{length, drop}
 use Rattle.classes.specs.Bytes.{IsBytes}
 use Rattle.numbers.specs.Limits.{parameterLimit, messageLimit, openLimit, rowWidth}
-use Rattle.schema.specs.Record.{Record}
-use Rattle.schema.specs.Schema.{Found, nowhere, found}
-use Rattle.schema.specs.Reading.{Tree, body}
-use Rattle.schema.proofs.CountLaws.{clash-bool}
-use Rattle.schema.proofs.Rules.{ReadingRules}
+use Rattle.reading_rules.specs.Record.{Record}
+use Rattle.reading_rules.specs.Schema.{Found, nowhere, found}
+use Rattle.reading_rules.specs.Reading.{Tree, body}
+use Rattle.reading_rules.proofs.CountLaws.{clash-bool}
+use Rattle.reading_rules.proofs.Rules.{ReadingRules}
 use Rattle.definition_rules.specs.Table.{Maybe, none, just, decode}
 use Rattle.table_rules.specs.RecordRules.{recordRules, tableRules}
 use Rattle.table_rules.specs.Compilable.{Compilable}

@@ -5,8 +5,8 @@ use Prim.Native.Nat.{ℕ, zero, suc, _+_, _-_, _≤_, _<_}
 use native.Mathlib.Omega.{arith}
 use lib.ListN.{length, drop, length-append}
 use lib.Seq.{drop-append-seam, drop-drop}
-use Rattle.schema.specs.Token.{Token, word, string, equals, comma, opening, closing}
-use Rattle.schema.specs.Schema.{Found, nowhere, found}
+use Rattle.reading_rules.specs.Token.{Token, word, string, equals, comma, opening, closing}
+use Rattle.reading_rules.specs.Schema.{Found, nowhere, found}
 use Rattle.message_rules.specs.Scan.{Lexeme, Cut, cutFrom, cut, spelledThen, spelledLength, Spelled, Faulty}
 use Rattle.message_rules.proofs.Spelling.{spelled-cut, cut-spelled, faulty-cut, cut-faulty}
 

@@ -6,12 +6,12 @@ use Prim.Native.Nat.{ℕ, zero, suc, _+_, _-_, _≤_, _<_, max}
 use native.Mathlib.Omega.{arith}
 use lib.Dec.{eqb, leb, ltb}
 use borrow.Author.Tests.{leb-false, not-true, eqb-true, lt-leb}
-use Rattle.schema.specs.Token.{Token, word, string, equals, comma, opening, closing, isText}
-use Rattle.schema.specs.Schema.{Schema, WellFormed}
-use Rattle.schema.proofs.CountLaws.{clash-bool, and-both}
-use Rattle.schema.specs.Reading.{Sort, unknownValue, unknownList, value, list, body, items, Tree, unknownWord, unknownString, unknownBraces, unknownPair, unknownLast, unknownMore, leaf, braced, chosenVoid, chosen, chosenInt, last, more, listed, stopped, itemized, noItem, voidItem, listItem, unknownItem, unknownListItem, leavesThen, balancedFrom, count, fieldsOf, InRange, Full, For, Law}
+use Rattle.reading_rules.specs.Token.{Token, word, string, equals, comma, opening, closing, isText}
+use Rattle.reading_rules.specs.Schema.{Schema, WellFormed}
+use Rattle.reading_rules.proofs.CountLaws.{clash-bool, and-both}
+use Rattle.reading_rules.specs.Reading.{Sort, unknownValue, unknownList, value, list, body, items, Tree, unknownWord, unknownString, unknownBraces, unknownPair, unknownLast, unknownMore, leaf, braced, chosenVoid, chosen, chosenInt, last, more, listed, stopped, itemized, noItem, voidItem, listItem, unknownItem, unknownListItem, leavesThen, balancedFrom, count, fieldsOf, InRange, Full, For, Law}
 use Rattle.message_rules.specs.Scan.{openAfter, isOpening, shallow}
-use Rattle.schema.proofs.Complete.{deep}
+use Rattle.reading_rules.proofs.Complete.{deep}
 
 abbrev pub Shallow : ℕ → ℕ → List Token → Type 0
 Shallow limit n x = shallow limit n x ≡ true

@@ -4,13 +4,13 @@ use mathlib.Core.List.{List, [], _∷_, _++_}
 use Prim.Native.Nat.{ℕ, zero, suc, _+_, _-_, _≤_, _<_}
 use native.Mathlib.Omega.{arith}
 use lib.ListN.{length, getD}
-use Rattle.schema.specs.Reading.{Sort, body, Tree, unknownWord, unknownString, unknownBraces, unknownPair, unknownLast, unknownMore, leaf, braced, chosenVoid, chosen, chosenInt, last, more, listed, stopped, itemized, noItem, voidItem, listItem, unknownItem, unknownListItem, leavesThen, leaves}
+use Rattle.reading_rules.specs.Reading.{Sort, body, Tree, unknownWord, unknownString, unknownBraces, unknownPair, unknownLast, unknownMore, leaf, braced, chosenVoid, chosen, chosenInt, last, more, listed, stopped, itemized, noItem, voidItem, listItem, unknownItem, unknownListItem, leavesThen, leaves}
 use Rattle.message_rules.specs.Scan.{Lexeme, Spelled, tokensOf}
 use Rattle.message_rules.specs.Rows.{Row, rowCount, lexemeAt, rowOver, rowsOf, messageRows}
-use Rattle.schema.specs.Reading.{width}
+use Rattle.reading_rules.specs.Reading.{width}
 use Rattle.message_rules.proofs.RowLaws.{rows-counted}
 use Rattle.message_rules.proofs.Spans.{Ordered, spelled-ordered, ordered-at, ordered-up, Covers, part, row-inside, tokens-length}
-use Rattle.schema.proofs.Complete.{leaves-width}
+use Rattle.reading_rules.proofs.Complete.{leaves-width}
 
 abbrev pub noSpan : Row
 noSpan = record { parameter = 0; parent = 0; start = 0; end = 0 }

@@ -8,14 +8,14 @@ use lib.Dec.{eqb, leb, ltb}
 use lib.ListN.{length, drop}
 use borrow.Author.Tests.{not-true}
 use Rattle.numbers.specs.Decimal.{isIntLike}
-use Rattle.schema.specs.Token.{Token, word, string, equals, comma, opening, closing}
-use Rattle.schema.specs.Schema.{Kind, void, simple, struct, union, reference, isVoid, Found, nowhere, found, Schema, WellFormed}
-use Rattle.schema.specs.Count.{Once, has, allIn}
-use Rattle.schema.proofs.CountLaws.{hasnt-in, once-more, once-nil}
-use Rattle.schema.specs.Reading.{Sort, unknownValue, unknownList, value, list, body, items, Tree, unknownWord, unknownString, unknownBraces, unknownPair, unknownLast, unknownMore, leaf, braced, chosenVoid, chosen, chosenInt, last, more, listed, stopped, itemized, noItem, voidItem, listItem, unknownItem, unknownListItem, leavesThen, balancedFrom, count, fieldsOf, InRange, Full, For, Law}
-use Rattle.schema.specs.Parse.{Result, refused, got, then, need, whether, onEquals, afterToken, pairWith, bracesAt, unknownAt, afterUnknown, unknownsAt, judged, simpleAt, shut, structAt, alternative, bareFor, choose, unionAt, noneAt, byKind, valueAt, mayGrow, listEnds, afterValue, listAt, wholeList, requiredOf, endNumber, bodyEnds, unknownAfter, itemAt, itemsAt, listThen, listsAt, wholeValue, bodyAt, parse}
+use Rattle.reading_rules.specs.Token.{Token, word, string, equals, comma, opening, closing}
+use Rattle.reading_rules.specs.Schema.{Kind, void, simple, struct, union, reference, isVoid, Found, nowhere, found, Schema, WellFormed}
+use Rattle.reading_rules.specs.Count.{Once, has, allIn}
+use Rattle.reading_rules.proofs.CountLaws.{hasnt-in, once-more, once-nil}
+use Rattle.reading_rules.specs.Reading.{Sort, unknownValue, unknownList, value, list, body, items, Tree, unknownWord, unknownString, unknownBraces, unknownPair, unknownLast, unknownMore, leaf, braced, chosenVoid, chosen, chosenInt, last, more, listed, stopped, itemized, noItem, voidItem, listItem, unknownItem, unknownListItem, leavesThen, balancedFrom, count, fieldsOf, InRange, Full, For, Law}
+use Rattle.reading_rules.specs.Parse.{Result, refused, got, then, need, whether, onEquals, afterToken, pairWith, bracesAt, unknownAt, afterUnknown, unknownsAt, judged, simpleAt, shut, structAt, alternative, bareFor, choose, unionAt, noneAt, byKind, valueAt, mayGrow, listEnds, afterValue, listAt, wholeList, requiredOf, endNumber, bodyEnds, unknownAfter, itemAt, itemsAt, listThen, listsAt, wholeValue, bodyAt, parse}
 use Rattle.message_rules.specs.Scan.{Lexeme, tokensOf}
-use Rattle.schema.proofs.Sound.{braces-sound, unknown-sound, unknowns-sound, ValueSound, value-sound, whole-sound, body-sound}
+use Rattle.reading_rules.proofs.Sound.{braces-sound, unknown-sound, unknowns-sound, ValueSound, value-sound, whole-sound, body-sound}
 
 -- an end part of the tokens
 pub data EndPart : List Token → List Token → Type 0 where

@@ -8,18 +8,18 @@ use lib.Dec.{eqb, leb, ltb}
 use lib.ListN.{length, drop}
 use borrow.Author.Tests.{leb-true, leb-false, le-leb, lt-leb}
 use Rattle.numbers.specs.Limits.{messageLimit, openLimit, rowWidth}
-use Rattle.schema.specs.Token.{Token}
-use Rattle.schema.specs.Record.{Record}
-use Rattle.schema.specs.Schema.{Schema, schemaOf, Found, nowhere, found, WellFormed}
-use Rattle.schema.proofs.CountLaws.{clash-bool, and-both}
-use Rattle.schema.proofs.Rules.{ReadingRules, well-formed}
-use Rattle.schema.specs.Reading.{Sort, body, Tree, Lawful, leaves}
+use Rattle.reading_rules.specs.Token.{Token}
+use Rattle.reading_rules.specs.Record.{Record}
+use Rattle.reading_rules.specs.Schema.{Schema, schemaOf, Found, nowhere, found, WellFormed}
+use Rattle.reading_rules.proofs.CountLaws.{clash-bool, and-both}
+use Rattle.reading_rules.proofs.Rules.{ReadingRules, well-formed}
+use Rattle.reading_rules.specs.Reading.{Sort, body, Tree, Lawful, leaves}
 use Rattle.message_rules.specs.Scan.{Lexeme, Spelled, Cut, cut, tokensOf, openAfter, isOpening, tooDeep, shallow, either, scanFault}
 use Rattle.message_rules.specs.Rows.{Row, messageRows, cells}
-use Rattle.schema.specs.Parse.{Result, refused, got, parse}
+use Rattle.reading_rules.specs.Parse.{Result, refused, got, parse}
 use Rattle.message_rules.specs.Verdict.{LawfulReading, Within, RoomFree, fault, rows, placeAt, outcome, afterScan, roomFree, Answer, accepted, refusal, withRoom, written, readWith, rowsWith}
-use Rattle.schema.proofs.Readings.{parse-sound, parse-complete, unique}
-use Rattle.schema.proofs.Complete.{deep}
+use Rattle.reading_rules.proofs.Readings.{parse-sound, parse-complete, unique}
+use Rattle.reading_rules.proofs.Complete.{deep}
 use Rattle.message_rules.proofs.Depth.{tree-shallow}
 use Rattle.message_rules.proofs.Spelling.{spelled-cut, message-spelled, spelled-once}
 use Rattle.message_rules.proofs.Fuel.{Fine, fine-number, body-fine}

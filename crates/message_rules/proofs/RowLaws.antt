@@ -5,11 +5,11 @@ use Prim.Native.Nat.{ℕ, zero, suc, _+_, _-_, _*_, _≤_, _<_}
 use native.Mathlib.Omega.{arith}
 use lib.ListN.{length, length-append}
 use Rattle.numbers.specs.Limits.{noRow, rowWidth}
-use Rattle.schema.specs.Token.{Token}
-use Rattle.schema.specs.Reading.{Sort, unknownValue, unknownList, value, list, body, items, Tree, unknownWord, unknownString, unknownBraces, unknownPair, unknownLast, unknownMore, leaf, braced, chosenVoid, chosen, chosenInt, last, more, listed, stopped, itemized, noItem, voidItem, listItem, unknownItem, unknownListItem, leavesThen, balancedFrom, count, fieldsOf, InRange, Full, For, Law}
+use Rattle.reading_rules.specs.Token.{Token}
+use Rattle.reading_rules.specs.Reading.{Sort, unknownValue, unknownList, value, list, body, items, Tree, unknownWord, unknownString, unknownBraces, unknownPair, unknownLast, unknownMore, leaf, braced, chosenVoid, chosen, chosenInt, last, more, listed, stopped, itemized, noItem, voidItem, listItem, unknownItem, unknownListItem, leavesThen, balancedFrom, count, fieldsOf, InRange, Full, For, Law}
 use Rattle.message_rules.specs.Scan.{Lexeme}
 use Rattle.message_rules.specs.Rows.{Row, rowCount, lexemeAt, rowOver, rowsOf, messageRows, cells}
-use Rattle.schema.specs.Reading.{width}
+use Rattle.reading_rules.specs.Reading.{width}
 
 -- a tree has as many rows as are counted
 pub rows-counted : {s : Sort} (ls : List Lexeme) (t : Tree s) (i n p up : ℕ) → length (rowsOf ls t i n p up) ≡ rowCount t

@@ -5,12 +5,12 @@ use Prim.Native.Nat.{ℕ, zero, suc, _+_, _-_, _*_, _≤_, _<_}
 use native.Mathlib.Omega.{arith}
 use lib.ListN.{length, length-append, getD}
 use Rattle.numbers.specs.Limits.{noRow}
-use Rattle.schema.specs.Token.{Token, word, string, equals, comma, opening, closing}
-use Rattle.schema.specs.Reading.{Sort, unknownValue, unknownList, value, list, body, items, Tree, unknownWord, unknownString, unknownBraces, unknownPair, unknownLast, unknownMore, leaf, braced, chosenVoid, chosen, chosenInt, last, more, listed, stopped, itemized, noItem, voidItem, listItem, unknownItem, unknownListItem, leavesThen, balancedFrom, count, fieldsOf, InRange, Full, For, Law}
+use Rattle.reading_rules.specs.Token.{Token, word, string, equals, comma, opening, closing}
+use Rattle.reading_rules.specs.Reading.{Sort, unknownValue, unknownList, value, list, body, items, Tree, unknownWord, unknownString, unknownBraces, unknownPair, unknownLast, unknownMore, leaf, braced, chosenVoid, chosen, chosenInt, last, more, listed, stopped, itemized, noItem, voidItem, listItem, unknownItem, unknownListItem, leavesThen, balancedFrom, count, fieldsOf, InRange, Full, For, Law}
 use Rattle.message_rules.specs.Scan.{Lexeme, lexeme, spelledThen, spelledLength, Spelled, tokensOf}
 use Rattle.message_rules.specs.Rows.{Row, rowCount, lexemeAt, rowOver, rowsOf, messageRows}
-use Rattle.schema.specs.Reading.{width}
-use Rattle.schema.proofs.Complete.{leaves-width, value-wide, list-wide}
+use Rattle.reading_rules.specs.Reading.{width}
+use Rattle.reading_rules.proofs.Complete.{leaves-width, value-wide, list-wide}
 
 -- tokens stand one after the other, from the place at up to end
 unfoldable pub Ordered : ℕ → List Lexeme → ℕ → Type 0

@@ -10,9 +10,9 @@ use lib.Seq.{drop-length, take-append-seam, drop-append-seam, getD-append-seam, 
 use borrow.Author.Tests.{leb-true, leb-false, eqb-true, ne-eqb, not-true}
 use Rattle.classes.specs.Bytes.{between, isBlank, isWordByte, isStringByte, isQuote}
 use Rattle.classes.specs.Lists.{every, runOf}
-use Rattle.schema.specs.Token.{Token, word, string, equals, comma, opening, closing, isToken}
-use Rattle.schema.specs.Schema.{Found, nowhere, found}
-use Rattle.schema.proofs.CountLaws.{clash-bool, and-both}
+use Rattle.reading_rules.specs.Token.{Token, word, string, equals, comma, opening, closing, isToken}
+use Rattle.reading_rules.specs.Schema.{Found, nowhere, found}
+use Rattle.reading_rules.proofs.CountLaws.{clash-bool, and-both}
 use Rattle.message_rules.specs.Scan.{Lexeme, Cut, clean, badAt, putFirst, lexeme, Begins, plain, quoted, nothing, mark, beginsOf, cutToken, cutRest, cutFrom, cut, spelledThen, spelledLength, noWordByte, endsThere, Spelled, noneBegun, beginsNone, Faulty}
 
 -- runs

@@ -13,10 +13,10 @@ use Rattle.numbers.specs.Decimal.{readDigits, isDigits, isNatural, isIntLike, i
 use Rattle.numbers.specs.Range.{numberWhen, readInt, readCount, readUpper, beforeSides, secondDot, cutRange, onSides, lowOf, highOf, bothRead, readIntRange, readCountRange}
 use Rattle.numbers.specs.LittleEndian.{le16, put16, put32, signed}
 use Rattle.calendar.specs.Calendar.{leap, daysOf, isDate, isTime}
-use Rattle.schema.specs.Record.{isTop, sameUp, blank, recordAt}
-use Rattle.schema.specs.Value.{isBool, wordForm, wordWithin, formThenRange, valueNumber}
-use Rattle.schema.specs.Schema.{isVoid, kindOf as kindFor, coreOf, isUnder, numbersWhere, first, firstWhere, schemaOf}
-use Rattle.schema.specs.Count.{same, times, has, allIn}
+use Rattle.reading_rules.specs.Record.{isTop, sameUp, blank, recordAt}
+use Rattle.reading_rules.specs.Value.{isBool, wordForm, wordWithin, formThenRange, valueNumber}
+use Rattle.reading_rules.specs.Schema.{isVoid, kindOf as kindFor, coreOf, isUnder, numbersWhere, first, firstWhere, schemaOf}
+use Rattle.reading_rules.specs.Count.{same, times, has, allIn}
 use Rattle.definition_rules.specs.Words.{classOf, numberIf, numberIn, kindOfRun, kindTakesRange, kindIsCompound, takesRange, isCompound, isReference, isKeyword, startsWithLetter, nameForm, tagForm, hasDot}
 use Rattle.definition_rules.specs.Scan.{joinRun, startsWith, scan, tokensOf, placesOf, badPlaces, openAfter, tooDeep, placeIf, deepPlaces}
 use Rattle.definition_rules.specs.Forms.{typeRun}
@@ -28,9 +28,9 @@ use Rattle.definition_rules.specs.Faults.{spotsWhere, recordSpots, nameSpots, n
 use Rattle.definition_rules.specs.Compile.{Answer, compiled, refusal, leastOf, findingOf, firstFault, placeAt, placesAt, faults1, faults2, faults3, notedOf, checksOf, checksAfter, checksFrom, checks, verdictOf, verdict, answerOf, compileAnswer, lentAfter, tableAfter}
 use Rattle.table_rules.specs.RecordRules.{isOpen, closedTo, inExtension, pushIf, mayStand, standsIn, ordered, kindsOfRecords, isSingleValue, countsFine, rangeFine, isTopAt, targetFine, showsName, labelFine, topFine, recordFine, everyRecord, noneBroken, keyIf, shownNames, allNew, recordChecks, recordRules, rulesOf, tableRules}
 use Rattle.message_rules.specs.Scan.{beginsOf, cutToken, cutRest, cutFrom, tokensOf as lexemeTokens, openAfter as openAfterToken, isOpening, tooDeep as braceTooDeep, either, scanFault}
-use Rattle.schema.specs.Reading.{width}
+use Rattle.reading_rules.specs.Reading.{width}
 use Rattle.message_rules.specs.Rows.{rowCount, lexemeAt, rowOver, rowsOf, messageRows, cells}
-use Rattle.schema.specs.Parse.{then, need, whether, onEquals, afterToken, bracesAt, pairWith, unknownAt, afterUnknown, unknownsAt, judged, simpleAt, shut, structAt, alternative, bareFor, choose, unionAt, noneAt, byKind, valueAt, mayGrow, listEnds, afterValue, listAt, requiredOf, endNumber, bodyEnds, unknownAfter, itemAt, itemsAt, listThen, listsAt, bodyAt}
+use Rattle.reading_rules.specs.Parse.{then, need, whether, onEquals, afterToken, bracesAt, pairWith, unknownAt, afterUnknown, unknownsAt, judged, simpleAt, shut, structAt, alternative, bareFor, choose, unionAt, noneAt, byKind, valueAt, mayGrow, listEnds, afterValue, listAt, requiredOf, endNumber, bodyEnds, unknownAfter, itemAt, itemsAt, listThen, listsAt, bodyAt}
 use Rattle.message_rules.specs.Verdict.{Answer as ReadAnswer, accepted, refusal as refusedAt, startOr, placeAt as placeIn, outcome, afterScan, roomFree, withRoom, written, readWith, rowsWith, orEmpty as noRecords, recordsIn, readAnswer, rowsAfter}
 
 -- the bytes of an ASCII text

@@ -10,16 +10,16 @@ use lib.ListN.{length, take, drop, getD}
 use borrow.Author.Tests.{leb-true, leb-false, le-leb, lt-leb}
 use Rattle.classes.specs.Bytes.{IsBytes}
 use Rattle.numbers.specs.Limits.{parameterLimit, messageLimit, openLimit, rowWidth, noRow}
-use Rattle.schema.specs.Schema.{Found, nowhere, found, schemaOf}
-use Rattle.schema.specs.Token.{Token}
-use Rattle.schema.specs.Reading.{Tree, body, leaves}
-use Rattle.schema.proofs.CountLaws.{clash-bool, and-both}
+use Rattle.reading_rules.specs.Schema.{Found, nowhere, found, schemaOf}
+use Rattle.reading_rules.specs.Token.{Token}
+use Rattle.reading_rules.specs.Reading.{Tree, body, leaves}
+use Rattle.reading_rules.proofs.CountLaws.{clash-bool, and-both}
 use Rattle.table_rules.specs.Compilable.{Compilable}
 use Rattle.table_rules.proofs.Theorems.{rules-iff}
 use Rattle.message_rules.specs.Scan.{Lexeme, Spelled, Faulty, Cut, cut, tokensOf, scanFault}
 use Rattle.message_rules.specs.Rows.{Row, messageRows, rowsOf}
 use Rattle.message_rules.specs.RowBytes.{rowBytes}
-use Rattle.schema.specs.Parse.{refused, parse}
+use Rattle.reading_rules.specs.Parse.{refused, parse}
 use Rattle.message_rules.specs.Verdict.{LawfulReading, placeAt, refusal, recordsIn, readWith, readAnswer}
 use Rattle.message_rules.proofs.Spelling.{message-spelled, spelled-once, message-bad, message-faulty, bad-unspelled}
 use Rattle.message_rules.proofs.RowLaws.{ParentsFirst, parents-first}

@@ -5,7 +5,7 @@ use mathlib.Core.Logic.{_↔_}
 use Prim.Native.Nat.{ℕ, _*_, _≤_, _<_}
 use lib.ListN.{length, drop}
 use Rattle.numbers.specs.Limits.{messageLimit, rowWidth}
-use Rattle.schema.specs.Reading.{Tree, body}
+use Rattle.reading_rules.specs.Reading.{Tree, body}
 use Rattle.table_rules.specs.Compilable.{Compilable}
 use Rattle.message_rules.specs.Scan.{Lexeme, Spelled}
 use Rattle.message_rules.specs.Rows.{Row, messageRows, cells}

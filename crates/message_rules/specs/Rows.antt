@@ -3,8 +3,8 @@ use mathlib.Core.List.{List, [], _∷_, _++_}
 use Prim.Native.Nat.{ℕ, zero, suc, _+_, _-_}
 use lib.ListN.{length, getD}
 use Rattle.numbers.specs.Limits.{noRow}
-use Rattle.schema.specs.Token.{Token, word, string, equals, comma, opening, closing}
-use Rattle.schema.specs.Reading.{width, Sort, unknownValue, unknownList, value, list, body, items, Tree, unknownWord, unknownString, unknownBraces, unknownPair, unknownLast, unknownMore, leaf, braced, chosenVoid, chosen, chosenInt, last, more, listed, stopped, itemized, noItem, voidItem, listItem, unknownItem, unknownListItem}
+use Rattle.reading_rules.specs.Token.{Token, word, string, equals, comma, opening, closing}
+use Rattle.reading_rules.specs.Reading.{width, Sort, unknownValue, unknownList, value, list, body, items, Tree, unknownWord, unknownString, unknownBraces, unknownPair, unknownLast, unknownMore, leaf, braced, chosenVoid, chosen, chosenInt, last, more, listed, stopped, itemized, noItem, voidItem, listItem, unknownItem, unknownListItem}
 use Rattle.message_rules.specs.Scan.{Lexeme, lexeme}
 
 -- "Rows, four u32 each ..: parameter, parent row, start, end (end not included)."

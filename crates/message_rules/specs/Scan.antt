@@ -8,8 +8,8 @@ use lib.ListN.{length, take, drop, getD}
 use Rattle.numbers.specs.Limits.{openLimit}
 use Rattle.classes.specs.Bytes.{isBlank, isWordByte, isStringByte, isQuote}
 use Rattle.classes.specs.Lists.{every, runOf}
-use Rattle.schema.specs.Token.{Token, word, string, equals, comma, opening, closing, isToken}
-use Rattle.schema.specs.Schema.{Found, nowhere, found}
+use Rattle.reading_rules.specs.Token.{Token, word, string, equals, comma, opening, closing, isToken}
+use Rattle.reading_rules.specs.Schema.{Found, nowhere, found}
 
 -- a token, where it starts and where it ends (end not included)
 pub record Lexeme : Type 0 where

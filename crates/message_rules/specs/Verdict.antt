@@ -6,15 +6,15 @@ use Prim.Native.Nat.{ℕ, zero, suc, _+_, _-_, _*_, _≤_}
 use lib.Dec.{eqb, leb}
 use lib.ListN.{length, drop, getD}
 use Rattle.numbers.specs.Limits.{parameterLimit, messageLimit, openLimit, rowWidth}
-use Rattle.schema.specs.Token.{Token}
-use Rattle.schema.specs.Record.{Record}
-use Rattle.schema.specs.Schema.{Schema, schemaOf, Found, nowhere, found}
-use Rattle.schema.specs.Reading.{Sort, body, Tree, Lawful, leaves}
+use Rattle.reading_rules.specs.Token.{Token}
+use Rattle.reading_rules.specs.Record.{Record}
+use Rattle.reading_rules.specs.Schema.{Schema, schemaOf, Found, nowhere, found}
+use Rattle.reading_rules.specs.Reading.{Sort, body, Tree, Lawful, leaves}
 use Rattle.definition_rules.specs.Table.{Maybe, none, just, decode}
 use Rattle.table_rules.specs.RecordRules.{tableRules}
 use Rattle.message_rules.specs.Scan.{Lexeme, Spelled, Cut, cut, tokensOf, scanFault, shallow}
 use Rattle.message_rules.specs.Rows.{Row, messageRows, cells}
-use Rattle.schema.specs.Parse.{Result, refused, got, parse}
+use Rattle.reading_rules.specs.Parse.{Result, refused, got, parse}
 
 -- "A lawful reading" of a message, without limit of length or depth: the tokens ls that its bytes spell, and a lawful tree
 -- "From left to right its leaves are all the message's tokens, each once. A message with a byte neither blank nor in a token has none."

@@ -10,22 +10,22 @@ use lib.ListN.{length, getD}
 use mathlib.Core.Logic.{_↔_}
 use borrow.Author.Tests.{lt-leb, le-leb}
 use Rattle.numbers.specs.Limits.{parameterLimit}
-use Rattle.schema.specs.Record.{Record}
+use Rattle.reading_rules.specs.Record.{Record}
 use Rattle.definition_rules.specs.Table.{Maybe, none, just, decode}
 use Rattle.definition_rules.specs.Finite.{finites, isEndless}
 use Rattle.definition_rules.specs.Words.{kindIsCompound}
 use Rattle.table_rules.specs.Compilable.{Compilable}
 use Rattle.table_rules.proofs.Theorems.{rules-iff}
 use Rattle.table_rules.specs.RecordRules.{noneBroken, recordChecks, recordRules, rulesOf, tableRules}
-use Rattle.records.specs.Stored.{recordIn, recordsFrom, recordsAt}
-use Rattle.records.proofs.Laws.{length-records, records-more, records-end, records-all}
-use Rattle.record_checks.specs.Sweeps.{Found, AllFinite}
+use Rattle.table_records.specs.Stored.{recordIn, recordsFrom, recordsAt}
+use Rattle.table_records.proofs.Laws.{length-records, records-more, records-end, records-all}
+use Rattle.table_checks.specs.Sweeps.{Found, AllFinite}
 use Rattle.definition_rules.specs.Faults.{voidMany, rule7Broken, tagRepeated, rootNoStruct}
-use Rattle.tags.specs.Lists.{Linked, Links}
-use Rattle.tags.proofs.Searching.{links-records}
-use Rattle.walk.specs.declared.Walk.{Walk}
-use Rattle.walk.specs.declared.Walk.the-variants.{Count, Bad}
-use Rattle.walk.specs.Walked.{Enough, Counted, Uncounted, Walked}
+use Rattle.table_tags.specs.Lists.{Linked, Links}
+use Rattle.table_tags.proofs.Searching.{links-records}
+use Rattle.table_walk.specs.declared.Walk.{Walk}
+use Rattle.table_walk.specs.declared.Walk.the-variants.{Count, Bad}
+use Rattle.table_walk.specs.Walked.{Enough, Counted, Uncounted, Walked}
 use Rattle.table.specs.Checks.{isBroken, Fine, Checked}
 
 -- ---- one check over all records

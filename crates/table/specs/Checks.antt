@@ -3,14 +3,14 @@ use mathlib.Core.Path.{_≡_}
 use mathlib.Core.Bool.{Bool, true, false, _||_}
 use mathlib.Core.List.{List}
 use Prim.Native.Nat.{ℕ}
-use Rattle.schema.specs.Record.{Record}
+use Rattle.reading_rules.specs.Record.{Record}
 use Rattle.definition_rules.specs.Faults.{voidMany, rule7Broken, tagRepeated, rootNoStruct}
 use Rattle.numbers.specs.Limits.{parameterLimit}
 use Rattle.table_rules.specs.RecordRules.{tableRules}
-use Rattle.tags.specs.Lists.{Linked}
-use Rattle.walk.specs.Walked.{Counted}
-use Rattle.walk.specs.declared.Walk.{Walk}
-use Rattle.walk.specs.declared.Walk.the-variants.{Count, Bad}
+use Rattle.table_tags.specs.Lists.{Linked}
+use Rattle.table_walk.specs.Walked.{Counted}
+use Rattle.table_walk.specs.declared.Walk.{Walk}
+use Rattle.table_walk.specs.declared.Walk.the-variants.{Count, Bad}
 
 -- what the compiler asks of the i-th record, r, but for its values
 unfoldable pub isBroken : List Record → ℕ → Record → Bool

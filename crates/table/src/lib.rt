@@ -3,17 +3,17 @@ ghost use mathlib.Core.Path.{_≡_};
 ghost use Prim.Native.Nat.{_≤_, _<_};
 ghost use lib.ListN.{length};
 ghost use Rattle.numbers.specs.Limits.{parameterLimit};
-ghost use Rattle.schema.specs.Record.{Nested};
+ghost use Rattle.reading_rules.specs.Record.{Nested};
 ghost use Rattle.definition_rules.specs.Finite.{isEndless};
 ghost use mathlib.Core.Bool.{true};
 ghost use mathlib.Core.Logic.{_↔_};
 ghost use Rattle.table_rules.specs.Compilable.{Compilable};
 ghost use Rattle.table_rules.specs.RecordRules.{noneBroken, recordChecks, recordRules, tableRules};
-ghost use Rattle.records.specs.Stored.{recordIn, recordsAt};
-ghost use Rattle.tags.specs.Lists.{Linked};
-ghost use Rattle.walk.specs.Walked.{Enough};
+ghost use Rattle.table_records.specs.Stored.{recordIn, recordsAt};
+ghost use Rattle.table_tags.specs.Lists.{Linked};
+ghost use Rattle.table_walk.specs.Walked.{Enough};
 ghost use Rattle.table.specs.Checks.{isBroken, Checked};
-use walk::Walk;
+use table_walk::Walk;
 
 // ---- the compiler's checks
 
@@ -22,19 +22,19 @@ fn is_broken(table: &[u8], unpacked: &[u32], n: usize, i: usize) -> bool
     requires { ⌜ (i < n) × Linked (now table) (now unpacked) n 0 ⌝ }
     ensures { λ r. ⌜ r ≡ isBroken (recordsAt (now (table .entry)) (now (unpacked .entry)) n) i (recordIn (now (table .entry)) (now (unpacked .entry)) i) ⌝ }
 {
-    if tags::tag_again(table, unpacked, n, i) {
+    if table_tags::tag_again(table, unpacked, n, i) {
         return true;
     }
-    if record_checks::root_no_struct(table, unpacked, i) {
+    if table_checks::root_no_struct(table, unpacked, i) {
         return true;
     }
-    if record_checks::void_many(table, unpacked, i) {
+    if table_checks::void_many(table, unpacked, i) {
         return true;
     }
-    if record_checks::is_tagged_field(table, unpacked, n, i) {
+    if table_checks::is_tagged_field(table, unpacked, n, i) {
         return false;
     }
-    record_checks::rule7_broken(table, unpacked, n, i)
+    table_checks::rule7_broken(table, unpacked, n, i)
 }
 
 fn none_broken(table: &[u8], unpacked: &[u32], n: usize) -> bool
@@ -56,7 +56,7 @@ fn none_endless(table: &[u8], unpacked: &[u32], n: usize, have: &[bool]) -> bool
 {
     let mut i: usize = 0;
     while i < n {
-        if record_checks::is_endless(table, unpacked, have, i) {
+        if table_checks::is_endless(table, unpacked, have, i) {
             return false;
         }
         i += 1;
@@ -77,12 +77,12 @@ fn checks_fine(table: &[u8], unpacked: &[u32], n: usize) -> bool
     if !none_broken(table, unpacked, n) {
         return false;
     }
-    if record_checks::only_structs(table, unpacked, n) {
+    if table_checks::only_structs(table, unpacked, n) {
         return true;
     }
     let mut have = none_yet();
     let mut rest = none_yet();
-    record_checks::finites(table, unpacked, n, &mut have, &mut rest);
+    table_checks::finites(table, unpacked, n, &mut have, &mut rest);
     none_endless(table, unpacked, n, &have)
 }
 
@@ -93,13 +93,13 @@ fn rules(table: &[u8], unpacked: &[u32], n: usize) -> bool
     if n == 0 {
         return false;
     }
-    if !nesting::ordered(table, unpacked, n) {
+    if !table_order::ordered(table, unpacked, n) {
         return false;
     }
-    if !record_rules::every_fine(table, unpacked, n) {
+    if !table_fields::every_fine(table, unpacked, n) {
         return false;
     }
-    if !record_rules::all_new(table, unpacked, n) {
+    if !table_fields::all_new(table, unpacked, n) {
         return false;
     }
     checks_fine(table, unpacked, n)
@@ -113,9 +113,9 @@ pub fn checked(table: &[u8], unpacked: &mut [u32]) -> Walk
     requires { ⌜ Enough (length (now table)) (length (now unpacked)) ⌝ }
     ensures { λ r. ⌜ Checked (now (table .entry)) (now (unpacked .exit)) r ⌝ }
 {
-    match walk::unpack(table, unpacked) {
+    match table_walk::unpack(table, unpacked) {
         Walk::Count(n) => {
-            tags::link(table, unpacked, n);
+            table_tags::link(table, unpacked, n);
             if rules(table, unpacked, n) {
                 return Walk::Count(n);
             }

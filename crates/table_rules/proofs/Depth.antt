@@ -10,7 +10,7 @@ use Rattle.classes.specs.Lists.{pick}
 use Rattle.definition_rules.specs.Words.{isCompound}
 use Rattle.definition_rules.specs.Scan.{openAfter, Token, mark}
 use Rattle.definition_rules.specs.Forms.{typeRun, putRange, putCard, putTag, putPlugin, putHead, MaybeRun, absent, given, Tag, ownName, tagless, explicit, Heading, heading}
-use Rattle.schema.specs.Record.{Up, top}
+use Rattle.reading_rules.specs.Record.{Up, top}
 use Rattle.definition_rules.specs.Declarations.{Declaration, declaration, BodyMode, inFields, groupOpened, inGroup, groupsClosed, Frame, frame}
 use Rattle.table_rules.specs.RecordRules.{isOpen, closedTo, inExtension, pushIf}
 use Rattle.table_rules.proofs.Spelling.{roomy, nest}

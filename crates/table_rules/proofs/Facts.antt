@@ -10,10 +10,10 @@ use borrow.Author.Tests.{eqb-true, eq-eqb, ne-eqb, not-true, not-false, leb-true
 use Rattle.numbers.specs.Limits.{parameterLimit}
 use Rattle.classes.specs.Lists.{sameBytes, pick}
 use Rattle.numbers.specs.Decimal.{isIntLike}
-use Rattle.schema.specs.Record.{Up, top, under, Record, recordAt, isTop, sameUp}
-use Rattle.schema.specs.Schema.{Kind, void, simple, struct, union, reference, kindOf, isUnder, isUntaggedOf, isTaggedOf, isTaggedAs}
-use Rattle.schema.proofs.CountLaws.{clash-bool, and-both}
-use Rattle.schema.proofs.Rules.{ReadingRules, same-bytes}
+use Rattle.reading_rules.specs.Record.{Up, top, under, Record, recordAt, isTop, sameUp}
+use Rattle.reading_rules.specs.Schema.{Kind, void, simple, struct, union, reference, kindOf, isUnder, isUntaggedOf, isTaggedOf, isTaggedAs}
+use Rattle.reading_rules.proofs.CountLaws.{clash-bool, and-both}
+use Rattle.reading_rules.proofs.Rules.{ReadingRules, same-bytes}
 use Rattle.definition_rules.specs.Faults.{isUnionAt, voidMany, anyOf, anyBefore, parentKind, beside, misplacedField, misplacedAlternative, misplacedUntagged, numberTag, voidTop, pluginUndotted, rule7Broken, hasWireTag, tagRepeated}
 use Rattle.table_rules.specs.RecordRules.{ordered, kindsOfRecords, recordFine, everyRecord, noneBroken, shownNames, allNew, recordChecks, recordRules}
 use Rattle.table_rules.proofs.RuleFacts.{Fine, fine-of}

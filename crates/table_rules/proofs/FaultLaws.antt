@@ -9,7 +9,7 @@ use borrow.Author.Tests.{eq-eqb, eqb-true, not-true}
 use Rattle.classes.specs.Lists.{sameBytes}
 use Rattle.numbers.specs.Range.{number}
 use Rattle.definition_rules.specs.Scan.{placeIf, Item}
-use Rattle.schema.specs.Record.{Up, top, under, Record, sameUp}
+use Rattle.reading_rules.specs.Record.{Up, top, under, Record, sameUp}
 use Rattle.definition_rules.specs.Declarations.{declarationsOf, Declaration, Noted, noted, Spots}
 use Rattle.definition_rules.specs.Faults.{spotsWhere, recordSpots, sameKey, isNew, nameKey, repeatedNames, Key, key}
 use Rattle.definition_rules.specs.Compile.{placesAt}

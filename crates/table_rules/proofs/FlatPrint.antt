@@ -10,7 +10,7 @@ use Rattle.classes.specs.Lists.{pick}
 use Rattle.definition_rules.specs.Words.{isCompound}
 use Rattle.definition_rules.specs.Scan.{Token, mark}
 use Rattle.definition_rules.specs.Forms.{typeRun, putHead, HeadAllowed, Heading, groups, field, group, Level, topLevel, fieldLevel}
-use Rattle.schema.specs.Record.{Up, top}
+use Rattle.reading_rules.specs.Record.{Up, top}
 use Rattle.definition_rules.specs.Declarations.{allow, takesField, takesClose, takesGroupEnd, isExtension, afterField, fieldDone, parentOf, extensionOf, startMark, step, mapOutcome, endIf, atEnd, parse, declarationsOf, Declaration, declaration, BodyMode, inFields, groupOpened, inGroup, groupsClosed, Frame, frame, atStart, complete}
 use Rattle.definition_rules.specs.Table.{just}
 use Rattle.table_rules.specs.RecordRules.{isOpen, closedTo, inExtension, pushIf}

@@ -12,7 +12,7 @@ use Rattle.classes.specs.Lists.{every, pick, notEmpty}
 use Rattle.definition_rules.specs.Words.{kindTakesRange, isReference, isKeyword, startsWithLetter, nameForm, tagForm}
 use Rattle.classes.specs.Bytes.{isNameByte, isTagByte}
 use Rattle.definition_rules.specs.Forms.{MaybeRun, absent, given, Tag, ownName, tagless, explicit}
-use Rattle.schema.specs.Record.{Up, top, under, Record, isTop}
+use Rattle.reading_rules.specs.Record.{Up, top, under, Record, isTop}
 use Rattle.definition_rules.specs.Declarations.{Declaration, declaration}
 use Rattle.definition_rules.specs.Records.{kindLeast, kindMost, findTop, orNone}
 use Rattle.definition_rules.specs.Faults.{nameBroken, referenceBroken, tagBrokenIn, tagBroken, withinKind, countFine, rangeBroken, countBroken, kindOf, kindsOf, dangling}

@@ -10,7 +10,7 @@ use Rattle.numbers.specs.Limits.{depthLimit}
 use Rattle.classes.specs.Lists.{pick}
 use Rattle.definition_rules.specs.Words.{kindOfRun, kindTakesRange, kindIsCompound, takesRange, isCompound, isReference}
 use Rattle.definition_rules.specs.Forms.{typeRun, RangeAllowed, HeadAllowed, MaybeRun, absent, given, heading, topLevel}
-use Rattle.schema.specs.Record.{top, Record, sameUp}
+use Rattle.reading_rules.specs.Record.{top, Record, sameUp}
 use Rattle.definition_rules.specs.Declarations.{parentOf, inFields, groupOpened, inGroup, groupsClosed, Frame, frame}
 use Rattle.table_rules.specs.RecordRules.{closedTo, inExtension, pushIf, mayStand, standsIn, ordered, isSingleValue, topFine}
 use Rattle.definition_rules.proofs.TableLaws.{All}

@@ -9,14 +9,14 @@ use lib.ListN.{length}
 use borrow.Author.Tests.{eqb-true, eqb-false, eq-eqb, le-leb, leb-true, leb-false}
 use Rattle.numbers.specs.Limits.{noLimit}
 use Rattle.classes.specs.Lists.{sameBytes, pick}
-use Rattle.schema.specs.Token.{Token, word, string, equals, comma, opening, closing, isToken}
-use Rattle.schema.specs.Record.{Up, top, under, Record, recordAt, isTop}
-use Rattle.schema.specs.Value.{valueNumber}
-use Rattle.schema.specs.Schema.{Kind, void, simple, struct, union, reference, isVoid, Found, nowhere, found, first, Schema, atMost, kindOf, coreOf, schemaOf, isTaggedOf, isUntaggedOf, isTaggedAs, isUnder, numbersWhere}
-use Rattle.schema.specs.Count.{times, In, Once}
-use Rattle.schema.proofs.CountLaws.{clash-bool, and-both, in-nil, in-head, in-tail, in-cons}
-use Rattle.schema.proofs.Rules.{tag-found}
-use Rattle.schema.specs.Reading.{Sort, value, list, body, items, Tree, leaf, braced, chosenVoid, chosen, chosenInt, last, more, listed, stopped, itemized, noItem, voidItem, listItem, leavesThen, leaves, count, fieldsOf, InRange, Law}
+use Rattle.reading_rules.specs.Token.{Token, word, string, equals, comma, opening, closing, isToken}
+use Rattle.reading_rules.specs.Record.{Up, top, under, Record, recordAt, isTop}
+use Rattle.reading_rules.specs.Value.{valueNumber}
+use Rattle.reading_rules.specs.Schema.{Kind, void, simple, struct, union, reference, isVoid, Found, nowhere, found, first, Schema, atMost, kindOf, coreOf, schemaOf, isTaggedOf, isUntaggedOf, isTaggedAs, isUnder, numbersWhere}
+use Rattle.reading_rules.specs.Count.{times, In, Once}
+use Rattle.reading_rules.proofs.CountLaws.{clash-bool, and-both, in-nil, in-head, in-tail, in-cons}
+use Rattle.reading_rules.proofs.Rules.{tag-found}
+use Rattle.reading_rules.specs.Reading.{Sort, value, list, body, items, Tree, leaf, braced, chosenVoid, chosen, chosenInt, last, more, listed, stopped, itemized, noItem, voidItem, listItem, leavesThen, leaves, count, fieldsOf, InRange, Law}
 use Rattle.definition_rules.specs.Words.{tagForm, hasDot}
 use Rattle.definition_rules.specs.Faults.{voidTop, pluginUndotted}
 use Rattle.table_rules.specs.Endless.{areTokens}

@@ -7,11 +7,11 @@ use native.Mathlib.Omega.{arith}
 use lib.Dec.{eqb}
 use lib.ListN.{length}
 use borrow.Author.Tests.{eqb-true, eqb-false, eq-eqb, ne-eqb}
-use Rattle.schema.specs.Record.{Up, top, under, Record, recordAt, isTop}
-use Rattle.schema.specs.Schema.{Kind, void, simple, struct, union, reference, Found, nowhere, found, first, Schema, kindOf, schemaOf, isTaggedOf, isTaggedAs, isUnder, firstWhere}
-use Rattle.schema.specs.Count.{times, same, In, Once}
-use Rattle.schema.proofs.CountLaws.{clash-bool, and-both, in-nil, in-head, in-tail, in-cons}
-use Rattle.schema.proofs.Rules.{where-is}
+use Rattle.reading_rules.specs.Record.{Up, top, under, Record, recordAt, isTop}
+use Rattle.reading_rules.specs.Schema.{Kind, void, simple, struct, union, reference, Found, nowhere, found, first, Schema, kindOf, schemaOf, isTaggedOf, isTaggedAs, isUnder, firstWhere}
+use Rattle.reading_rules.specs.Count.{times, same, In, Once}
+use Rattle.reading_rules.proofs.CountLaws.{clash-bool, and-both, in-nil, in-head, in-tail, in-cons}
+use Rattle.reading_rules.proofs.Rules.{where-is}
 use Rattle.classes.specs.Lists.{pick}
 use Rattle.table_rules.specs.RecordRules.{isTopAt, targetFine}
 use Rattle.table_rules.proofs.RuleFacts.{Fine, top-lt}

@@ -12,7 +12,7 @@ use Rattle.classes.specs.Bytes.{between, isDigit}
 use Rattle.numbers.specs.Limits.{bias, intMost, countLimit}
 use Rattle.numbers.specs.Decimal.{readDigits, numberOf, isNatural, isMinus, isInt, intWithin, biasedInt}
 use Rattle.numbers.specs.Range.{numberWhen, readCount, readInt, beforeSides, secondDot, cutRange, number, sides}
-use Rattle.schema.proofs.CountLaws.{clash-bool, and-both}
+use Rattle.reading_rules.proofs.CountLaws.{clash-bool, and-both}
 use Rattle.definition_rules.proofs.TableLaws.{All}
 
 -- ---- written

@@ -6,11 +6,11 @@ use Prim.Native.Nat.{ℕ, zero, suc, _+_, _≤_, _<_}
 use native.Mathlib.Omega.{arith}
 use lib.Dec.{eqb}
 use lib.ListN.{length}
-use Rattle.schema.specs.Record.{Up, top, under, Record, recordAt}
-use Rattle.schema.specs.Schema.{Kind, void, simple, struct, union, reference, isVoid, Found, nowhere, found, first, Schema, kindOf, coreOf, schemaOf, isTaggedOf, isUntaggedOf, isUnder, numbersWhere}
-use Rattle.schema.specs.Count.{times, In, Once}
-use Rattle.schema.proofs.CountLaws.{clash-bool, and-both, in-nil, in-head, in-tail, in-cons}
-use Rattle.schema.specs.Reading.{Sort, unknownValue, unknownList, value, list, body, items, Tree, unknownWord, unknownString, unknownBraces, unknownPair, unknownLast, unknownMore, leaf, braced, chosenVoid, chosen, chosenInt, last, more, listed, stopped, itemized, noItem, voidItem, listItem, unknownItem, unknownListItem, fieldsOf, For, Law}
+use Rattle.reading_rules.specs.Record.{Up, top, under, Record, recordAt}
+use Rattle.reading_rules.specs.Schema.{Kind, void, simple, struct, union, reference, isVoid, Found, nowhere, found, first, Schema, kindOf, coreOf, schemaOf, isTaggedOf, isUntaggedOf, isUnder, numbersWhere}
+use Rattle.reading_rules.specs.Count.{times, In, Once}
+use Rattle.reading_rules.proofs.CountLaws.{clash-bool, and-both, in-nil, in-head, in-tail, in-cons}
+use Rattle.reading_rules.specs.Reading.{Sort, unknownValue, unknownList, value, list, body, items, Tree, unknownWord, unknownString, unknownBraces, unknownPair, unknownLast, unknownMore, leaf, braced, chosenVoid, chosen, chosenInt, last, more, listed, stopped, itemized, noItem, voidItem, listItem, unknownItem, unknownListItem, fieldsOf, For, Law}
 use Rattle.table_rules.proofs.Facts.{Formed, bare-at, kind-union}
 use Rattle.table_rules.proofs.Steps.{where-in, put, cut, requiredOf, required, needs, Step, ClosedSet}
 use Rattle.table_rules.proofs.Needed.{required-is, in-cut, first-in, find-is, kind-is, target-at}

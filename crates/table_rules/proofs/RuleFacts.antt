@@ -11,7 +11,7 @@ use Rattle.numbers.specs.Limits.{countLimit, noLimit, none16}
 use Rattle.classes.specs.Lists.{sameBytes, pick}
 use Rattle.definition_rules.specs.Words.{nameForm}
 use Rattle.definition_rules.specs.Forms.{MaybeRun, given, tops}
-use Rattle.schema.specs.Record.{Up, top, under, Record, isTop}
+use Rattle.reading_rules.specs.Record.{Up, top, under, Record, isTop}
 use Rattle.definition_rules.specs.Records.{kindLeast, kindMost, isNamed}
 use Rattle.definition_rules.specs.Faults.{Key, key}
 use Rattle.table_rules.specs.RecordRules.{isSingleValue, countsFine, rangeFine, isTopAt, targetFine, showsName, labelFine, topFine, recordFine, everyRecord, keyIf, shownNames}

@@ -13,7 +13,7 @@ use Rattle.numbers.specs.Limits.{textLimit}
 use Rattle.classes.specs.Lists.{every, pick}
 use Rattle.definition_rules.specs.Scan.{itemsOf, tokensOf, placeIf, Token, Item}
 use Rattle.definition_rules.specs.Forms.{MaybeRun}
-use Rattle.schema.specs.Record.{Up, top, under, Record}
+use Rattle.reading_rules.specs.Record.{Up, top, under, Record}
 use Rattle.definition_rules.specs.Declarations.{allow, parseTokens, declarationsOf, Declaration, Noted, noted, complete}
 use Rattle.definition_rules.specs.Finite.{finites, isEndless}
 use Rattle.definition_rules.specs.Table.{encode}

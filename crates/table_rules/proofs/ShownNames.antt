@@ -9,7 +9,7 @@ use lib.ListN.{length}
 use borrow.Author.Tests.{eq-eqb}
 use Rattle.classes.specs.Lists.{pick}
 use Rattle.definition_rules.specs.Forms.{MaybeRun}
-use Rattle.schema.specs.Record.{Up, Record}
+use Rattle.reading_rules.specs.Record.{Up, Record}
 use Rattle.definition_rules.specs.Declarations.{Declaration}
 use Rattle.definition_rules.specs.Table.{bit}
 use Rattle.definition_rules.specs.Faults.{nameKey, Key, key}

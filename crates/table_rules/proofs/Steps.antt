@@ -7,10 +7,10 @@ use native.Mathlib.Omega.{arith}
 use lib.Dec.{eqb, leb, ltb}
 use lib.ListN.{length, getD, replicate}
 use borrow.Author.Tests.{eqb-true, eqb-false, eq-eqb, ne-eqb, not-true, not-false}
-use Rattle.schema.specs.Record.{Up, top, under, Record, recordAt, isTop, sameUp}
-use Rattle.schema.specs.Schema.{Kind, void, simple, struct, union, reference, Schema, kindOf, isUnder, isUntaggedOf, isTaggedOf, numbersWhere, schemaOf}
-use Rattle.schema.specs.Count.{times, same, In, Once}
-use Rattle.schema.proofs.CountLaws.{clash-bool, and-both, same-case, same-le, in-nil, in-head, in-tail, in-cons}
+use Rattle.reading_rules.specs.Record.{Up, top, under, Record, recordAt, isTop, sameUp}
+use Rattle.reading_rules.specs.Schema.{Kind, void, simple, struct, union, reference, Schema, kindOf, isUnder, isUntaggedOf, isTaggedOf, numbersWhere, schemaOf}
+use Rattle.reading_rules.specs.Count.{times, same, In, Once}
+use Rattle.reading_rules.proofs.CountLaws.{clash-bool, and-both, same-case, same-le, in-nil, in-head, in-tail, in-cons}
 use Rattle.classes.specs.Lists.{pick}
 use Rattle.definition_rules.specs.Faults.{anyBefore, parentKind, beside, misplacedField, misplacedAlternative, misplacedUntagged}
 use Rattle.definition_rules.specs.Finite.{canDoWithout, endsNeeds, structStep, unionStep, finiteStep, round, rounds, finites}

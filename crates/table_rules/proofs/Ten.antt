@@ -9,8 +9,8 @@ use lib.Dec.{ltb}
 use lib.ListN.{length, getD}
 use Rattle.classes.specs.Lists.{pick}
 use Rattle.numbers.specs.Limits.{parameterLimit}
-use Rattle.schema.specs.Record.{Record, recordAt}
-use Rattle.schema.proofs.CountLaws.{clash-bool}
+use Rattle.reading_rules.specs.Record.{Record, recordAt}
+use Rattle.reading_rules.proofs.CountLaws.{clash-bool}
 use Rattle.definition_rules.specs.Words.{kindIsCompound}
 use Rattle.definition_rules.specs.Scan.{Item, itemsOf, placeIf}
 use Rattle.definition_rules.specs.Declarations.{Spots, Noted, noted, Outcome, stuckAt, complete, declarationsOf}

@@ -8,7 +8,7 @@ use lib.Dec.{eqb, leb}
 use lib.ListN.{getD}
 use borrow.Author.Tests.{eqb-true, leb-true}
 use Rattle.classes.specs.Bytes.{IsBytes, between, isLetter, isDigit, isRunByte, isMark, isBlank}
-use Rattle.schema.proofs.CountLaws.{clash-bool, and-both}
+use Rattle.reading_rules.proofs.CountLaws.{clash-bool, and-both}
 use Rattle.definition_rules.specs.Words.{ByteClass, inRun, blank, single, slash, other, classOf}
 use Rattle.definition_rules.specs.Scan.{Token, run, mark}
 use Rattle.definition_rules.proofs.TableLaws.{All, Byte}

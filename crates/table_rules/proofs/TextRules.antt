@@ -16,7 +16,7 @@ use Rattle.numbers.specs.Decimal.{numberOf, isNatural}
 use Rattle.numbers.specs.Range.{numberWhen, readCount, cutRange, onSides, lowOf, highOf, bothRead, readUpper, readCountRange, MaybeNumber, unread, number, Sides, uncut, sides, MaybeRange, noRange, range}
 use Rattle.definition_rules.specs.Scan.{itemsOf, tokensOf, badPlaces, deepPlaces, placeIf, Item}
 use Rattle.definition_rules.specs.Forms.{typeRun, RangeAllowed, HeadAllowed, MaybeRun, absent, given, Tag, ownName, tagless, explicit, Heading, heading, parameter, tops, Form, plain, compound, lastTop, moreTops, topLevel}
-use Rattle.schema.specs.Record.{Up, top, under, Record, isTop, sameUp, recordAt, Before, Nested}
+use Rattle.reading_rules.specs.Record.{Up, top, under, Record, isTop, sameUp, recordAt, Before, Nested}
 use Rattle.definition_rules.specs.Declarations.{declare, treeDeclarations, parentOf, parseTokens, declarationsOf, Declaration, declaration, Noted, noted, inFields, groupOpened, inGroup, groupsClosed, Frame, frame, Outcome, stuckAt, complete, Spots}
 use Rattle.definition_rules.specs.Finite.{finites, isEndless}
 use Rattle.definition_rules.specs.Table.{upNumber, encode, decode, Maybe, none, just}

@@ -12,8 +12,8 @@ use borrow.Author.Tests.{ltb-false, le-ltb}
 use Rattle.classes.specs.Lists.{pick}
 use Rattle.classes.specs.Bytes.{IsBytes}
 use Rattle.numbers.specs.Limits.{parameterLimit}
-use Rattle.schema.specs.Record.{Record}
-use Rattle.schema.proofs.CountLaws.{clash-bool}
+use Rattle.reading_rules.specs.Record.{Record}
+use Rattle.reading_rules.proofs.CountLaws.{clash-bool}
 use Rattle.definition_rules.specs.Table.{Maybe, none, just, decode}
 use Rattle.definition_rules.specs.Compile.{Verdict, refused, table, verdict, compiled, refusal, answerOf, compileAnswer, tableAfter}
 use Rattle.definition_rules.proofs.Theorems.{compiled-lent}

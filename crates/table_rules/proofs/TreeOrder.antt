@@ -11,7 +11,7 @@ use Rattle.numbers.specs.Limits.{depthLimit}
 use Rattle.classes.specs.Lists.{pick}
 use Rattle.definition_rules.specs.Scan.{openAfter, Token, mark}
 use Rattle.definition_rules.specs.Forms.{putHead, printForm, HeadAllowed, Allowed, Heading, heading, Sort, parameter, fields, groups, tops, Form, plain, compound, noField, field, noGroup, group, lastTop, moreTops, Level, topLevel, fieldLevel}
-use Rattle.schema.specs.Record.{Up, top, under}
+use Rattle.reading_rules.specs.Record.{Up, top, under}
 use Rattle.definition_rules.specs.Declarations.{countForm, declare, parentOf, Declaration, BodyMode, inFields, inGroup, Frame, frame}
 use Rattle.table_rules.specs.RecordRules.{isOpen, closedTo, inExtension, pushIf}
 use Rattle.table_rules.proofs.Spelling.{roomy, nest}

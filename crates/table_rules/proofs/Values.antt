@@ -9,10 +9,10 @@ use lib.Dec.{eqb, leb}
 use lib.ListN.{length, getD}
 use borrow.Author.Tests.{eqb-true, eq-eqb, leb-true, not-true, not-false}
 use Rattle.numbers.specs.Limits.{parameterLimit}
-use Rattle.schema.specs.Record.{Record, recordAt}
-use Rattle.schema.specs.Schema.{Kind, void, simple, struct, union, reference, isVoid, Schema, kindOf, coreOf, schemaOf}
-use Rattle.schema.proofs.CountLaws.{clash-bool, and-both}
-use Rattle.schema.specs.Reading.{value, body, Tree, leaf, braced, chosenVoid, chosen, chosenInt, leavesThen, leaves, Law, Lawful}
+use Rattle.reading_rules.specs.Record.{Record, recordAt}
+use Rattle.reading_rules.specs.Schema.{Kind, void, simple, struct, union, reference, isVoid, Schema, kindOf, coreOf, schemaOf}
+use Rattle.reading_rules.proofs.CountLaws.{clash-bool, and-both}
+use Rattle.reading_rules.specs.Reading.{value, body, Tree, leaf, braced, chosenVoid, chosen, chosenInt, leavesThen, leaves, Law, Lawful}
 use Rattle.definition_rules.specs.Words.{kindIsCompound}
 use Rattle.definition_rules.specs.Faults.{isUnionAt, voidMany, rule7Broken, tagRepeated, rootNoStruct}
 use Rattle.definition_rules.specs.Finite.{finites, isEndless}

@@ -13,7 +13,7 @@ use Rattle.definition_rules.specs.Words.{kwAs, kwPlugin, kwVoid, kwBool, kwInt,
 use Rattle.classes.specs.Bytes.{isNameByte}
 use Rattle.numbers.specs.Range.{onSides, lowOf, highOf, bothRead, readIntRange, readUpper, readCountRange, number, range}
 use Rattle.definition_rules.specs.Forms.{MaybeRun, absent, given, Tag, ownName, tagless, explicit, heading, tops}
-use Rattle.schema.specs.Record.{Up, top, under, Record, isTop}
+use Rattle.reading_rules.specs.Record.{Up, top, under, Record, isTop}
 use Rattle.definition_rules.specs.Declarations.{Declaration, declaration}
 use Rattle.definition_rules.specs.Table.{none}
 use Rattle.definition_rules.specs.Records.{kindLeast, kindMost, rangeOf, countOf, topName, topNames, isNamed, findTop, orNone, targetOf, isTagless, labelOf, recordFor, recordsFor}

@@ -13,10 +13,10 @@ use Rattle.classes.specs.Bytes.{between, isWordByte, isStringByte, isDigit, isL
 use Rattle.classes.specs.Lists.{every, sameBytes, pick, notEmpty}
 use Rattle.numbers.specs.Decimal.{readDigits, numberOf, isNatural, isMinus, isInt, intWithin}
 use Rattle.calendar.specs.Calendar.{leap, daysOf, isDate, isTime}
-use Rattle.schema.specs.Token.{Token, word, string, isToken}
-use Rattle.schema.specs.Record.{Record}
-use Rattle.schema.specs.Value.{isBool, wordForm, wordWithin, formThenRange, valueNumber}
-use Rattle.schema.proofs.CountLaws.{clash-bool, and-both}
+use Rattle.reading_rules.specs.Token.{Token, word, string, isToken}
+use Rattle.reading_rules.specs.Record.{Record}
+use Rattle.reading_rules.specs.Value.{isBool, wordForm, wordWithin, formThenRange, valueNumber}
+use Rattle.reading_rules.proofs.CountLaws.{clash-bool, and-both}
 use Rattle.table_rules.proofs.Numerals.{writeNat, writeInt, nat-natural, natural-digits, digit-range, in-range, int-written}
 use Rattle.definition_rules.specs.Words.{tagForm, kindTakesRange}
 use Rattle.definition_rules.specs.Records.{kindLeast, kindMost}

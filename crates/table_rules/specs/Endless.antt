@@ -5,10 +5,10 @@ use mathlib.Core.List.{List, [], _∷_}
 use mathlib.Core.Logic.{_↔_}
 use Prim.Native.Nat.{ℕ, _≤_, _<_}
 use lib.ListN.{length, getD}
-use Rattle.schema.specs.Token.{Token, isToken}
-use Rattle.schema.specs.Record.{Record, recordAt}
-use Rattle.schema.specs.Schema.{schemaOf}
-use Rattle.schema.specs.Reading.{value, Tree, leaves, Law}
+use Rattle.reading_rules.specs.Token.{Token, isToken}
+use Rattle.reading_rules.specs.Record.{Record, recordAt}
+use Rattle.reading_rules.specs.Schema.{schemaOf}
+use Rattle.reading_rules.specs.Reading.{value, Tree, leaves, Law}
 use Rattle.definition_rules.specs.Words.{kindIsCompound}
 use Rattle.definition_rules.specs.Scan.{itemsOf}
 use Rattle.definition_rules.specs.Faults.{nameSpots}

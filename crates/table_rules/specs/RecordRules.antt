@@ -7,7 +7,7 @@ use lib.ListN.{length}
 use Rattle.numbers.specs.Limits.{none16, depthLimit, countLimit, noLimit}
 use Rattle.classes.specs.Lists.{pick}
 use Rattle.definition_rules.specs.Words.{nameForm, tagForm, kindIsCompound}
-use Rattle.schema.specs.Record.{Record, Up, top, under, recordAt, isTop, sameUp}
+use Rattle.reading_rules.specs.Record.{Record, Up, top, under, recordAt, isTop, sameUp}
 use Rattle.definition_rules.specs.Declarations.{BodyMode, inFields, groupOpened, inGroup, groupsClosed, Frame, frame, parentOf}
 use Rattle.definition_rules.specs.Records.{kindLeast, kindMost}
 use Rattle.definition_rules.specs.Faults.{isUnionAt, isAlternative, voidMany, rule7Broken, tagRepeated, rootNoStruct, Key, key, isNew}

@@ -1,7 +1,7 @@
 use native.Mathlib.Omega.{arith}
 use mathlib.Core.Path.{sym, ap, _∙_}
 use Rattle.definition_rules.specs.Table.{decode}
-use Rattle.writer.proofs.Parents.{records-nested}
+use Rattle.definition_writer.proofs.Parents.{records-nested}
 use Rattle.definition.specs.Answers.{found}
 use Rattle.definition.proofs.Order.{refuse-five, refuse-six, later-fault, later-clean, wrote, front, refuses, lacks-room, fills}
 use borrow.Author.Needs.{needs}

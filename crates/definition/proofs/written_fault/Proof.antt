@@ -1,11 +1,11 @@
 use native.Mathlib.Omega.{arith}
 use mathlib.Core.Path.{sym, ap, subst, _∙_}
-use Rattle.schema.specs.Record.{Nested}
+use Rattle.reading_rules.specs.Record.{Nested}
 use Rattle.definition_rules.specs.Compile.{firstFault}
-use Rattle.declared.specs.Cells.{notedFrom}
+use Rattle.definition_cells.specs.Cells.{notedFrom}
 use Rattle.definition.specs.Answers.{recordChecks}
 use Rattle.definition.proofs.Order.{unpacked-all, unpacked-some}
-use Rattle.tags.proofs.Searching.{links-records}
+use Rattle.table_tags.proofs.Searching.{links-records}
 use borrow.Author.Needs.{needs}
 use Rattle.definition.proofs.written_fault.Statement.{statement}
 use Rattle.definition.proofs.written_fault.Tie as tie

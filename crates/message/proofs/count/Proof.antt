@@ -8,7 +8,7 @@ use Rattle.message.proofs.count.Tie as tie
 use Rattle.message.proofs.count.Reads as reads
 use Rattle.message.proofs.count.Lts as lts
 use Rattle.message.proofs.root.Reads as root-reads
-use Rattle.reader.proofs.body.Reads as body-reads
+use Rattle.message_reader.proofs.body.Reads as body-reads
 
 -- src/lib.rt:66:43
 sub-body : tie.Need-sub-body

@@ -8,8 +8,8 @@ use Rattle.message.proofs.fill.Tie as tie
 use Rattle.message.proofs.fill.Reads as reads
 use Rattle.message.proofs.fill.Lts as lts
 use Rattle.message.proofs.root.Reads as root-reads
-use Rattle.reader.proofs.body.Reads as body-reads
-use Rattle.rows.proofs.put_row.Reads as put-row-reads
+use Rattle.message_reader.proofs.body.Reads as body-reads
+use Rattle.message_rows.proofs.put_row.Reads as put-row-reads
 
 -- src/lib.rt:74:5
 put-row-requires : tie.Need-put-row-requires

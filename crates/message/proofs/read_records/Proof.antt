@@ -8,7 +8,7 @@ use Rattle.message.proofs.read_records.Tie as tie
 use Rattle.message.proofs.read_records.Reads as reads
 use Rattle.message.proofs.read_records.Lts as lts
 use Rattle.message.proofs.read_tokens.Reads as read-tokens-reads
-use Rattle.tokens.proofs.scan_fault.Reads as scan-fault-reads
+use Rattle.message_tokens.proofs.scan_fault.Reads as scan-fault-reads
 
 -- src/lib.rt:107:9
 returns : tie.Need-returns

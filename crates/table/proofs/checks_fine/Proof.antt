@@ -1,7 +1,7 @@
 use mathlib.Core.Path.{sym, _∙_}
 use native.Mathlib.Omega.{arith}
 use borrow.Author.Tests.{not-true, not-false}
-use Rattle.records.specs.Stored.{recordsAt}
+use Rattle.table_records.specs.Stored.{recordsAt}
 use Rattle.table.proofs.Laws.{checks-broken, checks-structs, checks-finite}
 use borrow.Author.Needs.{needs}
 use Rattle.table.proofs.checks_fine.Statement.{statement}

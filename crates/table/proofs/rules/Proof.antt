@@ -2,7 +2,7 @@ use mathlib.Core.Path.{sym, _∙_}
 use borrow.Author.Tests.{not-true, not-false}
 use Rattle.table_rules.specs.RecordRules.{recordRules}
 use Rattle.table_rules.proofs.TextRules.{ordered-nested}
-use Rattle.records.specs.Stored.{recordsAt}
+use Rattle.table_records.specs.Stored.{recordsAt}
 use Rattle.table.proofs.Laws.{some-few, rules-none}
 use borrow.Author.Needs.{needs}
 use Rattle.table.proofs.rules.Statement.{statement}

@@ -1,0 +1,58 @@
+// The least places of the faults that records alone show: numbers 7, 8 for tags, 9 for the root, and 10.
+use definition_cells::Place;
+ghost use mathlib.Core.Path.{_≡_};
+ghost use Prim.Native.Nat.{_<_};
+ghost use Rattle.definition_cells.specs.Places.{leastFrom};
+ghost use Rattle.table_tags.specs.Lists.{Linked};
+ghost use Rattle.definition_faults.specs.RecordFaults.{faultAt};
+
+// The fault of parameter i under the refusal's number: 7, 8, 9, else 10, of which have says who has a finite value.
+fn fault_at(
+    cells: &[u32],
+    table: &[u8],
+    unpacked: &[u32],
+    have: &[bool],
+    n: usize,
+    rule: u32,
+    i: usize,
+) -> Place
+    requires { ⌜ (i < n) × Linked (now table) (now unpacked) n 0 ⌝ }
+    ensures { λ r. ⌜ r ≡ faultAt (now (cells .entry)) (now (table .entry)) (now (unpacked .entry)) (now (have .entry)) n rule i ⌝ }
+{
+    if rule == 7 {
+        let broken = table_checks::rule7_broken(table, unpacked, n, i);
+        return definition_cells::at_if(broken, definition_cells::cell(cells, i, 4));
+    }
+    if rule == 8 {
+        let again = table_tags::tag_again(table, unpacked, n, i);
+        return definition_cells::at_if(again, definition_cells::cell(cells, i, 8));
+    }
+    if rule == 9 {
+        let wrong = table_checks::root_no_struct(table, unpacked, i);
+        return definition_cells::at_if(wrong, definition_cells::cell(cells, i, 4));
+    }
+    let endless = table_checks::is_endless(table, unpacked, have, i);
+    definition_cells::at_if(endless, definition_cells::cell(cells, i, 4))
+}
+
+// The least place of a fault under the refusal's number, over all parameters. The records' lists are made, so that a tag
+// that stands twice is found by a search.
+pub fn least_fault(
+    cells: &[u32],
+    table: &[u8],
+    unpacked: &[u32],
+    have: &[bool],
+    n: usize,
+    rule: u32,
+) -> Place
+    requires { ⌜ Linked (now table) (now unpacked) n 0 ⌝ }
+    ensures { λ r. ⌜ r ≡ leastFrom (faultAt (now (cells .entry)) (now (table .entry)) (now (unpacked .entry)) (now (have .entry)) n rule) n 0 ⌝ }
+{
+    let mut best = Place::Nowhere;
+    let mut i: usize = 0;
+    while i < n {
+        best = definition_cells::lesser(best, fault_at(cells, table, unpacked, have, n, rule, i));
+        i += 1;
+    }
+    best
+}

@@ -1,0 +1,40 @@
+-- What the heading of declaration i says, of the n declarations that are kept.
+use mathlib.Core.Bool.{Bool, _&&_}
+use mathlib.Core.List.{List}
+use Prim.Native.Nat.{ℕ}
+use lib.Dec.{eqb}
+use Rattle.classes.specs.Lists.{sameBytes}
+use Rattle.numbers.specs.Limits.{none16}
+use Rattle.numbers.specs.Range.{MaybeRange}
+use Rattle.definition_rules.specs.Words.{kindOfRun}
+use Rattle.definition_rules.specs.Forms.{MaybeRun}
+use Rattle.definition_rules.specs.Declarations.{declarationsOf}
+use Rattle.definition_rules.specs.Records.{rangeOf, countOf, topNames, findTop, orNone, targetOf, labelOf}
+use Rattle.definition_cells.specs.Cells.{cellAt, runAt, tagAt, maybeRunAt, notedFrom}
+
+abbrev pub kindAt : List ℕ → List ℕ → ℕ → ℕ
+kindAt text cs i = kindOfRun (runAt text cs i 0)
+
+abbrev pub limitsAt : List ℕ → List ℕ → ℕ → MaybeRange
+limitsAt text cs i = rangeOf (kindAt text cs i) (maybeRunAt text cs i 10 2)
+
+abbrev pub countsAt : List ℕ → List ℕ → ℕ → MaybeRange
+countsAt text cs i = countOf (maybeRunAt text cs i 11 6)
+
+abbrev pub labelAt : List ℕ → List ℕ → ℕ → List ℕ
+labelAt text cs i = labelOf (runAt text cs i 4) (tagAt text cs i)
+
+-- a top with that name
+abbrev pub isNamedAt : List ℕ → List ℕ → ℕ → List ℕ → Bool
+isNamedAt text cs j w = eqb (cellAt cs j 15) none16 && sameBytes (runAt text cs j 4) w
+
+-- the names of tops, from the i-th declaration on
+abbrev pub namesFrom : List ℕ → List ℕ → ℕ → ℕ → List MaybeRun
+namesFrom text cs n i = topNames (declarationsOf (notedFrom text cs n i))
+
+-- the number of the top with that name, 65,535 where there is none
+abbrev pub topAt : List ℕ → List ℕ → ℕ → List ℕ → ℕ
+topAt text cs n w = orNone (findTop (namesFrom text cs n 0) 0 w)
+
+abbrev pub targetAt : List ℕ → List ℕ → ℕ → ℕ → ℕ
+targetAt text cs n i = targetOf (namesFrom text cs n 0) (kindAt text cs i) (runAt text cs i 0)

@@ -1,0 +1,19 @@
+use denote.Ref.{now}
+use mathlib.Core.Path.{sym}
+use mathlib.Core.Bool.{false}
+use lib.ListN.{List·getD-eq-default}
+use borrow.Author.Needs.{needs}
+use Rattle.message_lookup.proofs.is_marked.Statement.{statement}
+use Rattle.message_lookup.proofs.is_marked.Tie as tie
+
+shared-slice-read-result : tie.Need-shared-slice-read-result
+shared-slice-read-result c = search needs
+
+returns : tie.Need-returns
+returns c = search needs
+
+returns-2 : tie.Need-returns-2
+returns-2 c = sym (List·getD-eq-default (now (c .before .args .seen)) false (c .if1 .left))
+
+pub is-marked-spec : {M : Type 1} → statement M
+is-marked-spec = tie.close (tie.spec shared-slice-read-result returns returns-2)

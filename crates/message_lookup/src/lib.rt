@@ -1,0 +1,344 @@
+// The questions that a reading asks of a table: each is answered from its n unpacked records; a number past them is the
+// blank record's.
+ghost use mathlib.Core.Path.{_≡_};
+ghost use mathlib.Core.Bool.{true, false};
+ghost use Prim.Native.Nat.{ℕ, _+_, _-_, _<_};
+ghost use lib.ListN.{length, getD, set};
+ghost use Rattle.classes.specs.Bytes.{between};
+ghost use Rattle.numbers.specs.Limits.{bias};
+ghost use Rattle.reading_rules.specs.Value.{isBool, formThenRange};
+ghost use Rattle.reading_rules.specs.Schema.{isVoid, isUntaggedOf, isTaggedOf, isTaggedAs, first};
+ghost use Rattle.reading_rules.specs.Parse.{mayGrow};
+ghost use Rattle.table_records.specs.Stored.{recordIn, recordsAt};
+ghost use Rattle.message_lookup.specs.Questions.{schemaAt, nth, foundOf, shapeOf, untaggedFrom, textToken, lengthLies, intLies};
+ghost use Rattle.message_lookup.specs.Seen.{noMarks, isRequiredOf, isMissing, completeFrom};
+ghost use Rattle.message_lookup.specs.IntList.{IntsOf};
+
+// What a search finds.
+pub enum Found {
+    Nowhere,
+    At(usize),
+}
+
+// How a parameter's values are read.
+pub enum Shape {
+    Void,
+    Simple,
+    Struct,
+    Union,
+    Reference,
+}
+
+// ---- one parameter
+
+// The kind's number.
+pub fn kind_number(table: &[u8], unpacked: &[u32], n: usize, p: usize) -> u32
+    ensures { λ r. ⌜ r ≡ nth (now (table .entry)) (now (unpacked .entry)) n p .kind ⌝ }
+{
+    if n <= p {
+        return 1;
+    }
+    table_records::kind_at(table, unpacked, p)
+}
+
+pub fn kind(table: &[u8], unpacked: &[u32], n: usize, p: usize) -> Shape
+    ensures { λ r. ⌜ shapeOf r ≡ schemaAt (now (table .entry)) (now (unpacked .entry)) n .kind p ⌝ }
+{
+    let number = kind_number(table, unpacked, n, p);
+    match number {
+        1 => Shape::Void,
+        8 => Shape::Struct,
+        9 => Shape::Union,
+        10 => Shape::Reference,
+        _ => Shape::Simple,
+    }
+}
+
+pub fn is_void(table: &[u8], unpacked: &[u32], n: usize, p: usize) -> bool
+    ensures { λ r. ⌜ r ≡ isVoid (schemaAt (now (table .entry)) (now (unpacked .entry)) n .kind p) ⌝ }
+{
+    kind_number(table, unpacked, n, p) == 1
+}
+
+// A reference's target, else the parameter itself.
+pub fn core(table: &[u8], unpacked: &[u32], n: usize, p: usize) -> usize
+    ensures { λ r. ⌜ r ≡ schemaAt (now (table .entry)) (now (unpacked .entry)) n .core p ⌝ }
+{
+    if n <= p {
+        return p;
+    }
+    if table_records::kind_at(table, unpacked, p) == 10 {
+        return table_records::target_at(table, unpacked, p);
+    }
+    p
+}
+
+pub fn lo(table: &[u8], unpacked: &[u32], n: usize, p: usize) -> usize
+    ensures { λ r. ⌜ r ≡ schemaAt (now (table .entry)) (now (unpacked .entry)) n .lo p ⌝ }
+{
+    if n <= p {
+        return 1;
+    }
+    table_records::lo_count_at(table, unpacked, p)
+}
+
+// 65,535 is no limit.
+pub fn hi(table: &[u8], unpacked: &[u32], n: usize, p: usize) -> usize
+    ensures { λ r. ⌜ r ≡ schemaAt (now (table .entry)) (now (unpacked .entry)) n .hi p ⌝ }
+{
+    if n <= p {
+        return 1;
+    }
+    table_records::hi_count_at(table, unpacked, p)
+}
+
+// A list of c values may have one more.
+pub fn may_grow(hi: usize, c: usize) -> bool
+    ensures { λ r. ⌜ r ≡ mayGrow hi c ⌝ }
+{
+    (hi == 65_535) | (c < hi)
+}
+
+// Directly in an extension, or plugin.
+pub fn optional(table: &[u8], unpacked: &[u32], n: usize, p: usize) -> bool
+    ensures { λ r. ⌜ r ≡ schemaAt (now (table .entry)) (now (unpacked .entry)) n .optional p ⌝ }
+{
+    if n <= p {
+        return false;
+    }
+    table_records::extension_at(table, unpacked, p) | table_records::plugin_at(table, unpacked, p)
+}
+
+// What a list of ints takes, in packed digits: from least to most; fewer than hi values may have one more. Without on it is
+// another list, or takes no natural number.
+pub struct Ints {
+    pub on: bool,
+    pub least: u64,
+    pub most: u64,
+    pub hi: usize,
+}
+
+// How far a number that is counted from the least i32 lies above 0.
+fn above_zero(x: u32) -> u32
+    ensures { λ r. ⌜ r ≡ x - bias ⌝ }
+{
+    if x < 0x8000_0000 {
+        return 0;
+    }
+    x - 0x8000_0000
+}
+
+// How many values a list may have, where no limit is more than any list has.
+fn most_values(hi: usize) -> usize
+    ensures { λ r. ⌜ ((c : ℕ) → c < r → mayGrow hi c ≡ true) ⌝ }
+{
+    if hi == 65_535 {
+        return 0xFFFF_FFFF;
+    }
+    hi
+}
+
+// What the list of p takes.
+pub fn ints_of(table: &[u8], unpacked: &[u32], n: usize, p: usize) -> Ints
+    ensures { λ r. ⌜ IntsOf (schemaAt (now (table .entry)) (now (unpacked .entry)) n) p r ⌝ }
+{
+    let u = core(table, unpacked, n, p);
+    let most_count = most_values(hi(table, unpacked, n, p));
+    if n <= u {
+        return Ints {
+            on: false,
+            least: 0,
+            most: 0,
+            hi: most_count,
+        };
+    }
+    let most = table_records::most_at(table, unpacked, u);
+    Ints {
+        on: (table_records::kind_at(table, unpacked, u) == 3) & (0x8000_0000 <= most),
+        least: numbers::packed(above_zero(table_records::least_at(table, unpacked, u))),
+        most: numbers::packed(above_zero(most)),
+        hi: most_count,
+    }
+}
+
+// ---- the fields of p
+
+fn is_untagged_of(table: &[u8], unpacked: &[u32], p: usize, i: usize) -> bool
+    ensures { λ r. ⌜ r ≡ isUntaggedOf p (recordIn (now (table .entry)) (now (unpacked .entry)) i) ⌝ }
+{
+    if table_records::is_under(table, unpacked, i, p) {
+        return table_records::untagged_at(table, unpacked, i);
+    }
+    false
+}
+
+fn is_tagged_of(table: &[u8], unpacked: &[u32], p: usize, i: usize) -> bool
+    ensures { λ r. ⌜ r ≡ isTaggedOf p (recordIn (now (table .entry)) (now (unpacked .entry)) i) ⌝ }
+{
+    if table_records::is_under(table, unpacked, i, p) {
+        return !table_records::untagged_at(table, unpacked, i);
+    }
+    false
+}
+
+// The first untagged field from record i on.
+pub fn next_untagged(table: &[u8], unpacked: &[u32], n: usize, p: usize, i: usize) -> Found
+    ensures { λ r. ⌜ foundOf r ≡ first (untaggedFrom (now (table .entry)) (now (unpacked .entry)) n p i) ⌝ }
+{
+    let mut at = i;
+    while at < n {
+        if is_untagged_of(table, unpacked, p, at) {
+            return Found::At(at);
+        }
+        at += 1;
+    }
+    Found::Nowhere
+}
+
+// The untagged int of a union.
+pub fn bare(table: &[u8], unpacked: &[u32], n: usize, p: usize) -> Found
+    ensures { λ r. ⌜ foundOf r ≡ schemaAt (now (table .entry)) (now (unpacked .entry)) n .bare p ⌝ }
+{
+    next_untagged(table, unpacked, n, p, 0)
+}
+
+// The tag search: the field or alternative of p with this wire tag.
+pub fn find(table: &[u8], unpacked: &[u32], n: usize, p: usize, word: &[u8]) -> Found
+    ensures { λ r. ⌜ foundOf r ≡ schemaAt (now (table .entry)) (now (unpacked .entry)) n .find p (now (word .entry)) ⌝ }
+{
+    match table_tags::find(table, unpacked, n, p, word) {
+        table_tags::Found::Nowhere => Found::Nowhere,
+        table_tags::Found::At(q) => Found::At(q),
+    }
+}
+
+// ---- the fields that have appeared
+
+pub fn no_marks() -> [bool; 256]
+    ensures { λ r. ⌜ r ≡ noMarks ⌝ }
+{
+    [false; 256]
+}
+
+pub fn is_marked(seen: &[bool], k: usize) -> bool
+    ensures { λ r. ⌜ r ≡ getD (now (seen .entry)) k false ⌝ }
+{
+    if k < seen.len() {
+        return seen[k];
+    }
+    false
+}
+
+pub fn mark(seen: &mut [bool], k: usize)
+    ensures { λ _. ⌜ now (seen .exit) ≡ set (now (seen .entry)) k true ⌝ }
+{
+    if seen.len() <= k {
+        return;
+    }
+    seen[k] = true;
+}
+
+fn is_required_of(table: &[u8], unpacked: &[u32], p: usize, i: usize) -> bool
+    ensures { λ r. ⌜ r ≡ isRequiredOf p (recordIn (now (table .entry)) (now (unpacked .entry)) i) ⌝ }
+{
+    if is_tagged_of(table, unpacked, p, i) {
+        return !(table_records::extension_at(table, unpacked, i)
+            | table_records::plugin_at(table, unpacked, i)
+            | (table_records::lo_count_at(table, unpacked, i) == 0));
+    }
+    false
+}
+
+fn is_missing(table: &[u8], unpacked: &[u32], p: usize, seen: &[bool], i: usize) -> bool
+    ensures { λ r. ⌜ r ≡ isMissing p (now (seen .entry)) i (recordIn (now (table .entry)) (now (unpacked .entry)) i) ⌝ }
+{
+    if is_marked(seen, i) {
+        return false;
+    }
+    is_required_of(table, unpacked, p, i)
+}
+
+// Every required tagged field of p has a mark.
+pub fn complete(table: &[u8], unpacked: &[u32], n: usize, p: usize, seen: &[bool]) -> bool
+    ensures { λ r. ⌜ r ≡ completeFrom p (now (seen .entry)) 0 (recordsAt (now (table .entry)) (now (unpacked .entry)) n) ⌝ }
+{
+    let mut i = 0;
+    while i < n {
+        if is_missing(table, unpacked, p, seen, i) {
+            return false;
+        }
+        i += 1;
+    }
+    true
+}
+
+// ---- values
+
+// 0 where the form is right and the value lies in its range, else 24.
+fn form_then_range(form: bool, within: bool) -> u32
+    ensures { λ r. ⌜ r ≡ formThenRange form within ⌝ }
+{
+    if form & within {
+        return 0;
+    }
+    24
+}
+
+fn is_bool(text: &[u8]) -> bool
+    ensures { λ r. ⌜ r ≡ isBool (now (text .entry)) ⌝ }
+{
+    classes::same_bytes(text, b"true") | classes::same_bytes(text, b"false")
+}
+
+// The text's length lies in the range, which is counted from the least i32.
+fn length_within(text: &[u8], least: u32, most: u32) -> bool
+    ensures { λ r. ⌜ r ≡ between least most (bias + length (now (text .entry))) ⌝ }
+{
+    let n = text.len();
+    if 0xFFFF_FFFF < n {
+        return false;
+    }
+    (least as usize <= 0x8000_0000 + n) & (0x8000_0000 + n <= most as usize)
+}
+
+fn length_in_range(table: &[u8], unpacked: &[u32], q: usize, text: &[u8]) -> bool
+    ensures { λ r. ⌜ r ≡ lengthLies (recordIn (now (table .entry)) (now (unpacked .entry)) q) (now (text .entry)) ⌝ }
+{
+    length_within(
+        text,
+        table_records::least_at(table, unpacked, q),
+        table_records::most_at(table, unpacked, q),
+    )
+}
+
+fn int_in_range(table: &[u8], unpacked: &[u32], q: usize, text: &[u8]) -> bool
+    ensures { λ r. ⌜ r ≡ intLies (recordIn (now (table .entry)) (now (unpacked .entry)) q) (now (text .entry)) ⌝ }
+{
+    numbers::int_within(
+        text,
+        table_records::least_at(table, unpacked, q),
+        table_records::most_at(table, unpacked, q),
+    )
+}
+
+// The value rule of each kind, for a word or for a string without its quotes.
+pub fn judge(table: &[u8], unpacked: &[u32], n: usize, q: usize, text: &[u8], quoted: bool) -> u32
+    ensures { λ r. ⌜ r ≡ schemaAt (now (table .entry)) (now (unpacked .entry)) n .judge q (textToken quoted (now (text .entry))) ⌝ }
+{
+    if n <= q {
+        return 24;
+    }
+    let kind = table_records::kind_at(table, unpacked, q);
+    match kind {
+        2 => form_then_range(!quoted & is_bool(text), true),
+        3 => form_then_range(
+            !quoted & numbers::is_int(text),
+            int_in_range(table, unpacked, q, text),
+        ),
+        4 => form_then_range(quoted, length_in_range(table, unpacked, q, text)),
+        5 => form_then_range(!quoted, length_in_range(table, unpacked, q, text)),
+        6 => form_then_range(!quoted & calendar::is_date(text), true),
+        7 => form_then_range(!quoted & calendar::is_time(text), true),
+        _ => 24,
+    }
+}

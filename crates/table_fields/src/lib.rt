@@ -1,0 +1,218 @@
+// The rules for one record, and for the names that a table shows.
+ghost use mathlib.Core.Path.{_≡_};
+ghost use mathlib.Core.Bool.{not, _&&_};
+ghost use Prim.Native.Nat.{_+_, _-_, _<_};
+ghost use Rattle.definition_rules.specs.Records.{kindLeast, kindMost};
+ghost use Rattle.definition_rules.specs.Faults.{isUnionAt, sameKey, isNew};
+ghost use Rattle.table_rules.specs.RecordRules.{kindsOfRecords, isSingleValue, countsFine, rangeFine, isTopAt, targetFine, showsName, labelFine, topFine, recordFine, everyRecord, shownNames, allNew};
+ghost use Rattle.table_records.specs.Stored.{recordIn, recordsFrom, recordsAt};
+ghost use Rattle.table_fields.specs.Keys.{keyOf};
+
+// ---- one record
+
+fn is_union(table: &[u8], unpacked: &[u32], n: usize, p: usize) -> bool
+    ensures { λ r. ⌜ r ≡ isUnionAt (kindsOfRecords (recordsAt (now (table .entry)) (now (unpacked .entry)) n)) p ⌝ }
+{
+    if p < n {
+        return table_records::kind_at(table, unpacked, p) == 9;
+    }
+    false
+}
+
+// A top or an alternative.
+fn is_single(table: &[u8], unpacked: &[u32], n: usize, i: usize) -> bool
+    ensures { λ r. ⌜ r ≡ isSingleValue (isUnionAt (kindsOfRecords (recordsAt (now (table .entry)) (now (unpacked .entry)) n))) (recordIn (now (table .entry)) (now (unpacked .entry)) i .parent) ⌝ }
+{
+    if table_checks::is_top(table, unpacked, i) {
+        return true;
+    }
+    is_union(
+        table,
+        unpacked,
+        n,
+        table_records::parent_at(table, unpacked, i),
+    )
+}
+
+fn counts_fine(table: &[u8], unpacked: &[u32], n: usize, i: usize) -> bool
+    ensures { λ r. ⌜ r ≡ countsFine (isUnionAt (kindsOfRecords (recordsAt (now (table .entry)) (now (unpacked .entry)) n))) (recordIn (now (table .entry)) (now (unpacked .entry)) i) ⌝ }
+{
+    let lo = table_records::lo_count_at(table, unpacked, i);
+    let hi = table_records::hi_count_at(table, unpacked, i);
+    let single = (lo == 1) & (hi == 1);
+    (lo <= 65_534)
+        & ((1 <= hi)
+            & ((lo <= hi) & ((hi <= 65_535) & (!is_single(table, unpacked, n, i) | single))))
+}
+
+fn kind_least(k: u32) -> u32
+    ensures { λ r. ⌜ r ≡ kindLeast k ⌝ }
+{
+    if k == 3 {
+        return 0;
+    }
+    if k == 5 {
+        return 2_147_483_649;
+    }
+    2_147_483_648
+}
+
+fn kind_most(k: u32) -> u32
+    ensures { λ r. ⌜ r ≡ kindMost k ⌝ }
+{
+    if k == 3 {
+        return 4_294_967_295;
+    }
+    if (3 <= k) & (k <= 5) {
+        return 2_147_484_672;
+    }
+    2_147_483_648
+}
+
+fn range_fine(table: &[u8], unpacked: &[u32], i: usize) -> bool
+    ensures { λ r. ⌜ r ≡ rangeFine (recordIn (now (table .entry)) (now (unpacked .entry)) i) ⌝ }
+{
+    let k = table_records::kind_at(table, unpacked, i);
+    let a = table_records::least_at(table, unpacked, i);
+    let b = table_records::most_at(table, unpacked, i);
+    (kind_least(k) <= a) & ((a <= b) & (b <= kind_most(k)))
+}
+
+fn is_top_at(table: &[u8], unpacked: &[u32], n: usize, i: usize) -> bool
+    ensures { λ r. ⌜ r ≡ isTopAt (recordsAt (now (table .entry)) (now (unpacked .entry)) n) i ⌝ }
+{
+    if i < n {
+        return table_checks::is_top(table, unpacked, i);
+    }
+    false
+}
+
+fn target_fine(table: &[u8], unpacked: &[u32], n: usize, i: usize) -> bool
+    ensures { λ r. ⌜ r ≡ targetFine (recordsAt (now (table .entry)) (now (unpacked .entry)) n) (recordIn (now (table .entry)) (now (unpacked .entry)) i) ⌝ }
+{
+    let t = table_records::target_at(table, unpacked, i);
+    if table_records::kind_at(table, unpacked, i) == 10 {
+        return is_top_at(table, unpacked, n, t);
+    }
+    t == 65_535
+}
+
+// Tops and untagged fields.
+fn shows_name(table: &[u8], unpacked: &[u32], i: usize) -> bool
+    ensures { λ r. ⌜ r ≡ showsName (recordIn (now (table .entry)) (now (unpacked .entry)) i) ⌝ }
+{
+    table_checks::is_top(table, unpacked, i) | table_records::untagged_at(table, unpacked, i)
+}
+
+fn label_fine(table: &[u8], unpacked: &[u32], i: usize) -> bool
+    ensures { λ r. ⌜ r ≡ labelFine (recordIn (now (table .entry)) (now (unpacked .entry)) i) ⌝ }
+{
+    let label = table_records::label_at(table, unpacked, i);
+    if shows_name(table, unpacked, i) {
+        return definition_words::name_form(label);
+    }
+    definition_words::tag_form(label)
+}
+
+fn top_fine(table: &[u8], unpacked: &[u32], i: usize) -> bool
+    ensures { λ r. ⌜ r ≡ topFine (recordIn (now (table .entry)) (now (unpacked .entry)) i) ⌝ }
+{
+    !table_checks::is_top(table, unpacked, i)
+        | (!table_records::untagged_at(table, unpacked, i)
+            & (!table_records::plugin_at(table, unpacked, i)
+                & (table_records::kind_at(table, unpacked, i) != 10)))
+}
+
+fn record_fine(table: &[u8], unpacked: &[u32], n: usize, i: usize) -> bool
+    ensures { λ r. ⌜ r ≡ recordFine (recordsAt (now (table .entry)) (now (unpacked .entry)) n) (isUnionAt (kindsOfRecords (recordsAt (now (table .entry)) (now (unpacked .entry)) n))) (recordIn (now (table .entry)) (now (unpacked .entry)) i) ⌝ }
+{
+    let k = table_records::kind_at(table, unpacked, i);
+    if k < 1 {
+        return false;
+    }
+    if 10 < k {
+        return false;
+    }
+    if !counts_fine(table, unpacked, n, i) {
+        return false;
+    }
+    if !range_fine(table, unpacked, i) {
+        return false;
+    }
+    if !target_fine(table, unpacked, n, i) {
+        return false;
+    }
+    if !label_fine(table, unpacked, i) {
+        return false;
+    }
+    top_fine(table, unpacked, i)
+}
+
+pub fn every_fine(table: &[u8], unpacked: &[u32], n: usize) -> bool
+    ensures { λ r. ⌜ r ≡ everyRecord (recordFine (recordsAt (now (table .entry)) (now (unpacked .entry)) n) (isUnionAt (kindsOfRecords (recordsAt (now (table .entry)) (now (unpacked .entry)) n)))) (recordsAt (now (table .entry)) (now (unpacked .entry)) n) ⌝ }
+{
+    let mut i: usize = 0;
+    while i < n {
+        if !record_fine(table, unpacked, n, i) {
+            return false;
+        }
+        i += 1;
+    }
+    true
+}
+
+// ---- shown names
+
+// j shows the name that i shows, in the same body or both as tops.
+fn same_name(table: &[u8], unpacked: &[u32], i: usize, j: usize) -> bool
+    ensures { λ r. ⌜ r ≡ (showsName (recordIn (now (table .entry)) (now (unpacked .entry)) j) && sameKey (keyOf (recordIn (now (table .entry)) (now (unpacked .entry)) i)) (keyOf (recordIn (now (table .entry)) (now (unpacked .entry)) j))) ⌝ }
+{
+    if !shows_name(table, unpacked, j) {
+        return false;
+    }
+    if !table_checks::beside(table, unpacked, j, i) {
+        return false;
+    }
+    classes::same_bytes(
+        table_records::label_at(table, unpacked, i),
+        table_records::label_at(table, unpacked, j),
+    )
+}
+
+// No record from a place on shows the name of i.
+fn is_new(table: &[u8], unpacked: &[u32], n: usize, i: usize, from: usize) -> bool
+    ensures { λ r. ⌜ r ≡ isNew (keyOf (recordIn (now (table .entry)) (now (unpacked .entry)) i)) (shownNames (recordsFrom (now (table .entry)) (now (unpacked .entry)) (n - from) from)) ⌝ }
+{
+    let mut j = from;
+    while j < n {
+        if same_name(table, unpacked, i, j) {
+            return false;
+        }
+        j += 1;
+    }
+    true
+}
+
+// The name that i shows is shown again after it.
+fn shown_again(table: &[u8], unpacked: &[u32], n: usize, i: usize) -> bool
+    requires { ⌜ i < n ⌝ }
+    ensures { λ r. ⌜ r ≡ (showsName (recordIn (now (table .entry)) (now (unpacked .entry)) i) && not (isNew (keyOf (recordIn (now (table .entry)) (now (unpacked .entry)) i)) (shownNames (recordsFrom (now (table .entry)) (now (unpacked .entry)) (n - (i + 1)) (i + 1))))) ⌝ }
+{
+    if !shows_name(table, unpacked, i) {
+        return false;
+    }
+    !is_new(table, unpacked, n, i, i + 1)
+}
+
+pub fn all_new(table: &[u8], unpacked: &[u32], n: usize) -> bool
+    ensures { λ r. ⌜ r ≡ allNew (shownNames (recordsAt (now (table .entry)) (now (unpacked .entry)) n)) ⌝ }
+{
+    let mut i: usize = 0;
+    while i < n {
+        if shown_again(table, unpacked, n, i) {
+            return false;
+        }
+        i += 1;
+    }
+    true
+}

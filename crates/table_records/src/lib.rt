@@ -1,0 +1,206 @@
+// Records of a compiled table. A table's records are unpacked once: their numbers are kept in lent cells, and read from
+// there; specs/Stored says which cell holds what. Where a record's cells are not all there, or the record is past the
+// limit, they count as 0.
+ghost use mathlib.Core.Path.{_≡_};
+ghost use Prim.Native.Nat.{_+_, _*_, _≤_, _<_};
+ghost use lib.ListN.{length, take, drop};
+ghost use Rattle.numbers.specs.Limits.{parameterLimit};
+ghost use Rattle.numbers.specs.LittleEndian.{le16, leInt};
+ghost use Rattle.reading_rules.specs.Schema.{isUnder};
+ghost use Rattle.definition_rules.specs.Table.{upNumber};
+ghost use Rattle.table_records.specs.Stored.{headCells, recordCells, cellIn, keptIn, recordIn, Unpacked};
+
+// Cells that are no record's, and those of each record.
+const HEADS: usize = 64;
+
+const WIDTH: usize = 11;
+
+// The k-th cell of record i. The test is the same for all cells of a record, here and below, so that the compiler can
+// make it once.
+fn cell(unpacked: &[u32], i: usize, k: u8) -> u32
+    requires { ⌜ k < recordCells ⌝ }
+    ensures { λ r. ⌜ r ≡ cellIn (now (unpacked .entry)) i k ⌝ }
+{
+    if 256 <= i {
+        return 0;
+    }
+    let at = HEADS + WIDTH * i;
+    if at + WIDTH <= unpacked.len() {
+        return unpacked[at + k as usize];
+    }
+    0
+}
+
+fn wide(n: u32) -> usize
+    ensures { λ r. ⌜ (r ≡ n) × (r < 4294967296) ⌝ }
+{
+    n as usize
+}
+
+// A byte as a u32.
+fn wide8(b: u8) -> u32
+    ensures { λ r. ⌜ (r ≡ b) × (r < 256) ⌝ }
+{
+    b as u32
+}
+
+// The number in two bytes that are there.
+fn pair(table: &[u8], at: usize) -> u32
+    requires { ⌜ at + 2 ≤ length (now table) ⌝ }
+    ensures { λ r. ⌜ (r ≡ le16 (now (table .entry)) at) × (r < 65536) ⌝ }
+{
+    wide8(table[at]) + 256 * wide8(table[at + 1])
+}
+
+// The i32 in four bytes that are there, counted from the least.
+fn int(table: &[u8], at: usize) -> u32
+    requires { ⌜ at + 4 ≤ length (now table) ⌝ }
+    ensures { λ r. ⌜ r ≡ leInt (now (table .entry)) at ⌝ }
+{
+    numbers::signed(pair(table, at) + 65536 * pair(table, at + 2))
+}
+
+// Keeps a number in the k-th cell of record i, where its cells are there.
+fn keep(unpacked: &mut [u32], i: usize, k: u8, x: u32)
+    requires { ⌜ k < recordCells ⌝ }
+    ensures { λ _. ⌜ now (unpacked .exit) ≡ keptIn (now (unpacked .entry)) i k x ⌝ }
+{
+    if 256 <= i {
+        return;
+    }
+    let at = HEADS + WIDTH * i;
+    if at + WIDTH <= unpacked.len() {
+        unpacked[at + k as usize] = x;
+    }
+}
+
+// Unpacks the record whose bytes begin at a place into the cells of record i, where they are there. Its numbers are in
+// the table, so none of them needs a test of its own.
+pub fn unpack(table: &[u8], at: u32, unpacked: &mut [u32], i: usize)
+    requires { ⌜ at + 24 ≤ length (now table) ⌝ }
+    ensures { λ _. ⌜ (i < parameterLimit → headCells + recordCells * (i + 1) ≤ length (now (unpacked .entry)) → Unpacked (now (table .entry)) at (now (unpacked .entry)) i (now (unpacked .exit))) ⌝ }
+{
+    let from = wide(at);
+    keep(unpacked, i, 0, at);
+    keep(unpacked, i, 1, pair(table, from + 2));
+    keep(unpacked, i, 2, pair(table, from + 4));
+    keep(unpacked, i, 3, pair(table, from + 6));
+    keep(unpacked, i, 4, pair(table, from + 8));
+    keep(unpacked, i, 5, pair(table, from + 10));
+    keep(unpacked, i, 6, int(table, from + 12));
+    keep(unpacked, i, 7, int(table, from + 16));
+    keep(unpacked, i, 8, pair(table, from + 20));
+    keep(unpacked, i, 9, pair(table, from + 22));
+}
+
+// The last cell of a record, which links it to another.
+pub fn link_at(unpacked: &[u32], i: usize) -> usize
+    ensures { λ r. ⌜ r ≡ cellIn (now (unpacked .entry)) i 10 ⌝ }
+{
+    wide(cell(unpacked, i, 10))
+}
+
+pub fn set_link(unpacked: &mut [u32], i: usize, x: u32)
+    ensures { λ _. ⌜ now (unpacked .exit) ≡ keptIn (now (unpacked .entry)) i 10 x ⌝ }
+{
+    keep(unpacked, i, 10, x);
+}
+
+// Kinds 1 to 10.
+pub fn kind_at(table: &[u8], unpacked: &[u32], i: usize) -> u32
+    ensures { λ r. ⌜ r ≡ recordIn (now (table .entry)) (now (unpacked .entry)) i .kind ⌝ }
+{
+    cell(unpacked, i, 1)
+}
+
+// The parent's number, 65,535 for a top.
+pub fn parent_at(table: &[u8], unpacked: &[u32], i: usize) -> usize
+    ensures { λ r. ⌜ r ≡ upNumber (recordIn (now (table .entry)) (now (unpacked .entry)) i .parent) ⌝ }
+{
+    wide(cell(unpacked, i, 2))
+}
+
+// The record stands in the body of p.
+pub fn is_under(table: &[u8], unpacked: &[u32], i: usize, p: usize) -> bool
+    ensures { λ r. ⌜ r ≡ isUnder p (recordIn (now (table .entry)) (now (unpacked .entry)) i .parent) ⌝ }
+{
+    let up = wide(cell(unpacked, i, 2));
+    (up != 65_535) & (up == p)
+}
+
+// The flags, as one number.
+pub fn flags_at(table: &[u8], unpacked: &[u32], i: usize) -> u32
+    ensures { λ r. ⌜ r ≡ cellIn (now (unpacked .entry)) i 3 ⌝ }
+{
+    cell(unpacked, i, 3)
+}
+
+pub fn untagged_at(table: &[u8], unpacked: &[u32], i: usize) -> bool
+    ensures { λ r. ⌜ r ≡ recordIn (now (table .entry)) (now (unpacked .entry)) i .untagged ⌝ }
+{
+    flags_at(table, unpacked, i) % 2 == 1
+}
+
+pub fn extension_at(table: &[u8], unpacked: &[u32], i: usize) -> bool
+    ensures { λ r. ⌜ r ≡ recordIn (now (table .entry)) (now (unpacked .entry)) i .extension ⌝ }
+{
+    2 <= flags_at(table, unpacked, i) % 4
+}
+
+pub fn plugin_at(table: &[u8], unpacked: &[u32], i: usize) -> bool
+    ensures { λ r. ⌜ r ≡ recordIn (now (table .entry)) (now (unpacked .entry)) i .plugin ⌝ }
+{
+    4 <= flags_at(table, unpacked, i)
+}
+
+pub fn lo_count_at(table: &[u8], unpacked: &[u32], i: usize) -> usize
+    ensures { λ r. ⌜ r ≡ recordIn (now (table .entry)) (now (unpacked .entry)) i .loCount ⌝ }
+{
+    wide(cell(unpacked, i, 4))
+}
+
+pub fn hi_count_at(table: &[u8], unpacked: &[u32], i: usize) -> usize
+    ensures { λ r. ⌜ r ≡ recordIn (now (table .entry)) (now (unpacked .entry)) i .hiCount ⌝ }
+{
+    wide(cell(unpacked, i, 5))
+}
+
+pub fn least_at(table: &[u8], unpacked: &[u32], i: usize) -> u32
+    ensures { λ r. ⌜ r ≡ recordIn (now (table .entry)) (now (unpacked .entry)) i .least ⌝ }
+{
+    cell(unpacked, i, 6)
+}
+
+pub fn most_at(table: &[u8], unpacked: &[u32], i: usize) -> u32
+    ensures { λ r. ⌜ r ≡ recordIn (now (table .entry)) (now (unpacked .entry)) i .most ⌝ }
+{
+    cell(unpacked, i, 7)
+}
+
+pub fn target_at(table: &[u8], unpacked: &[u32], i: usize) -> usize
+    ensures { λ r. ⌜ r ≡ recordIn (now (table .entry)) (now (unpacked .entry)) i .target ⌝ }
+{
+    wide(cell(unpacked, i, 8))
+}
+
+// Up to n bytes from a place on.
+fn part<'a>(s: &'a [u8], at: usize, n: usize) -> &'a [u8]
+    ensures { λ r. ⌜ now r ≡ take n (drop at (now (s .entry))) ⌝ }
+{
+    if s.len() <= at {
+        return &s[..0];
+    }
+    if s.len() - at < n {
+        return &s[at..];
+    }
+    let end = at + n;
+    &s[at..end]
+}
+
+// The wire tag, or the name where untagged or top.
+pub fn label_at<'a>(table: &'a [u8], unpacked: &[u32], i: usize) -> &'a [u8]
+    ensures { λ r. ⌜ now r ≡ recordIn (now (table .entry)) (now (unpacked .entry)) i .label ⌝ }
+{
+    let n = wide(cell(unpacked, i, 9));
+    part(table, wide(cell(unpacked, i, 0)) + 24, n)
+}
