@@ -7,8 +7,8 @@ use lib.ListN.{length, getD, drop}
 use Rattle.classes.specs.Lists.{runOf}
 
 -- a place in a text, or its end; the text is one that numbers of 64 bits can count
-abbrev pub Within : List ℕ → ℕ → Type 0
-Within s p = (p ≤ length s) × (length s < 2 ^ 32)
+abbrev pub InText : List ℕ → ℕ → Type 0
+InText s p = (p ≤ length s) × (length s < 2 ^ 32)
 
 -- 1 for the byte that ends a line
 abbrev pub breakOf : ℕ → ℕ

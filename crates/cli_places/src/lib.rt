@@ -2,7 +2,7 @@
 ghost use mathlib.Core.Path.{_≡_};
 ghost use Prim.Native.Nat.{_≤_};
 ghost use lib.ListN.{length};
-ghost use Rattle.cli_places.specs.Lines.{Within, breakOf, lineOf, lineStart, lineEnd, columnOf};
+ghost use Rattle.cli_places.specs.Lines.{InText, breakOf, lineOf, lineStart, lineEnd, columnOf};
 
 // 1 for the byte that ends a line.
 fn breaks(b: u8) -> usize
@@ -16,7 +16,7 @@ fn breaks(b: u8) -> usize
 
 // The line of a place, counted from 1.
 pub fn line_of(s: &[u8], place: usize) -> usize
-    requires { ⌜ Within (now s) place ⌝ }
+    requires { ⌜ InText (now s) place ⌝ }
     ensures { λ r. ⌜ r ≡ lineOf (now (s .entry)) place ⌝ }
 {
     let mut n = 1;
@@ -60,7 +60,7 @@ pub fn line_end(s: &[u8], place: usize) -> usize
 
 // The column of a place, in bytes, counted from 1.
 pub fn column_of(s: &[u8], place: usize) -> usize
-    requires { ⌜ Within (now s) place ⌝ }
+    requires { ⌜ InText (now s) place ⌝ }
     ensures { λ r. ⌜ r ≡ columnOf (now (s .entry)) place ⌝ }
 {
     place - line_start(s, place) + 1

@@ -4,26 +4,26 @@ use mathlib.Core.List.{List}
 use Rattle.classes.specs.Lists.{runOf}
 use Rattle.text.specs.Text.{each, decimal, placesFrom}
 use Rattle.cli_places.specs.Lines.{breaksBefore, lineStart, lineEnd}
-use Rattle.cli_wording.specs.Sayings.{bytes, sayingOf, meaning, refusedLine}
+use Rattle.cli_wording.specs.Sayings.{bytes, sayingOf, meaning, meaningLine}
 use Rattle.cli_report.specs.Shown.{shownByte, blankFor, viewStart, viewEnd, markText, viewText, whereText, inText, inTable, neededText, refusalText}
 
 -- 01: D, `17 d=812`: 27 at 8
 at-the-end : refusalText (bytes "tile.msg") (bytes "17 d=812") 27 8
     ≡ bytes "tile.msg:1:9: refused 27: a required field is missing\n17 d=812\n        ^ the end\n"
-unfolding refusalText inText whereText viewText viewStart viewEnd markText shownByte blankFor refusedLine meaning sayingOf bytes breaksBefore lineStart lineEnd runOf each decimal placesFrom
+unfolding refusalText inText whereText viewText viewStart viewEnd markText shownByte blankFor meaningLine meaning sayingOf bytes breaksBefore lineStart lineEnd runOf each decimal placesFrom
 at-the-end = refl
 
 -- 01: `struct s { int<5..3> x; };`: 6 at 15, here on its second line and behind a tab
 on-a-line : refusalText (bytes "s") (bytes "// s\n\tstruct s { int<5..3> x; };\n") 6 21
     ≡ bytes "s:2:17: refused 6: not a proper range, or none may stand here\n\tstruct s { int<5..3> x; };\n\t               ^\n"
-unfolding refusalText inText whereText viewText viewStart viewEnd markText shownByte blankFor refusedLine meaning sayingOf bytes breaksBefore lineStart lineEnd runOf each decimal placesFrom
+unfolding refusalText inText whereText viewText viewStart viewEnd markText shownByte blankFor meaningLine meaning sayingOf bytes breaksBefore lineStart lineEnd runOf each decimal placesFrom
 on-a-line = refl
 
 -- a table, and a count
 in-a-table : refusalText (bytes "t") (bytes "") 20 0 ≡ bytes "t: byte 0: refused 20: no definition compiles to this table\n"
-unfolding refusalText inTable refusedLine meaning sayingOf bytes decimal placesFrom
+unfolding refusalText inTable meaningLine meaning sayingOf bytes decimal placesFrom
 in-a-table = refl
 
 too-long : refusalText (bytes "t") (bytes "") 11 139 ≡ bytes "t: 139 needed: refused 11: the table does not fit the room for it\n"
-unfolding refusalText neededText refusedLine meaning sayingOf bytes decimal placesFrom
+unfolding refusalText neededText meaningLine meaning sayingOf bytes decimal placesFrom
 too-long = refl

@@ -7,7 +7,7 @@ use lib.ListN.{length}
 use Rattle.classes.specs.Bytes.{between}
 use Rattle.text.specs.Text.{partOf, each, decimal}
 use Rattle.cli_places.specs.Lines.{lineOf, lineStart, lineEnd, columnOf}
-use Rattle.cli_wording.specs.Sayings.{bytes, refusedLine}
+use Rattle.cli_wording.specs.Sayings.{bytes, meaningLine}
 
 -- a byte as it is shown: a tab as it is, a line's end as a space, what is no character as a question mark
 unfoldable pub shownByte : ℕ → ℕ
@@ -48,13 +48,13 @@ whereText file s p = file ++ bytes ":" ++ decimal (lineOf s p) ++ bytes ":" ++ d
 
 -- a refusal at a place of a text, at a byte of a table, and one that says how many bytes or rows are needed
 unfoldable pub inText : List ℕ → List ℕ → ℕ → ℕ → List ℕ
-inText file s number p = whereText file s p ++ refusedLine number ++ viewText s p
+inText file s number p = whereText file s p ++ meaningLine number ++ viewText s p
 
 unfoldable pub inTable : List ℕ → ℕ → ℕ → List ℕ
-inTable file number p = file ++ bytes ": byte " ++ decimal p ++ bytes ": " ++ refusedLine number
+inTable file number p = file ++ bytes ": byte " ++ decimal p ++ bytes ": " ++ meaningLine number
 
 unfoldable pub neededText : List ℕ → ℕ → ℕ → List ℕ
-neededText file number n = file ++ bytes ": " ++ decimal n ++ bytes " needed: " ++ refusedLine number
+neededText file number n = file ++ bytes ": " ++ decimal n ++ bytes " needed: " ++ meaningLine number
 
 -- the lines of a refusal; a place past the text's end counts as the end
 unfoldable pub refusalText : List ℕ → List ℕ → ℕ → ℕ → List ℕ

@@ -3,7 +3,7 @@ ghost use mathlib.Core.Path.{_≡_};
 ghost use Prim.Native.Nat.{_-_, _<_, _^_, max};
 ghost use lib.ListN.{length};
 ghost use Rattle.text.specs.Text.{Wrote};
-ghost use Rattle.cli_places.specs.Lines.{Within};
+ghost use Rattle.cli_places.specs.Lines.{InText};
 ghost use Rattle.cli_report.specs.Shown.{shownByte, blankFor, shownText, blanksFor, markText, viewText, whereText, inText, inTable, neededText, refusalText};
 use cli_places::column_of;
 use cli_places::line_end;
@@ -90,7 +90,7 @@ fn put_mark(out: &mut [u8], at: usize, last: bool) -> usize
 
 // The line of a place, and under it a mark at the place.
 fn put_view(out: &mut [u8], at: usize, s: &[u8], place: usize) -> usize
-    requires { ⌜ Within (now s) place ⌝ }
+    requires { ⌜ InText (now s) place ⌝ }
     ensures { λ r. ⌜ Wrote (viewText (now (s .entry)) place) (now (out .entry)) at (now (out .exit)) r ⌝ }
 {
     let from = view_from(line_start(s, place), place);
@@ -103,7 +103,7 @@ fn put_view(out: &mut [u8], at: usize, s: &[u8], place: usize) -> usize
 
 // "FILE:LINE:COLUMN: ".
 fn put_where(out: &mut [u8], at: usize, file: &[u8], s: &[u8], place: usize) -> usize
-    requires { ⌜ Within (now s) place ⌝ }
+    requires { ⌜ InText (now s) place ⌝ }
     ensures { λ r. ⌜ Wrote (whereText (now (file .entry)) (now (s .entry)) place) (now (out .entry)) at (now (out .exit)) r ⌝ }
 {
     let o = text::put_text(out, at, file);
@@ -116,7 +116,7 @@ fn put_where(out: &mut [u8], at: usize, file: &[u8], s: &[u8], place: usize) -> 
 
 // A refusal at a place of a text: where, what, and the line.
 fn put_in_text(out: &mut [u8], at: usize, file: &[u8], s: &[u8], number: u32, place: usize) -> usize
-    requires { ⌜ Within (now s) place ⌝ }
+    requires { ⌜ InText (now s) place ⌝ }
     ensures { λ r. ⌜ Wrote (inText (now (file .entry)) (now (s .entry)) number place) (now (out .entry)) at (now (out .exit)) r ⌝ }
 {
     let o = put_where(out, at, file, s, place);

@@ -93,11 +93,11 @@ kindName n =
     [])
 
 -- "refused 27: a required field is missing"
-unfoldable pub refusedLine : ℕ → List ℕ
-refusedLine n = bytes "refused " ++ decimal n ++ bytes ": " ++ meaning n ++ bytes "\n"
+unfoldable pub meaningLine : ℕ → List ℕ
+meaningLine n = bytes "refused " ++ decimal n ++ bytes ": " ++ meaning n ++ bytes "\n"
 
 unfoldable pub explanation : ℕ → List ℕ
-explanation n = refusedLine n ++ bytes "The place is " ++ placeMeaning n ++ bytes ".\n"
+explanation n = meaningLine n ++ bytes "The place is " ++ placeMeaning n ++ bytes ".\n"
 
 -- "1 row", "2 rows"
 unfoldable pub counted : ℕ → List ℕ → List ℕ

@@ -5,7 +5,7 @@ ghost use Prim.Native.Nat.{_≤_};
 ghost use lib.ListN.{length, drop};
 ghost use Rattle.text.specs.Text.{Wrote};
 ghost use Rattle.cli_wording.specs.Lines.{firstLine, behindLine, lineAt};
-ghost use Rattle.cli_wording.specs.Sayings.{isRefusal, meaning, placeMeaning, kindName, refusedLine, explanation, counted, acceptedLine, sizeLine};
+ghost use Rattle.cli_wording.specs.Sayings.{isRefusal, meaning, placeMeaning, kindName, meaningLine, explanation, counted, acceptedLine, sizeLine};
 
 // The numbers that a refusal can have.
 pub fn is_refusal(number: u32) -> bool
@@ -151,7 +151,7 @@ pub fn put_kind(out: &mut [u8], at: usize, kind: u32) -> usize
 
 // "refused NUMBER: MEANING", and the line's end.
 pub fn put_refused(out: &mut [u8], at: usize, number: u32) -> usize
-    ensures { λ r. ⌜ Wrote (refusedLine number) (now (out .entry)) at (now (out .exit)) r ⌝ }
+    ensures { λ r. ⌜ Wrote (meaningLine number) (now (out .entry)) at (now (out .exit)) r ⌝ }
 {
     let o = put_text(out, at, b"refused ");
     let o = text::put_decimal(out, o, number as u64);

@@ -9,12 +9,12 @@ ghost use lib.ListN.{length};
 ghost use Rattle.numbers.specs.Limits.{parameterLimit, textLimit};
 ghost use Rattle.reading_rules.specs.Record.{Record, Before, Nested};
 ghost use Rattle.definition_rules.specs.Table.{numberUp, just, decode};
-ghost use Rattle.definition_rules.specs.Compile.{firstFault, answerOf, lentAfter, compileAnswer, tableAfter};
+ghost use Rattle.definition_rules.specs.Compile.{firstFault, answerWithRoom, lentAfter, compileAnswer, tableAfter};
 ghost use Rattle.table_rules.specs.Endless.{EndlessPromise};
 ghost use Rattle.definition_cells.specs.Cells.{cellAt, notedFrom};
 ghost use Rattle.table_records.specs.Stored.{recordsAt};
 ghost use Rattle.table_tags.specs.Lists.{Linked};
-ghost use Rattle.definition.specs.Answers.{answer, found, recordChecks, verdictFrom};
+ghost use Rattle.definition.specs.Answers.{answerOfCompile, stopFinding, checks7to10, verdictFrom};
 
 // Success with the table's length, or a refusal with its number and place.
 pub enum Compiled {
@@ -59,7 +59,7 @@ fn blank_marks() -> [bool; 256]
 // Numbers 7 to 10, over the declarations and the records that were written for them.
 fn record_fault(text: &[u8], cells: &[u32], table: &[u8], unpacked: &[u32], n: usize) -> Stop
     requires { ⌜ (n ≤ parameterLimit) × Linked (now table) (now unpacked) n 0 ⌝ }
-    ensures { λ r. ⌜ (Nested (recordsAt (now (table .entry)) (now (unpacked .entry)) n) → found r ≡ firstFault (recordChecks (recordsAt (now (table .entry)) (now (unpacked .entry)) n) (notedFrom (now (text .entry)) (now (cells .entry)) n 0))) ⌝ }
+    ensures { λ r. ⌜ (Nested (recordsAt (now (table .entry)) (now (unpacked .entry)) n) → stopFinding r ≡ firstFault (checks7to10 (recordsAt (now (table .entry)) (now (unpacked .entry)) n) (notedFrom (now (text .entry)) (now (cells .entry)) n 0))) ⌝ }
 {
     let mut have = blank_marks();
     match definition_faults::least_fault(cells, table, unpacked, &have, n, 7) {
@@ -95,7 +95,7 @@ fn record_fault(text: &[u8], cells: &[u32], table: &[u8], unpacked: &[u32], n: u
 // The same, over the table in which the records were written. A table of these records is walked to its end.
 fn written_fault(text: &[u8], cells: &[u32], table: &[u8], n: usize) -> Stop
     requires { ⌜ n ≤ parameterLimit ⌝ }
-    ensures { λ r. ⌜ ((rs : List Record) → decode (now (table .entry)) ≡ just rs → length rs ≡ n → Nested rs → found r ≡ firstFault (recordChecks rs (notedFrom (now (text .entry)) (now (cells .entry)) n 0))) ⌝ }
+    ensures { λ r. ⌜ ((rs : List Record) → decode (now (table .entry)) ≡ just rs → length rs ≡ n → Nested rs → stopFinding r ≡ firstFault (checks7to10 rs (notedFrom (now (text .entry)) (now (cells .entry)) n 0))) ⌝ }
 {
     let mut unpacked = blank_records();
     match table_walk::unpack(table, &mut unpacked) {
@@ -112,7 +112,7 @@ fn written_fault(text: &[u8], cells: &[u32], table: &[u8], n: usize) -> Stop
 fn compile_declarations(text: &[u8], cells: &[u32], n: usize, table: &mut [u8]) -> Compiled
     requires { ⌜ (n ≤ parameterLimit) × (length (now text) ≤ textLimit) ⌝ }
     requires { ⌜ ((i : ℕ) → i < n → Before i (numberUp (cellAt (now cells) i 15))) ⌝ }
-    ensures { λ r. ⌜ answer r ≡ answerOf (length (now (table .entry))) (verdictFrom (now (text .entry)) (now (cells .entry)) n) ⌝ }
+    ensures { λ r. ⌜ answerOfCompile r ≡ answerWithRoom (length (now (table .entry))) (verdictFrom (now (text .entry)) (now (cells .entry)) n) ⌝ }
     ensures { λ _. ⌜ now (table .exit) ≡ lentAfter (verdictFrom (now (text .entry)) (now (cells .entry)) n) (now (table .entry)) ⌝ }
 {
     match definition_checks::broken_form(text, cells, n) {
@@ -145,9 +145,9 @@ fn compile_declarations(text: &[u8], cells: &[u32], n: usize, table: &mut [u8]) 
 // Compiles a definition into the lent table. The answer and the lent bytes after are those of the definitions; a text free of
 // every fault before number 10 is refused as endless exactly when one of its structs or unions has no lawful value, at its name.
 pub fn compile(text: &[u8], table: &mut [u8]) -> Compiled
-    ensures { λ r. ⌜ answer r ≡ compileAnswer (now (text .entry)) (length (now (table .entry))) ⌝ }
+    ensures { λ r. ⌜ answerOfCompile r ≡ compileAnswer (now (text .entry)) (length (now (table .entry))) ⌝ }
     ensures { λ _. ⌜ now (table .exit) ≡ tableAfter (now (text .entry)) (now (table .entry)) ⌝ }
-    ensures { λ r. ⌜ EndlessPromise (now (text .entry)) (answer r) ⌝ }
+    ensures { λ r. ⌜ EndlessPromise (now (text .entry)) (answerOfCompile r) ⌝ }
 {
     if 65535 < text.len() {
         return Compiled::Refused(1, 65535);

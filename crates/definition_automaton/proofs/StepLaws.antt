@@ -9,10 +9,10 @@ use lib.ListN.{getD}
 use borrow.Author.Tests.{eqb-true, eqb-false, eq-eqb, ne-eqb, le-leb, lt-leb, lt-ltb, le-ltb}
 use Rattle.classes.specs.Lists.{pick, sameBytes}
 use Rattle.definition_rules.specs.Words.{kwAs, kwPlugin, takesRange, isCompound, isReference}
-use Rattle.definition_rules.specs.Scan.{Token, run, mark}
+use Rattle.definition_rules.specs.Scan.{TextToken, run, mark}
 use Rattle.definition_rules.specs.Forms.{MaybeRun, absent, given, Tag, ownName, tagless, explicit, Heading, heading, typeRun}
 use Rattle.definition_rules.specs.Declarations.{Declaration, declaration, Spots, Noted, noted, BodyMode, inFields, groupOpened, inGroup, groupsClosed, Frame, frame, afterName, afterCard, afterTag, afterPlugin, Phase, atStart, dueSemicolon, afterType, dueRange, dueRangeEnd, dueName, inHeading, dueCard, dueTag, dueCardEnd, Action, stop, move, note, allow, withCard, withTag, withPlugin, takesField, takesClose, takesGroupEnd, isInBody, startRun, startMark, headingEnd, headingRun, headingMark, step, fieldDone, parentOf}
-use Rattle.definition_rules.specs.Declarations.{extensionOf as inExtension}
+use Rattle.definition_rules.specs.Declarations.{isUnderExtension}
 use Rattle.definition_automaton.specs.Acts.{endAct, pluginAct, asAct, nameAct, typeAct, closingAct, bodyAct, startAct, runAct, markAct, typedAct, tagAct, actOf, nextModes, nextMode}
 use Rattle.definition_automaton.specs.Noting.{pendingBy, notes}
 use Rattle.definition_automaton.specs.declared.Span.{Span}

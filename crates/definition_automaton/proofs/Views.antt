@@ -8,7 +8,7 @@ use lib.ListN.{getD}
 use Rattle.classes.specs.Lists.{pick}
 use Rattle.definition_rules.specs.Forms.{MaybeRun, absent, given, Tag, ownName, tagless, explicit, Heading, heading}
 use Rattle.definition_rules.specs.Declarations.{Declaration, declaration, Spots, Noted, noted, BodyMode, inFields, groupOpened, inGroup, groupsClosed, Frame, frame, afterName, afterCard, afterTag, afterPlugin, Phase, atStart, dueSemicolon, afterType, dueRange, dueRangeEnd, dueName, inHeading, dueCard, dueTag, dueCardEnd, Action, stop, move, note, fieldDone, parentOf}
-use Rattle.definition_rules.specs.Declarations.{extensionOf as inExtension}
+use Rattle.definition_rules.specs.Declarations.{isUnderExtension}
 use Rattle.definition_cells.specs.Cells.{part}
 use Rattle.definition_automaton.specs.Acts.{nextMode}
 use Rattle.definition_automaton.specs.Noting.{pendingBy, notes}
@@ -85,7 +85,7 @@ framesAfter σ k a =
     (pick (eqb a 18) (inMode groupsClosed σ) σ))))
 
 abbrev pub notedIn : List ℕ → List Frame → Pending → Noted
-notedIn text σ p = noted (spotsIn p) (declaration (parentOf σ) (inExtension σ) (headingIn text p))
+notedIn text σ p = noted (spotsIn p) (declaration (parentOf σ) (isUnderExtension σ) (headingIn text p))
 
 -- what an act is to the definitions
 unfoldable pub actionIn : List ℕ → List Frame → ℕ → Pending → ℕ → ℕ → Span → Action

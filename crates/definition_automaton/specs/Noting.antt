@@ -5,7 +5,7 @@ use Prim.Native.Nat.{ℕ, _*_}
 use lib.Dec.{eqb, ltb}
 use lib.Seq.{sets}
 use Rattle.classes.specs.Lists.{pick}
-use Rattle.definition_automaton.specs.States.{contextOf, parentNumber, extensionOf}
+use Rattle.definition_automaton.specs.States.{contextOf, parentNumber, extensionFlag}
 use Rattle.definition_automaton.specs.declared.State.{State}
 use Rattle.definition_automaton.specs.declared.Span.{Span}
 use Rattle.definition_automaton.specs.declared.Pending.{Pending}
@@ -67,4 +67,4 @@ unfoldable pub notes : ℕ → Bool
 notes a = eqb a 13 || eqb a 14
 
 unfoldable pub noteCells : State → Pending → ℕ → List ℕ → List ℕ
-noteCells s p a cs = pick (notes a && ltb (s .count) 256) (sets cs (16 * s .count) (cellsOf p (extensionOf (contextOf s)) (parentNumber s))) cs
+noteCells s p a cs = pick (notes a && ltb (s .count) 256) (sets cs (16 * s .count) (cellsOf p (extensionFlag (contextOf s)) (parentNumber s))) cs

@@ -28,8 +28,8 @@ contextOf s = pick (eqb (s .depth) 0) 0 (contextNumber (entryOf (s .bodies) (s .
 unfoldable pub parentNumber : State → ℕ
 parentNumber s = pick (eqb (s .depth) 0) 65_535 (entryOf (s .numbers) (s .depth - 1))
 
-unfoldable pub extensionOf : ℕ → ℕ
-extensionOf context = pick (eqb context 2) 1 (pick (eqb context 3) 1 0)
+unfoldable pub extensionFlag : ℕ → ℕ
+extensionFlag context = pick (eqb context 2) 1 (pick (eqb context 3) 1 0)
 
 unfoldable pub withBody : State → ℕ → State
 withBody s m = pick (eqb (s .depth) 0) s (pick (leb 8 (s .depth - 1)) s (state (s .mode) (s .depth) (s .numbers) (set (s .bodies) (s .depth - 1) m) (s .count) (s .over)))
@@ -52,13 +52,13 @@ moreOf count = pick (ltb count 65_536) (count + 1) count
 abbrev pub countedOf : State → ℕ → State
 countedOf s name = state (s .mode) (s .depth) (s .numbers) (s .bodies) (moreOf (s .count)) (overOf (s .count) (s .over) name)
 
-abbrev pub movedOf : State → ℕ → State
-movedOf s a = state (nextMode a) (s .depth) (s .numbers) (s .bodies) (s .count) (s .over)
+abbrev pub modeMoved : State → ℕ → State
+modeMoved s a = state (nextMode a) (s .depth) (s .numbers) (s .bodies) (s .count) (s .over)
 
 unfoldable pub afterOf : State → ℕ → ℕ → State
 afterOf s a name =
-    pick (eqb a 13) (countedOf (fieldDoneOf (movedOf s a)) name)
-    (pick (eqb a 14) (countedOf (pushedOf (fieldDoneOf (movedOf s a))) name)
-    (pick (eqb a 15) (poppedOf (movedOf s a))
-    (pick (eqb a 17) (withBody (movedOf s a) 1)
-    (pick (eqb a 18) (withBody (movedOf s a) 3) (movedOf s a)))))
+    pick (eqb a 13) (countedOf (fieldDoneOf (modeMoved s a)) name)
+    (pick (eqb a 14) (countedOf (pushedOf (fieldDoneOf (modeMoved s a))) name)
+    (pick (eqb a 15) (poppedOf (modeMoved s a))
+    (pick (eqb a 17) (withBody (modeMoved s a) 1)
+    (pick (eqb a 18) (withBody (modeMoved s a) 3) (modeMoved s a)))))

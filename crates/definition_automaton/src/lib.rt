@@ -6,7 +6,7 @@ ghost use Prim.Native.Nat.{_+_, _-_, _*_, _<_};
 ghost use lib.ListN.{set};
 ghost use lib.Seq.{sets};
 ghost use Rattle.definition_automaton.specs.Acts.{endAct, pluginAct, asAct, nameAct, typeAct, closingAct, bodyAct, startAct, runAct, markAct, typedAct, tagAct, actOf, nextMode};
-ghost use Rattle.definition_automaton.specs.States.{started, entryOf, bodyAfter, contextNumber, contextOf, parentNumber, extensionOf, withBody, fieldDoneOf, pushedOf, poppedOf, overOf, moreOf, countedOf, movedOf, afterOf};
+ghost use Rattle.definition_automaton.specs.States.{started, entryOf, bodyAfter, contextNumber, contextOf, parentNumber, extensionFlag, withBody, fieldDoneOf, pushedOf, poppedOf, overOf, moreOf, countedOf, modeMoved, afterOf};
 ghost use Rattle.definition_automaton.specs.Noting.{none, typedOf, rangedOf, rangelessOf, namedOf, cardedOf, taggedOf, untaggedOf, pluggedOf, pendingBy, runCells, restCells, cellsOf, notes, noteCells};
 
 // Where the automaton stands: the mode, the open bodies (their parameters' numbers and how far each body is),
@@ -411,7 +411,7 @@ impl State {
     }
 
     fn moved(mut self, a: u32) -> State
-        ensures { λ r. ⌜ r ≡ movedOf self a ⌝ }
+        ensures { λ r. ⌜ r ≡ modeMoved self a ⌝ }
     {
         self.mode = next_mode(a);
         self
@@ -598,7 +598,7 @@ fn put_cells(cells: &mut [u32], i: usize, p: Pending, extension: u32, parent: u3
 }
 
 fn is_extension(context: u32) -> u32
-    ensures { λ r. ⌜ r ≡ extensionOf context ⌝ }
+    ensures { λ r. ⌜ r ≡ extensionFlag context ⌝ }
 {
     if context == 2 {
         return 1;

@@ -17,14 +17,14 @@ use Rattle.definition_rules.specs.Forms.{MaybeRun, absent, given}
 use Rattle.definition_rules.specs.Declarations.{Declaration, declaration, Spots, Noted, noted, declarationsOf}
 use Rattle.definition_rules.specs.Records.{topNames, recordFor, recordsFor, recordsOf}
 use Rattle.definition_rules.specs.Table.{numberUp}
-use Rattle.definition_rules.specs.Faults.{spotsWhere, recordSpots, nameBroken, referenceBroken, tagBroken, tagBrokenIn, rangeBroken, countBroken, countFine, withinKind, kindOf, kindsOf, isUnionAt, isAlternative, isGiven, countOnAlternative, voidMany, sameKey, isNew, nameKey, repeatedNames, dangling, faults5, faults6}
+use Rattle.definition_rules.specs.Faults.{spotsWhere, recordSpots, nameBroken, referenceBroken, tagBroken, tagBrokenIn, rangeBroken, countBroken, countFine, withinKind, kindOfDeclaration, kindsOf, isUnionAt, isAlternative, isGiven, countOnAlternative, voidMany, sameKey, isNewKey, nameKey, repeatedNames, dangling, faults5, faults6}
 use Rattle.definition_cells.specs.declared.Place.{Place}
 use Rattle.definition_cells.specs.declared.Place.the-variants.{Nowhere}
 use Rattle.definition_cells.specs.Cells.{cellAt, runAt, tagAt, maybeRunAt, notedAt, notedFrom}
 use Rattle.definition_cells.specs.Places.{leastPlace, lesser, atIf, leastFrom, spotOf}
 use Rattle.definition_cells.proofs.PlaceLaws.{lesser-same, least-if, least-append, from-both, from-same, spots-from}
-use Rattle.definition_headings.specs.Heads.{kindAt, limitsAt, countsAt, namesFrom, topAt}
-use Rattle.definition_checks.specs.Checks.{formFault, onAlternative, cardBroken, rangeFault, keyAt, keysBelow, sameKeyAt, repeatFault, danglingFault, faultAt}
+use Rattle.definition_headings.specs.Heads.{declaredKind, limitsAt, countsAt, namesFrom, topAt}
+use Rattle.definition_checks.specs.Checks.{formFault, onAlternative, cardBroken, rangeFault, keyAt, keysBelow, sameKeyAt, repeatFault, danglingFault, declarationFault}
 
 -- ---- 5
 
@@ -106,21 +106,21 @@ module _ (t cs : List ℕ) (i j a b : ℕ) (ea : a ≡ cellAt cs i 15) (eb : b �
   key-not h = rw (ne-eqb (cellAt cs i 15) (cellAt cs j 15) (λ q. h (ea ∙ (q ∙ sym eb))))
 
 module _ (t cs : List ℕ) (i j : ℕ) where
-  below : 0 < j → isNew (keyAt t cs i) (keysBelow t cs j) ≡ (not (sameKeyAt t cs i (j - 1)) && isNew (keyAt t cs i) (keysBelow t cs (j - 1)))
-  unfolding keysBelow isNew
-  below h = let p : j ≡ suc (j - 1) = omega arith in ap (λ x. isNew (keyAt t cs i) (keysBelow t cs x)) p ∙ rw (key-same t cs i (j - 1))
+  below : 0 < j → isNewKey (keyAt t cs i) (keysBelow t cs j) ≡ (not (sameKeyAt t cs i (j - 1)) && isNewKey (keyAt t cs i) (keysBelow t cs (j - 1)))
+  unfolding keysBelow isNewKey
+  below h = let p : j ≡ suc (j - 1) = omega arith in ap (λ x. isNewKey (keyAt t cs i) (keysBelow t cs x)) p ∙ rw (key-same t cs i (j - 1))
 
-  pub below-same : 0 < j → sameKeyAt t cs i (j - 1) ≡ true → not (isNew (keyAt t cs i) (keysBelow t cs j)) ≡ true
+  pub below-same : 0 < j → sameKeyAt t cs i (j - 1) ≡ true → not (isNewKey (keyAt t cs i) (keysBelow t cs j)) ≡ true
   below-same h e = ap not (below h) ∙ rw e
 
-  pub below-other : 0 < j → sameKeyAt t cs i (j - 1) ≡ false → not (isNew (keyAt t cs i) (keysBelow t cs j)) ≡ not (isNew (keyAt t cs i) (keysBelow t cs (j - 1)))
+  pub below-other : 0 < j → sameKeyAt t cs i (j - 1) ≡ false → not (isNewKey (keyAt t cs i) (keysBelow t cs j)) ≡ not (isNewKey (keyAt t cs i) (keysBelow t cs (j - 1)))
   below-other h e = ap not (below h) ∙ rw e
 
-  pub below-end : j ≤ 0 → not (isNew (keyAt t cs i) (keysBelow t cs j)) ≡ false
-  unfolding keysBelow isNew
+  pub below-end : j ≤ 0 → not (isNewKey (keyAt t cs i) (keysBelow t cs j)) ≡ false
+  unfolding keysBelow isNewKey
   below-end h = let p : j ≡ 0 = omega arith in rw p
 
-pub repeat-is : (t cs : List ℕ) (i p : ℕ) (b : Bool) (r : Place) → b ≡ not (isNew (keyAt t cs i) (keysBelow t cs i)) → p ≡ cellAt cs i 4 → r ≡ atIf b p → r ≡ repeatFault t cs i
+pub repeat-is : (t cs : List ℕ) (i p : ℕ) (b : Bool) (r : Place) → b ≡ not (isNewKey (keyAt t cs i) (keysBelow t cs i)) → p ≡ cellAt cs i 4 → r ≡ atIf b p → r ≡ repeatFault t cs i
 unfolding repeatFault
 repeat-is t cs i p b r eb ep er = er ∙ rw (eb, ep)
 
@@ -130,7 +130,7 @@ repeat-from t cs zero i = refl
 repeat-from t cs (suc n) i = one ∙ ap (lesser (repeatFault t cs i)) (repeat-from t cs n (suc i))
   where
     one : leastPlace (repeatedNames (keysBelow t cs i) (notedAt t cs i ∷ notedFrom t cs n (suc i))) ≡ lesser (repeatFault t cs i) (leastPlace (repeatedNames (keysBelow t cs (suc i)) (notedFrom t cs n (suc i))))
-    one = unfold notedAt nameKey repeatFault keysBelow in least-if (not (isNew (keyAt t cs i) (keysBelow t cs i))) (cellAt cs i 4) (repeatedNames (keysBelow t cs (suc i)) (notedFrom t cs n (suc i)))
+    one = unfold notedAt nameKey repeatFault keysBelow in least-if (not (isNewKey (keyAt t cs i) (keysBelow t cs i))) (cellAt cs i 4) (repeatedNames (keysBelow t cs (suc i)) (notedFrom t cs n (suc i)))
 
 pub repeat-all : (t cs : List ℕ) (n : ℕ) → leastPlace (repeatedNames [] (notedFrom t cs n 0)) ≡ leastFrom (repeatFault t cs) n 0
 unfolding keysBelow
@@ -153,7 +153,7 @@ dangling-all t cs n = spots-from (dangling (namesFrom t cs n 0)) (λ s. s .typeA
 
 -- ---- 6
 
-pub limits-is : (t cs : List ℕ) (i k p : ℕ) (b : Bool) (x : MaybeRange) (r : Place) → k ≡ kindAt t cs i → x ≡ limitsAt t cs i → b ≡ withinKind k x → p ≡ cellAt cs i 2 → r ≡ atIf (not b) p
+pub limits-is : (t cs : List ℕ) (i k p : ℕ) (b : Bool) (x : MaybeRange) (r : Place) → k ≡ declaredKind t cs i → x ≡ limitsAt t cs i → b ≡ withinKind k x → p ≡ cellAt cs i 2 → r ≡ atIf (not b) p
     → r ≡ spotOf rangeBroken (λ s. s .rangeAt) (notedAt t cs i)
 unfolding spotOf rangeBroken notedAt
 limits-is t cs i k p b x r ek ex eb ep er = er ∙ rw (ep, eb, ex, ek)
@@ -169,14 +169,14 @@ module _ (t cs : List ℕ) (n i p : ℕ) (ep : p ≡ cellAt cs i 15) where
       none true = refl
       none false = refl
 
-  module _ (k : ℕ) (h : p ≡ 65535 → ⊥) (l : p < n) (ek : k ≡ kindAt t cs p) where
+  module _ (k : ℕ) (h : p ≡ 65535 → ⊥) (l : p < n) (ek : k ≡ declaredKind t cs p) where
     pub alternative-not : (k ≡ 9 → ⊥) → false ≡ onAlternative t cs n i
-    alternative-not g = rw (← ep, ne-eqb p none16 h, lt-ltb p n l, ne-eqb (kindAt t cs p) 9 (λ q. g (ek ∙ q)))
+    alternative-not g = rw (← ep, ne-eqb p none16 h, lt-ltb p n l, ne-eqb (declaredKind t cs p) 9 (λ q. g (ek ∙ q)))
 
     pub alternative-is : (c : ℕ) → (k ≡ 9) → c ≡ cellAt cs i 11 → eqb c 1 ≡ onAlternative t cs n i
-    alternative-is c g ec = rw (← ep, ne-eqb p none16 h, lt-ltb p n l, eq-eqb (kindAt t cs p) 9 (sym ek ∙ g), ec)
+    alternative-is c g ec = rw (← ep, ne-eqb p none16 h, lt-ltb p n l, eq-eqb (declaredKind t cs p) 9 (sym ek ∙ g), ec)
 
-pub card-is : (t cs : List ℕ) (n i k u : ℕ) (x : MaybeRange) (a b : Bool) → x ≡ countsAt t cs i → a ≡ countFine x → k ≡ kindAt t cs i → u ≡ highOf x → b ≡ onAlternative t cs n i
+pub card-is : (t cs : List ℕ) (n i k u : ℕ) (x : MaybeRange) (a b : Bool) → x ≡ countsAt t cs i → a ≡ countFine x → k ≡ declaredKind t cs i → u ≡ highOf x → b ≡ onAlternative t cs n i
     → (not a || ((eqb k 1 && ltb 1 u) || b)) ≡ cardBroken t cs n i
 card-is t cs n i k u x a b ex ea ek eu eb = rw (ea, eb, ek, eu, ex)
 
@@ -193,8 +193,8 @@ suc-ltb p n = by (ltb p n) refl
     by false e = let h : n ≤ p = ltb-false p n e in le-ltb (suc p) (suc n) (omega arith)
 
 -- unions by number
-union-at : (t cs : List ℕ) (n i p : ℕ) → isUnionAt (kindsOf (declarationsOf (notedFrom t cs n i))) p ≡ (ltb p n && eqb (kindAt t cs (i + p)) 9)
-unfolding notedFrom declarationsOf kindsOf isUnionAt notedAt kindOf
+union-at : (t cs : List ℕ) (n i p : ℕ) → isUnionAt (kindsOf (declarationsOf (notedFrom t cs n i))) p ≡ (ltb p n && eqb (declaredKind t cs (i + p)) 9)
+unfolding notedFrom declarationsOf kindsOf isUnionAt notedAt kindOfDeclaration
 union-at t cs zero i p = rw (le-ltb p 0 (omega arith))
 union-at t cs (suc n) i zero = rw (lt-ltb 0 (suc n) (omega arith), add-zero i)
 union-at t cs (suc n) i (suc p) = let q : i + suc p ≡ suc i + p = omega arith in union-at t cs n (suc i) p ∙ rw (q, suc-ltb p n)
@@ -240,7 +240,7 @@ card-one t cs n i =
     a = not (countFine (countsAt t cs i))
 
     b : Bool
-    b = eqb (kindAt t cs i) 1 && ltb 1 (highOf (countsAt t cs i))
+    b = eqb (declaredKind t cs i) 1 && ltb 1 (highOf (countsAt t cs i))
 
     c : Bool
     c = isAlternative (isUnionAt (kindsOf (declarationsOf (notedFrom t cs n 0)))) (numberUp (cellAt cs i 15)) && isGiven (maybeRunAt t cs i 11 6)
@@ -287,35 +287,35 @@ range-all t cs n =
 -- ---- by number
 
 module _ (t cs : List ℕ) (n k i : ℕ) (r : Place) where
-  pub fault-five : k ≡ 5 → r ≡ formFault t cs i → r ≡ faultAt t cs n k i
-  unfolding faultAt pick
+  pub fault-five : k ≡ 5 → r ≡ formFault t cs i → r ≡ declarationFault t cs n k i
+  unfolding declarationFault pick
   fault-five h e = rw (eq-eqb k 5 h) e
 
-  pub fault-six : (k ≡ 5 → ⊥) → k ≡ 6 → r ≡ rangeFault t cs n i → r ≡ faultAt t cs n k i
-  unfolding faultAt pick
+  pub fault-six : (k ≡ 5 → ⊥) → k ≡ 6 → r ≡ rangeFault t cs n i → r ≡ declarationFault t cs n k i
+  unfolding declarationFault pick
   fault-six g h e = rw (ne-eqb k 5 g, eq-eqb k 6 h) e
 
-  pub fault-eight : (k ≡ 5 → ⊥) → (k ≡ 6 → ⊥) → k ≡ 8 → r ≡ repeatFault t cs i → r ≡ faultAt t cs n k i
-  unfolding faultAt pick
+  pub fault-eight : (k ≡ 5 → ⊥) → (k ≡ 6 → ⊥) → k ≡ 8 → r ≡ repeatFault t cs i → r ≡ declarationFault t cs n k i
+  unfolding declarationFault pick
   fault-eight g f h e = rw (ne-eqb k 5 g, ne-eqb k 6 f, eq-eqb k 8 h) e
 
-  pub fault-nine : (k ≡ 5 → ⊥) → (k ≡ 6 → ⊥) → (k ≡ 8 → ⊥) → r ≡ danglingFault t cs n i → r ≡ faultAt t cs n k i
-  unfolding faultAt pick
+  pub fault-nine : (k ≡ 5 → ⊥) → (k ≡ 6 → ⊥) → (k ≡ 8 → ⊥) → r ≡ danglingFault t cs n i → r ≡ declarationFault t cs n k i
+  unfolding declarationFault pick
   fault-nine g f h e = rw (ne-eqb k 5 g, ne-eqb k 6 f, ne-eqb k 8 h) e
 
 module _ (t cs : List ℕ) (n : ℕ) (r : Place) where
-  pub all-five : r ≡ leastFrom (faultAt t cs n 5) n 0 → r ≡ leastPlace (faults5 (notedFrom t cs n 0))
-  unfolding faultAt pick
+  pub all-five : r ≡ leastFrom (declarationFault t cs n 5) n 0 → r ≡ leastPlace (faults5 (notedFrom t cs n 0))
+  unfolding declarationFault pick
   all-five e = e ∙ sym (form-all t cs n)
 
-  pub all-six : r ≡ leastFrom (faultAt t cs n 6) n 0 → r ≡ leastPlace (faults6 (recordsOf (declarationsOf (notedFrom t cs n 0))) (notedFrom t cs n 0))
-  unfolding faultAt pick
+  pub all-six : r ≡ leastFrom (declarationFault t cs n 6) n 0 → r ≡ leastPlace (faults6 (recordsOf (declarationsOf (notedFrom t cs n 0))) (notedFrom t cs n 0))
+  unfolding declarationFault pick
   all-six e = e ∙ sym (range-all t cs n)
 
-  pub all-eight : r ≡ leastFrom (faultAt t cs n 8) n 0 → r ≡ leastPlace (repeatedNames [] (notedFrom t cs n 0))
-  unfolding faultAt pick
+  pub all-eight : r ≡ leastFrom (declarationFault t cs n 8) n 0 → r ≡ leastPlace (repeatedNames [] (notedFrom t cs n 0))
+  unfolding declarationFault pick
   all-eight e = e ∙ sym (repeat-all t cs n)
 
-  pub all-nine : r ≡ leastFrom (faultAt t cs n 9) n 0 → r ≡ leastPlace (spotsWhere (dangling (topNames (declarationsOf (notedFrom t cs n 0)))) (λ s. s .typeAt) (notedFrom t cs n 0))
-  unfolding faultAt pick
+  pub all-nine : r ≡ leastFrom (declarationFault t cs n 9) n 0 → r ≡ leastPlace (spotsWhere (dangling (topNames (declarationsOf (notedFrom t cs n 0)))) (λ s. s .typeAt) (notedFrom t cs n 0))
+  unfolding declarationFault pick
   all-nine e = e ∙ sym (dangling-all t cs n)

@@ -7,11 +7,11 @@ use Rattle.classes.specs.Lists.{pick, sameBytes}
 use Rattle.numbers.specs.Limits.{none16}
 use Rattle.numbers.specs.Range.{highOf}
 use Rattle.definition_rules.specs.Table.{numberUp}
-use Rattle.definition_rules.specs.Faults.{nameBroken, referenceBroken, tagBroken, rangeBroken, countFine, dangling, Key, key, isNew}
+use Rattle.definition_rules.specs.Faults.{nameBroken, referenceBroken, tagBroken, rangeBroken, countFine, dangling, Key, key, isNewKey}
 use Rattle.definition_cells.specs.declared.Place.{Place}
 use Rattle.definition_cells.specs.Cells.{cellAt, runAt, notedAt}
 use Rattle.definition_cells.specs.Places.{lesser, atIf, spotOf}
-use Rattle.definition_headings.specs.Heads.{kindAt, countsAt, namesFrom}
+use Rattle.definition_headings.specs.Heads.{declaredKind, countsAt, namesFrom}
 
 -- 5: name, reference, tag
 unfoldable pub formFault : List ℕ → List ℕ → ℕ → Place
@@ -22,12 +22,12 @@ formFault text cs i =
 -- 6: a cardinality at a union's field
 abbrev pub onAlternative : List ℕ → List ℕ → ℕ → ℕ → Bool
 onAlternative text cs n i =
-    not (eqb (cellAt cs i 15) none16) && (ltb (cellAt cs i 15) n && eqb (kindAt text cs (cellAt cs i 15)) 9) && eqb (cellAt cs i 11) 1
+    not (eqb (cellAt cs i 15) none16) && (ltb (cellAt cs i 15) n && eqb (declaredKind text cs (cellAt cs i 15)) 9) && eqb (cellAt cs i 11) 1
 
 -- 6: the cardinality's own faults
 abbrev pub cardBroken : List ℕ → List ℕ → ℕ → ℕ → Bool
 cardBroken text cs n i =
-    not (countFine (countsAt text cs i)) || ((eqb (kindAt text cs i) 1 && ltb 1 (highOf (countsAt text cs i))) || onAlternative text cs n i)
+    not (countFine (countsAt text cs i)) || ((eqb (declaredKind text cs i) 1 && ltb 1 (highOf (countsAt text cs i))) || onAlternative text cs n i)
 
 unfoldable pub rangeFault : List ℕ → List ℕ → ℕ → ℕ → Place
 rangeFault text cs n i = lesser (spotOf rangeBroken (λ s. s .rangeAt) (notedAt text cs i)) (atIf (cardBroken text cs n i) (cellAt cs i 6))
@@ -45,13 +45,13 @@ abbrev pub sameKeyAt : List ℕ → List ℕ → ℕ → ℕ → Bool
 sameKeyAt text cs i j = eqb (cellAt cs i 15) (cellAt cs j 15) && sameBytes (runAt text cs i 4) (runAt text cs j 4)
 
 unfoldable pub repeatFault : List ℕ → List ℕ → ℕ → Place
-repeatFault text cs i = atIf (not (isNew (keyAt text cs i) (keysBelow text cs i))) (cellAt cs i 4)
+repeatFault text cs i = atIf (not (isNewKey (keyAt text cs i) (keysBelow text cs i))) (cellAt cs i 4)
 
 -- 9: references
 unfoldable pub danglingFault : List ℕ → List ℕ → ℕ → ℕ → Place
 danglingFault text cs n i = spotOf (dangling (namesFrom text cs n 0)) (λ s. s .typeAt) (notedAt text cs i)
 
 -- by the refusal's number
-unfoldable pub faultAt : List ℕ → List ℕ → ℕ → ℕ → ℕ → Place
-faultAt text cs n rule i =
+unfoldable pub declarationFault : List ℕ → List ℕ → ℕ → ℕ → ℕ → Place
+declarationFault text cs n rule i =
     pick (eqb rule 5) (formFault text cs i) (pick (eqb rule 6) (rangeFault text cs n i) (pick (eqb rule 8) (repeatFault text cs i) (danglingFault text cs n i)))

@@ -6,10 +6,10 @@ ghost use lib.Dec.{leb};
 ghost use Rattle.numbers.specs.Answers.{rangeOf};
 ghost use Rattle.definition_rules.specs.Declarations.{declarationsOf};
 ghost use Rattle.definition_rules.specs.Records.{topNames, recordsOf};
-ghost use Rattle.definition_rules.specs.Faults.{nameBroken, referenceBroken, tagBroken, withinKind, countFine, isNew, rangeBroken, spotsWhere, repeatedNames, dangling as danglingOf, faults5, faults6};
+ghost use Rattle.definition_rules.specs.Faults.{nameBroken, referenceBroken, tagBroken, withinKind, countFine, isNewKey, rangeBroken, spotsWhere, repeatedNames, dangling as danglingOf, faults5, faults6};
 ghost use Rattle.definition_cells.specs.Cells.{notedAt, notedFrom};
 ghost use Rattle.definition_cells.specs.Places.{spotOf, leastPlace, leastFrom};
-ghost use Rattle.definition_checks.specs.Checks.{formFault, onAlternative, cardBroken, rangeFault, keyAt, keysBelow, sameKeyAt, repeatFault, danglingFault, faultAt};
+ghost use Rattle.definition_checks.specs.Checks.{formFault, onAlternative, cardBroken, rangeFault, keyAt, keysBelow, sameKeyAt, repeatFault, danglingFault, declarationFault};
 use definition_cells::Place;
 
 // ---- 5: forms
@@ -153,7 +153,7 @@ fn same_key(text: &[u8], cells: &[u32], i: usize, j: usize) -> bool
 
 // The name stands at an earlier declaration of the same body.
 fn is_repeated(text: &[u8], cells: &[u32], i: usize) -> bool
-    ensures { λ r. ⌜ r ≡ not (isNew (keyAt (now (text .entry)) (now (cells .entry)) i) (keysBelow (now (text .entry)) (now (cells .entry)) i)) ⌝ }
+    ensures { λ r. ⌜ r ≡ not (isNewKey (keyAt (now (text .entry)) (now (cells .entry)) i) (keysBelow (now (text .entry)) (now (cells .entry)) i)) ⌝ }
 {
     let mut j: usize = i;
     while 0 < j {
@@ -189,7 +189,7 @@ fn dangling_fault(text: &[u8], cells: &[u32], n: usize, i: usize) -> Place
 
 // The fault of declaration i with the refusal's number: 5, 6, 8, else 9.
 fn fault_at(text: &[u8], cells: &[u32], n: usize, rule: u32, i: usize) -> Place
-    ensures { λ r. ⌜ r ≡ faultAt (now (text .entry)) (now (cells .entry)) n rule i ⌝ }
+    ensures { λ r. ⌜ r ≡ declarationFault (now (text .entry)) (now (cells .entry)) n rule i ⌝ }
 {
     if rule == 5 {
         return form_fault(text, cells, i);
@@ -204,7 +204,7 @@ fn fault_at(text: &[u8], cells: &[u32], n: usize, rule: u32, i: usize) -> Place
 }
 
 fn least_fault(text: &[u8], cells: &[u32], n: usize, rule: u32) -> Place
-    ensures { λ r. ⌜ r ≡ leastFrom (faultAt (now (text .entry)) (now (cells .entry)) n rule) n 0 ⌝ }
+    ensures { λ r. ⌜ r ≡ leastFrom (declarationFault (now (text .entry)) (now (cells .entry)) n rule) n 0 ⌝ }
 {
     let mut best = Place::Nowhere;
     let mut i: usize = 0;

@@ -19,25 +19,25 @@ use Rattle.definition_cells.specs.Cells.{cellAt, notedAt, notedFrom}
 use Rattle.definition_cells.specs.Places.{atIf, lesser, leastPlace, leastFrom}
 use Rattle.definition_cells.proofs.PlaceLaws.{least-if}
 use Rattle.table_records.specs.Stored.{recordIn, recordsFrom, recordsAt}
-use Rattle.definition_faults.specs.RecordFaults.{faultAt}
+use Rattle.definition_faults.specs.RecordFaults.{recordFault}
 
 -- ---- one parameter
 
 module _ (cs t unpacked : List ℕ) (have : List Bool) (n rule i : ℕ) (r : Place) (hit : Bool) (at : ℕ) (is : r ≡ atIf hit at) where
-  pub fault-seven : rule ≡ 7 → hit ≡ rule7Broken (recordsAt t unpacked n) i (recordIn t unpacked i) → at ≡ cellAt cs i 4 → r ≡ faultAt cs t unpacked have n rule i
-  unfolding faultAt pick
+  pub fault-seven : rule ≡ 7 → hit ≡ rule7Broken (recordsAt t unpacked n) i (recordIn t unpacked i) → at ≡ cellAt cs i 4 → r ≡ recordFault cs t unpacked have n rule i
+  unfolding recordFault pick
   fault-seven e h p = is ∙ rw (e, h, p)
 
-  pub fault-eight : (rule ≡ 7 → ⊥) → rule ≡ 8 → hit ≡ tagRepeated (recordsAt t unpacked n) i (recordIn t unpacked i) → at ≡ cellAt cs i 8 → r ≡ faultAt cs t unpacked have n rule i
-  unfolding faultAt pick
+  pub fault-eight : (rule ≡ 7 → ⊥) → rule ≡ 8 → hit ≡ tagRepeated (recordsAt t unpacked n) i (recordIn t unpacked i) → at ≡ cellAt cs i 8 → r ≡ recordFault cs t unpacked have n rule i
+  unfolding recordFault pick
   fault-eight a e h p = is ∙ rw (e, h, p)
 
-  pub fault-nine : (rule ≡ 7 → ⊥) → (rule ≡ 8 → ⊥) → rule ≡ 9 → hit ≡ rootNoStruct i (recordIn t unpacked i) → at ≡ cellAt cs i 4 → r ≡ faultAt cs t unpacked have n rule i
-  unfolding faultAt pick
+  pub fault-nine : (rule ≡ 7 → ⊥) → (rule ≡ 8 → ⊥) → rule ≡ 9 → hit ≡ rootNoStruct i (recordIn t unpacked i) → at ≡ cellAt cs i 4 → r ≡ recordFault cs t unpacked have n rule i
+  unfolding recordFault pick
   fault-nine a b e h p = is ∙ rw (e, h, p)
 
-  pub fault-ten : (rule ≡ 7 → ⊥) → (rule ≡ 8 → ⊥) → (rule ≡ 9 → ⊥) → hit ≡ isEndless have i (recordIn t unpacked i) → at ≡ cellAt cs i 4 → r ≡ faultAt cs t unpacked have n rule i
-  unfolding faultAt pick
+  pub fault-ten : (rule ≡ 7 → ⊥) → (rule ≡ 8 → ⊥) → (rule ≡ 9 → ⊥) → hit ≡ isEndless have i (recordIn t unpacked i) → at ≡ cellAt cs i 4 → r ≡ recordFault cs t unpacked have n rule i
+  unfolding recordFault pick
   fault-ten a b c h p = is ∙ rw (ne-eqb rule 7 a, ne-eqb rule 8 b, ne-eqb rule 9 c, h, p)
 
 -- ---- all parameters: the spots of the records' faults, at the places that the declarations keep

@@ -4,7 +4,7 @@ ghost use mathlib.Core.Path.{_≡_};
 ghost use Prim.Native.Nat.{_<_};
 ghost use Rattle.definition_cells.specs.Places.{leastFrom};
 ghost use Rattle.table_tags.specs.Lists.{Linked};
-ghost use Rattle.definition_faults.specs.RecordFaults.{faultAt};
+ghost use Rattle.definition_faults.specs.RecordFaults.{recordFault};
 
 // The fault of parameter i under the refusal's number: 7, 8, 9, else 10, of which have says who has a finite value.
 fn fault_at(
@@ -17,7 +17,7 @@ fn fault_at(
     i: usize,
 ) -> Place
     requires { ⌜ (i < n) × Linked (now table) (now unpacked) n 0 ⌝ }
-    ensures { λ r. ⌜ r ≡ faultAt (now (cells .entry)) (now (table .entry)) (now (unpacked .entry)) (now (have .entry)) n rule i ⌝ }
+    ensures { λ r. ⌜ r ≡ recordFault (now (cells .entry)) (now (table .entry)) (now (unpacked .entry)) (now (have .entry)) n rule i ⌝ }
 {
     if rule == 7 {
         let broken = table_checks::rule7_broken(table, unpacked, n, i);
@@ -46,7 +46,7 @@ pub fn least_fault(
     rule: u32,
 ) -> Place
     requires { ⌜ Linked (now table) (now unpacked) n 0 ⌝ }
-    ensures { λ r. ⌜ r ≡ leastFrom (faultAt (now (cells .entry)) (now (table .entry)) (now (unpacked .entry)) (now (have .entry)) n rule) n 0 ⌝ }
+    ensures { λ r. ⌜ r ≡ leastFrom (recordFault (now (cells .entry)) (now (table .entry)) (now (unpacked .entry)) (now (have .entry)) n rule) n 0 ⌝ }
 {
     let mut best = Place::Nowhere;
     let mut i: usize = 0;

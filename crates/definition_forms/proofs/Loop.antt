@@ -12,18 +12,18 @@ use borrow.Author.Tests.{eqb-true, eqb-false, eq-eqb, ne-eqb, lt-ltb, le-ltb, le
 use Rattle.numbers.specs.Limits.{parameterLimit, depthLimit}
 use Rattle.classes.specs.Lists.{pick}
 use Rattle.classes.specs.Bytes.{isMark}
-use Rattle.definition_rules.specs.Scan.{Token, run, mark, Item, item, bad, itemsOf, badPlaces, deepPlaces, placeIf, tooDeep, openAfter}
+use Rattle.definition_rules.specs.Scan.{TextToken, run, mark, Item, item, bad, itemsOf, badPlaces, deepPlaces, placeIf, isDeepBrace, bracesAfter}
 use Rattle.definition_rules.specs.Declarations.{Declaration, declaration, Noted, noted, Frame, frame, Phase, atStart, dueSemicolon, Action, stop, move, note, step, Outcome, stuckAt, complete, mapOutcome, endIf, atEnd, parentOf}
-use Rattle.definition_rules.specs.Declarations.{extensionOf as inExtension}
+use Rattle.definition_rules.specs.Declarations.{isUnderExtension}
 use Rattle.definition_rules.specs.Table.{numberUp}
 use Rattle.definition_rules.specs.Faults.{nameSpots, faults4}
-use Rattle.definition_rules.specs.Compile.{leastOf, placeAt, placesAt, faults2, outcomeOf}
+use Rattle.definition_rules.specs.Compile.{leastOf, tokenPlace, tokenPlaces, faults2, outcomeOf}
 use Rattle.definition_cells.specs.Cells.{part, notedFrom}
 use Rattle.definition_scanner.specs.Live.{liveFrom}
 use Rattle.definition_scanner.specs.First.{faultsFrom}
 use Rattle.definition_scanner.proofs.FaultLaws.{all-faults, least-same}
 use Rattle.definition_automaton.specs.Acts.{runKind, actOf, nextMode}
-use Rattle.definition_automaton.specs.States.{state, started, contextOf, parentNumber, extensionOf, overOf, moreOf, afterOf}
+use Rattle.definition_automaton.specs.States.{state, started, contextOf, parentNumber, extensionFlag, overOf, moreOf, afterOf}
 use Rattle.definition_automaton.specs.Noting.{span, none, pendingBy, cellsOf, notes, noteCells}
 use Rattle.definition_automaton.specs.declared.State.{State}
 use Rattle.definition_automaton.specs.declared.Span.{Span}
@@ -70,7 +70,7 @@ module _ (text : List ℕ) (σ : List Frame) (k : ℕ) (p : Pending) (a n : ℕ)
   unfolding actionIn pick
   action-note z q = rw (ne-eqb a 0 z, q)
 
-module _ (end : ℕ) (σ : List Frame) (k : ℕ) (ph : Phase) (s : ℕ) (tok : Token) (r : List Item) where
+module _ (end : ℕ) (σ : List Frame) (k : ℕ) (ph : Phase) (s : ℕ) (tok : TextToken) (r : List Item) where
   stops : step σ k s ph tok ≡ stop → parsePlaced end σ k ph (item s tok ∷ r) ≡ stuckAt s
   unfolding parsePlaced
   stops e = rw (e, parsePlaced)
@@ -84,7 +84,7 @@ module _ (end : ℕ) (σ : List Frame) (k : ℕ) (ph : Phase) (s : ℕ) (tok : T
   notes-one d τ q e = rw (e, parsePlaced)
 
 -- the faults of the items after a token
-bad-item : (is r : List Item) (p : ℕ) (t : Token) → is ≡ item p t ∷ r → badPlaces is ≡ badPlaces r
+bad-item : (is r : List Item) (p : ℕ) (t : TextToken) → is ≡ item p t ∷ r → badPlaces is ≡ badPlaces r
 unfolding badPlaces
 bad-item is r p t e = rw e
 
@@ -92,7 +92,7 @@ bad-first : (is r : List Item) (p : ℕ) → is ≡ bad p ∷ r → badPlaces is
 unfolding badPlaces
 bad-first is r p e = rw e
 
-deep-mark : (d : ℕ) (is r : List Item) (p n : ℕ) → is ≡ item p (mark n) ∷ r → deepPlaces d is ≡ placeIf (tooDeep d n) p (deepPlaces (openAfter d n) r)
+deep-mark : (d : ℕ) (is r : List Item) (p n : ℕ) → is ≡ item p (mark n) ∷ r → deepPlaces d is ≡ placeIf (isDeepBrace d n) p (deepPlaces (bracesAfter d n) r)
 unfolding deepPlaces
 deep-mark d is r p n e = rw e
 
@@ -165,14 +165,14 @@ pub note-length : (s : State) (p : Pending) (a : ℕ) (cs : List ℕ) → length
 unfolding noteCells pick
 note-length s p a cs = by (notes a && ltb (s .count) 256)
   where
-    by : (t : Bool) → length (pick t (sets cs (16 * s .count) (cellsOf p (extensionOf (contextOf s)) (parentNumber s))) cs) ≡ length cs
-    by true = length-sets cs (16 * s .count) (cellsOf p (extensionOf (contextOf s)) (parentNumber s))
+    by : (t : Bool) → length (pick t (sets cs (16 * s .count) (cellsOf p (extensionFlag (contextOf s)) (parentNumber s))) cs) ≡ length cs
+    by true = length-sets cs (16 * s .count) (cellsOf p (extensionFlag (contextOf s)) (parentNumber s))
     by false = refl
 
 -- ---- the token that stands next, and its act
 
 pub record Taken (text : List ℕ) (at : ℕ) (x : Seen) (s : State) (p : Pending) (a deep : ℕ) : Type 0 where
-  pub tok : Token
+  pub tok : TextToken
   pub cut : liveFrom text at ≡ item (x .start) tok ∷ liveFrom text (x .end)
   pub goes : step (framesOf s) (s .count) (x .start) (phaseIn text (s .mode) p) tok ≡ actionIn text (framesOf s) (s .count) p a (x .kind) (span (x .start) (x .end))
   pub deep-after : ℕ
@@ -230,14 +230,14 @@ module _ {text cells : List ℕ} {x : Seen} {s : State} {p : Pending} (i : Inv t
   braced = subst (λ b. Braced (x .kind) b ≡ true) (sym act) (act-braced (contextOf s) (p .kind) (x .kind) (s .mode))
 
   after-mark : isMark (x .kind) ≡ true → liveFrom text (i .at) ≡ item (x .start) (mark (x .kind)) ∷ liveFrom text (x .end) → Taken text (i .at) x s p a (i .deep)
-  unfolding tooDeep openAfter pick
+  unfolding isDeepBrace bracesAfter pick
   after-mark b e =
-      let n = if-none (tooDeep (i .deep) (x .kind)) (x .start) (deepPlaces (openAfter (i .deep) (x .kind)) (liveFrom text (x .end))) (sym (deep-mark (i .deep) (liveFrom text (i .at)) (liveFrom text (x .end)) (x .start) (x .kind) e) ∙ i .nested) in
+      let n = if-none (isDeepBrace (i .deep) (x .kind)) (x .start) (deepPlaces (bracesAfter (i .deep) (x .kind)) (liveFrom text (x .end))) (sym (deep-mark (i .deep) (liveFrom text (i .at)) (liveFrom text (x .end)) (x .start) (x .kind) e) ∙ i .nested) in
       record {
         tok = mark (x .kind);
         cut = e;
         goes = mark-step text (framesOf s) (s .count) p (span (x .start) (x .end)) facts (x .kind) (mark-small (x .kind) b) (s .mode) ∙ ap (λ c. actionIn text (framesOf s) (s .count) p c (x .kind) (span (x .start) (x .end))) (sym here);
-        deep-after = openAfter (i .deep) (x .kind);
+        deep-after = bracesAfter (i .deep) (x .kind);
         nested = n .1;
         calm = sym (bad-item (liveFrom text (i .at)) (liveFrom text (x .end)) (x .start) (mark (x .kind)) e) ∙ i .calm;
         room = λ q. shallower (opens (x .kind) a braced q) (n .0);
@@ -245,10 +245,10 @@ module _ {text cells : List ℕ} {x : Seen} {s : State} {p : Pending} (i : Inv t
         kind-after = kind-stays text p a (x .kind) (span (x .start) (x .end)) (i .kind-is) (λ q. absurd (omega (arith, types (x .kind) a braced q, mark-small (x .kind) b)));
       }
     where
-      shallower : x .kind ≡ 123 → tooDeep (i .deep) (x .kind) ≡ false → s .depth < 8
+      shallower : x .kind ≡ 123 → isDeepBrace (i .deep) (x .kind) ≡ false → s .depth < 8
       shallower e t = let f : leb 8 (i .deep) ≡ false = rw e at t in omega (arith, leb-false 8 (i .deep) f, i .shallow)
 
-      deeper : (a ≡ 0 → ⊥) → (u v : Bool) → eqb (x .kind) 123 ≡ u → eqb (x .kind) 125 ≡ v → length (framesAfter (framesOf s) (s .count) a) ≤ openAfter (i .deep) (x .kind)
+      deeper : (a ≡ 0 → ⊥) → (u v : Bool) → eqb (x .kind) 123 ≡ u → eqb (x .kind) 125 ≡ v → length (framesAfter (framesOf s) (s .count) a) ≤ bracesAfter (i .deep) (x .kind)
       deeper z true v f g = let d = after-deep (framesOf s) (s .count) a in rw f (omega (arith, d .0, depth-is s, i .shallow))
       deeper z false true f g = let d = after-deep (framesOf s) (s .count) a in let h = d .2 (closes (x .kind) a braced (eqb-true (x .kind) 125 g) z) in rw (f, g) (omega (arith, h, depth-is s, i .shallow))
       deeper z false false f g = let d = after-deep (framesOf s) (s .count) a in let h = d .1 (λ q. eqb-false (x .kind) 123 f (opens (x .kind) a braced q)) in rw (f, g) (omega (arith, h, depth-is s, i .shallow))
@@ -285,7 +285,7 @@ module _ {text cells : List ℕ} {x : Seen} {s : State} {p : Pending} (i : Inv t
       let f : step (framesOf s) (s .count) (x .start) (phaseIn text (s .mode) p) (t .tok) ≡ stop = t .goes ∙ action-stop text (framesOf s) (s .count) p a (x .kind) (span (x .start) (x .end)) q in
       let g : parsePlaced (length text) (framesOf s) (s .count) (phaseIn text (s .mode) p) (liveFrom text (i .at)) ≡ stuckAt (x .start) = ap (parsePlaced (length text) (framesOf s) (s .count) (phaseIn text (s .mode) p)) (t .cut) ∙ stops (length text) (framesOf s) (s .count) (phaseIn text (s .mode) p) (x .start) (t .tok) (liveFrom text (x .end)) f in
       let e : placedOutcome text ≡ stuckAt (x .start) = i .goes ∙ map-stuck (i .before) _ (x .start) g in
-      let b = stuck-back (placeAt text (itemsOf text)) (outcomeOf text) (x .start) e in
+      let b = stuck-back (tokenPlace text (itemsOf text)) (outcomeOf text) (x .start) e in
       record { spot = b .0; is = b .1; place = b .2 }
 
   -- a token that goes on
@@ -346,9 +346,9 @@ module _ {text cells : List ℕ} {x : Seen} {s : State} {p : Pending} (i : Inv t
     noted-here = notedIn text (framesOf s) p
 
     -- in the row it is as it is declared
-    in-row : s .count < 256 → notedFrom text (sets cells (16 * s .count) (cellsOf p (extensionOf (contextOf s)) (parentNumber s))) (suc (s .count)) 0 ≡ notedFrom text cells (s .count) 0 ++ noted-here ∷ []
+    in-row : s .count < 256 → notedFrom text (sets cells (16 * s .count) (cellsOf p (extensionFlag (contextOf s)) (parentNumber s))) (suc (s .count)) 0 ≡ notedFrom text cells (s .count) 0 ++ noted-here ∷ []
     in-row h =
-        noted-more text cells (s .count) p (extensionOf (contextOf s)) (parentNumber s) (omega arith)
+        noted-more text cells (s .count) p (extensionFlag (contextOf s)) (parentNumber s) (omega arith)
         ∙ rw (parent-is (s .mode) (s .numbers) (s .bodies) (s .count) (s .over) (s .depth) (i .sized .low) (omega arith) (i .below), extension-is (s .mode) (s .numbers) (s .bodies) (s .count) (s .over) (s .depth) (i .sized .low))
 
     kept-after : notes a ≡ true → Kept text (noteCells s p a cells) (i .before ++ noted-here ∷ []) (suc (s .count)) (overOf (s .count) (s .over) (p .name .start))
@@ -452,7 +452,7 @@ module _ {text cells : List ℕ} {x : Seen} {s : State} {p : Pending} (i : Inv t
 
   stuck-last : atEnd (framesOf s) (s .count) (length text) (phaseIn text (s .mode) p) ≡ stuckAt (length text) → StuckIn text (length text)
   stuck-last e =
-      let b = stuck-back (placeAt text (itemsOf text)) (outcomeOf text) (length text) (at-last ∙ map-stuck (i .before) _ (length text) e) in
+      let b = stuck-back (tokenPlace text (itemsOf text)) (outcomeOf text) (length text) (at-last ∙ map-stuck (i .before) _ (length text) e) in
       record { spot = b .0; is = b .1; place = b .2 }
 
   done-last : atEnd (framesOf s) (s .count) (length text) (phaseIn text (s .mode) p) ≡ complete [] → placedOutcome text ≡ complete (i .before)
@@ -460,12 +460,12 @@ module _ {text cells : List ℕ} {x : Seen} {s : State} {p : Pending} (i : Inv t
 
   whole-last : placedOutcome text ≡ complete (i .before) → s .count ≤ 256 → CompleteIn text cells (s .count)
   whole-last e h =
-      let b = complete-back (placeAt text (itemsOf text)) (outcomeOf text) (i .before) e in
-      record { list = b .0; is = b .1; few = h; counted = sym (length-placed (placeAt text (itemsOf text)) (b .0)) ∙ (ap length (b .2) ∙ i .kept .counted); kept = i .kept .first h ∙ sym (b .2) }
+      let b = complete-back (tokenPlace text (itemsOf text)) (outcomeOf text) (i .before) e in
+      record { list = b .0; is = b .1; few = h; counted = sym (length-placed (tokenPlace text (itemsOf text)) (b .0)) ∙ (ap length (b .2) ∙ i .kept .counted); kept = i .kept .first h ∙ sym (b .2) }
 
   over-last : placedOutcome text ≡ complete (i .before) → 256 < s .count → OverIn text (s .over)
   over-last e h =
-      let b = complete-back (placeAt text (itemsOf text)) (outcomeOf text) (i .before) e in
+      let b = complete-back (tokenPlace text (itemsOf text)) (outcomeOf text) (i .before) e in
       let q = i .kept .past h in
       record { list = b .0; is = b .1; rest = q .rest; places = places-drop text (itemsOf text) 256 (nameSpots (b .0)) ∙ (ap (drop 256) (names-placed text (itemsOf text) (b .0) ∙ ap nameSpots (b .2)) ∙ q .places); least = least-same (s .over) (q .rest) (q .later) }
 

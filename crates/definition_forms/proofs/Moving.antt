@@ -14,9 +14,9 @@ use Rattle.classes.specs.Lists.{pick}
 use Rattle.reading_rules.specs.Record.{Up, top, under}
 use Rattle.definition_rules.specs.Table.{numberUp}
 use Rattle.definition_rules.specs.Declarations.{BodyMode, inFields, groupOpened, inGroup, groupsClosed, Frame, frame, isExtension, afterField, fieldDone, parentOf}
-use Rattle.definition_rules.specs.Declarations.{extensionOf as inExtension}
+use Rattle.definition_rules.specs.Declarations.{isUnderExtension}
 use Rattle.definition_automaton.specs.Acts.{endAct, pluginAct, asAct, nameAct, typeAct, closingAct, bodyAct, startAct, runAct, markAct, typedAct, tagAct, actOf, nextMode}
-use Rattle.definition_automaton.specs.States.{state, entryOf, bodyAfter, contextNumber, contextOf, parentNumber, extensionOf, withBody, fieldDoneOf, pushedOf, poppedOf, overOf, moreOf, countedOf, movedOf, afterOf}
+use Rattle.definition_automaton.specs.States.{state, entryOf, bodyAfter, contextNumber, contextOf, parentNumber, extensionFlag, withBody, fieldDoneOf, pushedOf, poppedOf, overOf, moreOf, countedOf, modeMoved, afterOf}
 use Rattle.definition_automaton.specs.Noting.{notes}
 use Rattle.definition_automaton.specs.declared.State.{State}
 use Rattle.definition_automaton.proofs.AfterLaws.{after-field, after-push, after-pop, after-group, after-close, after-other}
@@ -62,8 +62,8 @@ after-body m = go (eqb m 0) (eqb m 1) (eqb m 2) refl refl refl
     go false false true e f g = rw (e, f, g)
     go false false false e f g = rw (e, f, g)
 
-extension-body : (b : BodyMode) → eqb (extensionOf (bodyContext b)) 1 ≡ isExtension b
-unfolding extensionOf bodyContext isExtension pick
+extension-body : (b : BodyMode) → eqb (extensionFlag (bodyContext b)) 1 ≡ isExtension b
+unfolding extensionFlag bodyContext isExtension pick
 extension-body inFields = refl
 extension-body groupOpened = refl
 extension-body inGroup = refl
@@ -79,12 +79,12 @@ module _ (m : ℕ) (ns bs : List ℕ) (c o : ℕ) where
   context-is zero h = refl
   context-is (suc d) h = let e : suc d - 1 ≡ d = omega arith in rw (ne-eqb (suc d) 0 (λ q. omega arith), e, entry-in bs d h) (context-body (getD bs d 0))
 
-  pub extension-is : (d : ℕ) → d ≤ 8 → eqb (extensionOf (contextOf (state m d ns bs c o))) 1 ≡ inExtension (framesFrom d ns bs)
-  unfolding framesFrom contextIn inExtension
+  pub extension-is : (d : ℕ) → d ≤ 8 → eqb (extensionFlag (contextOf (state m d ns bs c o))) 1 ≡ isUnderExtension (framesFrom d ns bs)
+  unfolding framesFrom contextIn isUnderExtension
   extension-is d h = rw (context-is d h) (by d)
     where
-      by : (d : ℕ) → eqb (extensionOf (contextIn (framesFrom d ns bs))) 1 ≡ inExtension (framesFrom d ns bs)
-      by zero = unfold extensionOf pick in refl
+      by : (d : ℕ) → eqb (extensionFlag (contextIn (framesFrom d ns bs))) 1 ≡ isUnderExtension (framesFrom d ns bs)
+      by zero = unfold extensionFlag pick in refl
       by (suc d) = extension-body (bodyOf (getD bs d 0))
 
 -- all numbers of open bodies are below a bound
@@ -237,7 +237,7 @@ note-none a e f = rw (e, f)
 
 module _ (s : State) (a name : ℕ) (z : Sized s) where
   -- an act that notes nothing
-  quiet : (t : State) → eqb a 13 ≡ false → eqb a 14 ≡ false → Moved (movedOf s a) t (framesAfter (framesOf s) (s .count) a) → After s a name t
+  quiet : (t : State) → eqb a 13 ≡ false → eqb a 14 ≡ false → Moved (modeMoved s a) t (framesAfter (framesOf s) (s .count) a) → After s a name t
   unfolding pick
   quiet t e f w = record {
     mode-is = w .mode-same;
@@ -248,7 +248,7 @@ module _ (s : State) (a name : ℕ) (z : Sized s) where
   }
 
   -- an act that notes a declaration
-  noting : (t : State) → notes a ≡ true → Moved (movedOf s a) t (framesAfter (framesOf s) (s .count) a) → After s a name (countedOf t name)
+  noting : (t : State) → notes a ≡ true → Moved (modeMoved s a) t (framesAfter (framesOf s) (s .count) a) → After s a name (countedOf t name)
   unfolding pick
   noting t e w = record {
     mode-is = w .mode-same;
@@ -258,35 +258,35 @@ module _ (s : State) (a name : ℕ) (z : Sized s) where
     sized = record { numbers8 = w .sized .numbers8; bodies8 = w .sized .bodies8; low = w .sized .low };
   }
 
-  moved-to : {t : State} {σ τ : List Frame} → Moved (movedOf s a) t σ → σ ≡ τ → Moved (movedOf s a) t τ
+  moved-to : {t : State} {σ τ : List Frame} → Moved (modeMoved s a) t σ → σ ≡ τ → Moved (modeMoved s a) t τ
   moved-to w e = record { mode-same = w .mode-same; count-same = w .count-same; over-same = w .over-same; frames = w .frames ∙ e; sized = w .sized }
 
-  done-here : Moved (movedOf s a) (fieldDoneOf (movedOf s a)) (fieldDone (framesOf s))
+  done-here : Moved (modeMoved s a) (fieldDoneOf (modeMoved s a)) (fieldDone (framesOf s))
   done-here = done-moved (nextMode a) (s .numbers) (s .bodies) (s .count) (s .over) (z .numbers8) (z .bodies8) (s .depth) (z .low)
 
-  after-13 : a ≡ 13 → After s a name (countedOf (fieldDoneOf (movedOf s a)) name)
-  after-13 e = noting (fieldDoneOf (movedOf s a)) (note-13 a e) (moved-to done-here (frames-13 (framesOf s) (s .count) a e))
+  after-13 : a ≡ 13 → After s a name (countedOf (fieldDoneOf (modeMoved s a)) name)
+  after-13 e = noting (fieldDoneOf (modeMoved s a)) (note-13 a e) (moved-to done-here (frames-13 (framesOf s) (s .count) a e))
 
-  after-14 : a ≡ 14 → s .depth < 8 → s .count < 65536 → After s a name (countedOf (pushedOf (fieldDoneOf (movedOf s a))) name)
+  after-14 : a ≡ 14 → s .depth < 8 → s .count < 65536 → After s a name (countedOf (pushedOf (fieldDoneOf (modeMoved s a))) name)
   after-14 e h l =
       let w = done-here in
-      let u : State = fieldDoneOf (movedOf s a) in
+      let u : State = fieldDoneOf (modeMoved s a) in
       let d : u .depth ≡ s .depth = sym (frames-length (u .depth) (u .numbers) (u .bodies)) ∙ (ap length (w .frames) ∙ (done-length (framesOf s) ∙ frames-length (s .depth) (s .numbers) (s .bodies))) in
       let p : Moved u (pushedOf u) (frame (u .count) inFields ∷ framesOf u) = push-moved (u .mode) (u .numbers) (u .bodies) (u .count) (u .over) (w .sized .numbers8) (w .sized .bodies8) (u .depth) (omega arith) (omega (arith, w .count-same)) in
       let g : framesOf (pushedOf u) ≡ framesAfter (framesOf s) (s .count) a = p .frames ∙ (rw (w .count-same, w .frames) (frames-14 (framesOf s) (s .count) a e)) in
       noting (pushedOf u) (note-14 a e) (record { mode-same = p .mode-same ∙ w .mode-same; count-same = p .count-same ∙ w .count-same; over-same = p .over-same ∙ w .over-same; frames = g; sized = p .sized })
 
-  after-15 : a ≡ 15 → After s a name (poppedOf (movedOf s a))
-  after-15 e = quiet (poppedOf (movedOf s a)) (rw e) (rw e) (moved-to (pop-moved (nextMode a) (s .numbers) (s .bodies) (s .count) (s .over) (z .numbers8) (z .bodies8) (s .depth) (z .low)) (frames-15 (framesOf s) (s .count) a e))
+  after-15 : a ≡ 15 → After s a name (poppedOf (modeMoved s a))
+  after-15 e = quiet (poppedOf (modeMoved s a)) (rw e) (rw e) (moved-to (pop-moved (nextMode a) (s .numbers) (s .bodies) (s .count) (s .over) (z .numbers8) (z .bodies8) (s .depth) (z .low)) (frames-15 (framesOf s) (s .count) a e))
 
-  after-17 : a ≡ 17 → After s a name (withBody (movedOf s a) 1)
-  after-17 e = quiet (withBody (movedOf s a) 1) (rw e) (rw e) (moved-to (body-moved (nextMode a) (s .numbers) (s .bodies) (s .count) (s .over) (z .numbers8) (z .bodies8) (s .depth) 1 (z .low)) (frames-17 (framesOf s) (s .count) a e))
+  after-17 : a ≡ 17 → After s a name (withBody (modeMoved s a) 1)
+  after-17 e = quiet (withBody (modeMoved s a) 1) (rw e) (rw e) (moved-to (body-moved (nextMode a) (s .numbers) (s .bodies) (s .count) (s .over) (z .numbers8) (z .bodies8) (s .depth) 1 (z .low)) (frames-17 (framesOf s) (s .count) a e))
 
-  after-18 : a ≡ 18 → After s a name (withBody (movedOf s a) 3)
-  after-18 e = quiet (withBody (movedOf s a) 3) (rw e) (rw e) (moved-to (body-moved (nextMode a) (s .numbers) (s .bodies) (s .count) (s .over) (z .numbers8) (z .bodies8) (s .depth) 3 (z .low)) (frames-18 (framesOf s) (s .count) a e))
+  after-18 : a ≡ 18 → After s a name (withBody (modeMoved s a) 3)
+  after-18 e = quiet (withBody (modeMoved s a) 3) (rw e) (rw e) (moved-to (body-moved (nextMode a) (s .numbers) (s .bodies) (s .count) (s .over) (z .numbers8) (z .bodies8) (s .depth) 3 (z .low)) (frames-18 (framesOf s) (s .count) a e))
 
-  after-rest : eqb a 13 ≡ false → eqb a 14 ≡ false → eqb a 15 ≡ false → eqb a 17 ≡ false → eqb a 18 ≡ false → After s a name (movedOf s a)
-  after-rest e f g h k = quiet (movedOf s a) e f (record { mode-same = refl; count-same = refl; over-same = refl; frames = frames-rest (framesOf s) (s .count) a e f g h k; sized = record { numbers8 = z .numbers8; bodies8 = z .bodies8; low = z .low } })
+  after-rest : eqb a 13 ≡ false → eqb a 14 ≡ false → eqb a 15 ≡ false → eqb a 17 ≡ false → eqb a 18 ≡ false → After s a name (modeMoved s a)
+  after-rest e f g h k = quiet (modeMoved s a) e f (record { mode-same = refl; count-same = refl; over-same = refl; frames = frames-rest (framesOf s) (s .count) a e f g h k; sized = record { numbers8 = z .numbers8; bodies8 = z .bodies8; low = z .low } })
 
   pub after-is : (a ≡ 14 → s .depth < 8) → s .count < 65536 → After s a name (afterOf s a name)
   after-is room l = go (eqb a 13) (eqb a 14) (eqb a 15) (eqb a 17) (eqb a 18) refl refl refl refl refl
@@ -295,12 +295,12 @@ module _ (s : State) (a name : ℕ) (z : Sized s) where
       on x e = subst (After s a name) e x
 
       go : (b c d f g : Bool) → eqb a 13 ≡ b → eqb a 14 ≡ c → eqb a 15 ≡ d → eqb a 17 ≡ f → eqb a 18 ≡ g → After s a name (afterOf s a name)
-      go true c d f g e1 e2 e3 e4 e5 = let e = eqb-true a 13 e1 in on (after-13 e) (after-field s (movedOf s a) a name (fieldDoneOf (movedOf s a)) _ e refl refl refl)
-      go false true d f g e1 e2 e3 e4 e5 = let e = eqb-true a 14 e2 in on (after-14 e (room e) l) (after-push s (movedOf s a) a name (fieldDoneOf (movedOf s a)) (pushedOf (fieldDoneOf (movedOf s a))) _ e refl refl refl refl)
-      go false false true f g e1 e2 e3 e4 e5 = let e = eqb-true a 15 e3 in on (after-15 e) (after-pop s (movedOf s a) a name _ e refl refl)
-      go false false false true g e1 e2 e3 e4 e5 = let e = eqb-true a 17 e4 in on (after-17 e) (after-group s (movedOf s a) a name _ e refl refl)
-      go false false false false true e1 e2 e3 e4 e5 = let e = eqb-true a 18 e5 in on (after-18 e) (after-close s (movedOf s a) a name _ e refl refl)
-      go false false false false false e1 e2 e3 e4 e5 = on (after-rest e1 e2 e3 e4 e5) (after-other s (movedOf s a) a name e1 e2 e3 e4 e5 refl)
+      go true c d f g e1 e2 e3 e4 e5 = let e = eqb-true a 13 e1 in on (after-13 e) (after-field s (modeMoved s a) a name (fieldDoneOf (modeMoved s a)) _ e refl refl refl)
+      go false true d f g e1 e2 e3 e4 e5 = let e = eqb-true a 14 e2 in on (after-14 e (room e) l) (after-push s (modeMoved s a) a name (fieldDoneOf (modeMoved s a)) (pushedOf (fieldDoneOf (modeMoved s a))) _ e refl refl refl refl)
+      go false false true f g e1 e2 e3 e4 e5 = let e = eqb-true a 15 e3 in on (after-15 e) (after-pop s (modeMoved s a) a name _ e refl refl)
+      go false false false true g e1 e2 e3 e4 e5 = let e = eqb-true a 17 e4 in on (after-17 e) (after-group s (modeMoved s a) a name _ e refl refl)
+      go false false false false true e1 e2 e3 e4 e5 = let e = eqb-true a 18 e5 in on (after-18 e) (after-close s (modeMoved s a) a name _ e refl refl)
+      go false false false false false e1 e2 e3 e4 e5 = on (after-rest e1 e2 e3 e4 e5) (after-other s (modeMoved s a) a name e1 e2 e3 e4 e5 refl)
 
 -- ---- braces: 14 is for `{` alone, 1 for a run, and `}` for 15 alone
 

@@ -9,10 +9,10 @@ use lib.Dec.{eqb}
 use lib.ListN.{length, getD}
 use Rattle.classes.specs.Lists.{pick, sameBytes}
 use Rattle.definition_rules.specs.Words.{kwAs, kwPlugin, takesRange, isCompound, isReference}
-use Rattle.definition_rules.specs.Scan.{Token, run, mark, Item, gap, item, bad, itemsOf, tokensOf, placesOf}
+use Rattle.definition_rules.specs.Scan.{TextToken, run, mark, Item, gap, item, bad, itemsOf, textTokensOf, placesOf}
 use Rattle.definition_rules.specs.Forms.{MaybeRun, absent, given, ownName, tagless, explicit, Heading, heading, typeRun}
-use Rattle.definition_rules.specs.Declarations.{Declaration, declaration, Spots, Noted, noted, BodyMode, inFields, groupOpened, inGroup, groupsClosed, Frame, frame, Stage, afterName, afterCard, afterTag, afterPlugin, Phase, atStart, dueSemicolon, afterType, dueRange, dueRangeEnd, dueName, inHeading, dueCard, dueTag, dueCardEnd, Action, stop, move, note, allow, withCard, withTag, withPlugin, takesField, takesClose, takesGroupEnd, isInBody, startRun, startMark, headingEnd, headingRun, headingMark, step, fieldDone, parentOf, extensionOf, Outcome, stuckAt, complete, mapOutcome, endIf, atEnd, parse, parseTokens}
-use Rattle.definition_rules.specs.Compile.{placeAt, outcomeOf}
+use Rattle.definition_rules.specs.Declarations.{Declaration, declaration, Spots, Noted, noted, BodyMode, inFields, groupOpened, inGroup, groupsClosed, Frame, frame, Stage, afterName, afterCard, afterTag, afterPlugin, Phase, atStart, dueSemicolon, afterType, dueRange, dueRangeEnd, dueName, inHeading, dueCard, dueTag, dueCardEnd, Action, stop, move, note, allow, withCard, withTag, withPlugin, takesField, takesClose, takesGroupEnd, isInBody, startRun, startMark, headingEnd, headingRun, headingMark, step, fieldDone, parentOf, isUnderExtension, Outcome, stuckAt, complete, mapOutcome, endIf, atEnd, parseForms, parseTokens}
+use Rattle.definition_rules.specs.Compile.{tokenPlace, outcomeOf}
 use Rattle.definition_scanner.specs.Live.{live, liveFrom}
 use Rattle.definition_forms.specs.Placed.{placedSpots, placedNoted, placedBy, placed}
 
@@ -104,7 +104,7 @@ module _ (f : ℕ → ℕ) where
   mark-placed σ afterTag k s h n = end-placed σ k s h n
   mark-placed σ afterPlugin k s h n = end-placed σ k s h n
 
-  step-placed : (σ : List Frame) (k i : ℕ) (p : Phase) (x : Token) → step σ k (f i) (phasePlaced f p) x ≡ actionPlaced f (step σ k i p x)
+  step-placed : (σ : List Frame) (k i : ℕ) (p : Phase) (x : TextToken) → step σ k (f i) (phasePlaced f p) x ≡ actionPlaced f (step σ k i p x)
   unfolding step actionPlaced phasePlaced placedSpots
   step-placed σ k i atStart (run w) = start-run-placed σ i w
   step-placed σ k i atStart (mark n) = start-mark-placed σ n
@@ -155,11 +155,11 @@ module _ (f : ℕ → ℕ) where
     abbrev Numbered : ℕ → List Item → Type 0
     Numbered i is = (j : ℕ) → f (i + j) ≡ getD (placesOf is) j end
 
-    next-numbered : (i a : ℕ) (x : Token) (r : List Item) → Numbered i (item a x ∷ r) → Numbered (suc i) r
+    next-numbered : (i a : ℕ) (x : TextToken) (r : List Item) → Numbered i (item a x ∷ r) → Numbered (suc i) r
     unfolding placesOf
     next-numbered i a x r h j = let e : suc i + j ≡ i + suc j = omega arith in rw e (h (suc j))
 
-    first-numbered : (i a : ℕ) (x : Token) (r : List Item) → Numbered i (item a x ∷ r) → f i ≡ a
+    first-numbered : (i a : ℕ) (x : TextToken) (r : List Item) → Numbered i (item a x ∷ r) → f i ≡ a
     unfolding placesOf
     first-numbered i a x r h = ap f (sym (add-zero i)) ∙ h 0
 
@@ -168,23 +168,23 @@ module _ (f : ℕ → ℕ) where
     last-numbered i h = ap f (sym (add-zero i)) ∙ h 0
 
     abbrev Placing : List Item → Type 0
-    Placing is = (σ : List Frame) (k i : ℕ) (p : Phase) → Numbered i is → parsePlaced end σ k (phasePlaced f p) is ≡ outcomePlaced f (parse σ k i p (tokensOf is))
+    Placing is = (σ : List Frame) (k i : ℕ) (p : Phase) → Numbered i is → parsePlaced end σ k (phasePlaced f p) is ≡ outcomePlaced f (parseForms σ k i p (textTokensOf is))
 
-    placing-step : (a : ℕ) (x : Token) (r : List Item) → Placing r → Placing (item a x ∷ r)
-    unfolding parsePlaced parse tokensOf
+    placing-step : (a : ℕ) (x : TextToken) (r : List Item) → Placing r → Placing (item a x ∷ r)
+    unfolding parsePlaced parseForms textTokensOf
     placing-step a x r g σ k i p h =
         let e : step σ k a (phasePlaced f p) x ≡ actionPlaced f (step σ k i p x) = ap (λ b. step σ k b (phasePlaced f p) x) (sym (first-numbered i a x r h)) ∙ step-placed σ k i p x in
         rw (e, parsePlaced) (by (step σ k i p x))
       where
         by : (A : Action) →
             elim (actionPlaced f A) [ stop ↦ stuckAt a | move τ q ↦ parsePlaced end τ k q r | note d τ q ↦ mapOutcome (λ l. d ∷ l) (parsePlaced end τ (suc k) q r) ]
-            ≡ outcomePlaced f (elim A [ stop ↦ stuckAt i | move τ q ↦ parse τ k (suc i) q (tokensOf r) | note d τ q ↦ mapOutcome (λ l. d ∷ l) (parse τ (suc k) (suc i) q (tokensOf r)) ])
+            ≡ outcomePlaced f (elim A [ stop ↦ stuckAt i | move τ q ↦ parseForms τ k (suc i) q (textTokensOf r) | note d τ q ↦ mapOutcome (λ l. d ∷ l) (parseForms τ (suc k) (suc i) q (textTokensOf r)) ])
         by stop = unfold actionPlaced outcomePlaced in (ap stuckAt (sym (first-numbered i a x r h)))
         by (move τ q) = unfold actionPlaced in (g τ k (suc i) q (next-numbered i a x r h))
-        by (note d τ q) = unfold actionPlaced in (ap (mapOutcome (λ l. placedNoted f d ∷ l)) (g τ (suc k) (suc i) q (next-numbered i a x r h)) ∙ map-placed d (parse τ (suc k) (suc i) q (tokensOf r)))
+        by (note d τ q) = unfold actionPlaced in (ap (mapOutcome (λ l. placedNoted f d ∷ l)) (g τ (suc k) (suc i) q (next-numbered i a x r h)) ∙ map-placed d (parseForms τ (suc k) (suc i) q (textTokensOf r)))
 
     placing : (is : List Item) → Placing is
-    unfolding parsePlaced parse tokensOf
+    unfolding parsePlaced parseForms textTokensOf
     placing [] σ k i p h = ap (λ e. atEnd σ k e (phasePlaced f p)) (sym (last-numbered i h)) ∙ at-end-placed σ k i p
     placing (gap ∷ r) σ k i p h = placing r σ k i p (unfold placesOf in h)
     placing (bad q ∷ r) σ k i p h = placing r σ k i p (unfold placesOf in h)
@@ -192,11 +192,11 @@ module _ (f : ℕ → ℕ) where
 
 -- the outcome of a text, placed
 abbrev pub placedOutcome : List ℕ → Outcome (List Noted)
-placedOutcome text = outcomePlaced (placeAt text (itemsOf text)) (outcomeOf text)
+placedOutcome text = outcomePlaced (tokenPlace text (itemsOf text)) (outcomeOf text)
 
 pub outcome-is : (text : List ℕ) → placedOutcome text ≡ parsePlaced (length text) [] 0 atStart (liveFrom text 0)
-unfolding placeAt phasePlaced
-outcome-is text = sym (parse-live (length text) (itemsOf text) [] 0 atStart ∙ placing (placeAt text (itemsOf text)) (length text) (itemsOf text) [] 0 0 atStart (λ j. rw (zero-add j)))
+unfolding tokenPlace phasePlaced
+outcome-is text = sym (parse-live (length text) (itemsOf text) [] 0 atStart ∙ placing (tokenPlace text (itemsOf text)) (length text) (itemsOf text) [] 0 0 atStart (λ j. rw (zero-add j)))
 
 -- ---- back
 

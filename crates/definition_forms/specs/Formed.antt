@@ -7,7 +7,7 @@ use Rattle.numbers.specs.Limits.{parameterLimit}
 use Rattle.definition_rules.specs.Scan.{itemsOf}
 use Rattle.definition_rules.specs.Declarations.{Noted, stuckAt, complete}
 use Rattle.definition_rules.specs.Faults.{faults4}
-use Rattle.definition_rules.specs.Compile.{leastOf, placeAt, placesAt, outcomeOf}
+use Rattle.definition_rules.specs.Compile.{leastOf, tokenPlace, tokenPlaces, outcomeOf}
 use Rattle.definition_cells.specs.Cells.{notedFrom}
 use Rattle.definition_forms.specs.Placed.{placed}
 use Rattle.definition_forms.specs.declared.Formed.{Formed}
@@ -17,14 +17,14 @@ use Rattle.definition_forms.specs.declared.Formed.the-variants.{Stuck, O
 pub record StuckIn (text : List ℕ) (p : ℕ) : Type 0 where
   pub spot : ℕ
   pub is : outcomeOf text ≡ stuckAt spot
-  pub place : placeAt text (itemsOf text) spot ≡ p
+  pub place : tokenPlace text (itemsOf text) spot ≡ p
 
 -- 4: they fit, and p is the least place of a name too many
 pub record OverIn (text : List ℕ) (p : ℕ) : Type 0 where
   pub list : List Noted
   pub is : outcomeOf text ≡ complete list
   pub rest : List ℕ
-  pub places : placesAt text (itemsOf text) (faults4 parameterLimit list) ≡ p ∷ rest
+  pub places : tokenPlaces text (itemsOf text) (faults4 parameterLimit list) ≡ p ∷ rest
   pub least : leastOf p rest ≡ p
 
 -- they fit, and the n declarations are in the row

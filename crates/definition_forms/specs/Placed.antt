@@ -3,7 +3,7 @@ use mathlib.Core.List.{List, [], _∷_}
 use Prim.Native.Nat.{ℕ}
 use Rattle.definition_rules.specs.Scan.{itemsOf}
 use Rattle.definition_rules.specs.Declarations.{Spots, Noted, noted}
-use Rattle.definition_rules.specs.Compile.{placeAt}
+use Rattle.definition_rules.specs.Compile.{tokenPlace}
 
 unfoldable pub placedSpots : (ℕ → ℕ) → Spots → Spots
 placedSpots f s = record { typeAt = f (s .typeAt); rangeAt = f (s .rangeAt); nameAt = f (s .nameAt); cardAt = f (s .cardAt); tagAt = f (s .tagAt) }
@@ -17,4 +17,4 @@ placedBy f (n ∷ ns) = placedNoted f n ∷ placedBy f ns
 
 -- each spot of a declaration is its token's place
 abbrev pub placed : List ℕ → List Noted → List Noted
-placed text ns = placedBy (placeAt text (itemsOf text)) ns
+placed text ns = placedBy (tokenPlace text (itemsOf text)) ns

@@ -14,11 +14,11 @@ use Rattle.reading_rules.specs.Record.{top, under}
 use Rattle.definition_rules.specs.Forms.{heading}
 use Rattle.definition_rules.specs.Declarations.{declaration, declarationsOf}
 use Rattle.definition_rules.specs.Words.{kindTakesRange}
-use Rattle.definition_rules.specs.Records.{kindLeast, kindMost, rangeOf, countOf, topName, topNames, isNamed, findTop, orNone, targetOf, labelOf}
+use Rattle.definition_rules.specs.Records.{kindLeast, kindMost, limitsOf, countRangeOf, topName, topNames, isNamed, findTop, orNone, targetOf, labelOf}
 use Rattle.definition_rules.specs.Table.{numberUp}
 use Rattle.definition_cells.specs.Cells.{cellAt, runAt, tagAt, maybeRunAt, notedAt, notedFrom}
 use Rattle.definition_cells.proofs.CellLaws.{noted-end}
-use Rattle.definition_headings.specs.Heads.{kindAt, limitsAt, countsAt, labelAt, isNamedAt, namesFrom, topAt, targetAt}
+use Rattle.definition_headings.specs.Heads.{declaredKind, limitsAt, countsAt, labelAt, isNamedAt, namesFrom, topAt, targetAt}
 
 -- ---- limits and counts
 
@@ -53,20 +53,20 @@ module _ (k : ℕ) where
 
 module _ (t cs : List ℕ) (i a : ℕ) (x : MaybeRange) where
   pub limits-given : (s : List ℕ) → a ≡ cellAt cs i 10 → a ≡ 1 → s ≡ runAt t cs i 2 → x ≡ readIntRange s → x ≡ limitsAt t cs i
-  unfolding rangeOf maybeRunAt pick
+  unfolding limitsOf maybeRunAt pick
   limits-given s ea h e er = rw (eq-eqb (cellAt cs i 10) 1 (sym ea ∙ h)) (er ∙ rw e)
 
   pub counts-given : (s : List ℕ) → a ≡ cellAt cs i 11 → a ≡ 1 → s ≡ runAt t cs i 6 → x ≡ readCountRange s → x ≡ countsAt t cs i
-  unfolding countOf maybeRunAt pick
+  unfolding countRangeOf maybeRunAt pick
   counts-given s ea h e er = rw (eq-eqb (cellAt cs i 11) 1 (sym ea ∙ h)) (er ∙ rw e)
 
 module _ (t cs : List ℕ) (i a : ℕ) where
-  pub limits-default : (k p q : ℕ) → a ≡ cellAt cs i 10 → (a ≡ 1 → ⊥) → k ≡ kindAt t cs i → p ≡ kindLeast k → q ≡ kindMost k → range p q ≡ limitsAt t cs i
-  unfolding rangeOf maybeRunAt pick
+  pub limits-default : (k p q : ℕ) → a ≡ cellAt cs i 10 → (a ≡ 1 → ⊥) → k ≡ declaredKind t cs i → p ≡ kindLeast k → q ≡ kindMost k → range p q ≡ limitsAt t cs i
+  unfolding limitsOf maybeRunAt pick
   limits-default k p q ea h ek ep eq = rw (ne-eqb (cellAt cs i 10) 1 (λ z. h (ea ∙ z))) (rw (ep, eq, ek))
 
   pub counts-default : a ≡ cellAt cs i 11 → (a ≡ 1 → ⊥) → range 1 1 ≡ countsAt t cs i
-  unfolding countOf maybeRunAt pick
+  unfolding countRangeOf maybeRunAt pick
   counts-default ea h = rw (ne-eqb (cellAt cs i 11) 1 (λ z. h (ea ∙ z)))
 
 -- ---- the label, by the tag's number
@@ -132,11 +132,11 @@ module _ (t cs : List ℕ) (n : ℕ) (w : List ℕ) where
   unfolding orNone
   not-found e = rw e
 
-module _ (t cs : List ℕ) (n i k : ℕ) (ek : k ≡ kindAt t cs i) where
+module _ (t cs : List ℕ) (n i k : ℕ) (ek : k ≡ declaredKind t cs i) where
   pub target-top : (s : List ℕ) (r : ℕ) → k ≡ 10 → s ≡ runAt t cs i 0 → r ≡ topAt t cs n s → r ≡ targetAt t cs n i
   unfolding targetOf pick
-  target-top s r h e er = rw (eq-eqb (kindAt t cs i) 10 (sym ek ∙ h)) (er ∙ rw e)
+  target-top s r h e er = rw (eq-eqb (declaredKind t cs i) 10 (sym ek ∙ h)) (er ∙ rw e)
 
   pub target-none : (k ≡ 10 → ⊥) → 65535 ≡ targetAt t cs n i
   unfolding targetOf pick
-  target-none h = rw (ne-eqb (kindAt t cs i) 10 (λ q. h (ek ∙ q)))
+  target-none h = rw (ne-eqb (declaredKind t cs i) 10 (λ q. h (ek ∙ q)))

@@ -9,17 +9,17 @@ use Rattle.numbers.specs.Range.{MaybeRange}
 use Rattle.definition_rules.specs.Words.{kindOfRun}
 use Rattle.definition_rules.specs.Forms.{MaybeRun}
 use Rattle.definition_rules.specs.Declarations.{declarationsOf}
-use Rattle.definition_rules.specs.Records.{rangeOf, countOf, topNames, findTop, orNone, targetOf, labelOf}
+use Rattle.definition_rules.specs.Records.{limitsOf, countRangeOf, topNames, findTop, orNone, targetOf, labelOf}
 use Rattle.definition_cells.specs.Cells.{cellAt, runAt, tagAt, maybeRunAt, notedFrom}
 
-abbrev pub kindAt : List ℕ → List ℕ → ℕ → ℕ
-kindAt text cs i = kindOfRun (runAt text cs i 0)
+abbrev pub declaredKind : List ℕ → List ℕ → ℕ → ℕ
+declaredKind text cs i = kindOfRun (runAt text cs i 0)
 
 abbrev pub limitsAt : List ℕ → List ℕ → ℕ → MaybeRange
-limitsAt text cs i = rangeOf (kindAt text cs i) (maybeRunAt text cs i 10 2)
+limitsAt text cs i = limitsOf (declaredKind text cs i) (maybeRunAt text cs i 10 2)
 
 abbrev pub countsAt : List ℕ → List ℕ → ℕ → MaybeRange
-countsAt text cs i = countOf (maybeRunAt text cs i 11 6)
+countsAt text cs i = countRangeOf (maybeRunAt text cs i 11 6)
 
 abbrev pub labelAt : List ℕ → List ℕ → ℕ → List ℕ
 labelAt text cs i = labelOf (runAt text cs i 4) (tagAt text cs i)
@@ -37,4 +37,4 @@ abbrev pub topAt : List ℕ → List ℕ → ℕ → List ℕ → ℕ
 topAt text cs n w = orNone (findTop (namesFrom text cs n 0) 0 w)
 
 abbrev pub targetAt : List ℕ → List ℕ → ℕ → ℕ → ℕ
-targetAt text cs n i = targetOf (namesFrom text cs n 0) (kindAt text cs i) (runAt text cs i 0)
+targetAt text cs n i = targetOf (namesFrom text cs n 0) (declaredKind text cs i) (runAt text cs i 0)

@@ -3,11 +3,11 @@ ghost use mathlib.Core.Path.{_≡_};
 ghost use Rattle.numbers.specs.Range.{lowOf, highOf};
 ghost use Rattle.numbers.specs.Answers.{rangeOf};
 ghost use Rattle.definition_rules.specs.Records.{kindLeast, kindMost};
-ghost use Rattle.definition_headings.specs.Heads.{kindAt, limitsAt, countsAt, labelAt, isNamedAt, topAt, targetAt};
+ghost use Rattle.definition_headings.specs.Heads.{declaredKind, limitsAt, countsAt, labelAt, isNamedAt, topAt, targetAt};
 
 // 1 to 9 for a type keyword, 10 for a reference.
 pub fn kind(text: &[u8], cells: &[u32], i: usize) -> u32
-    ensures { λ r. ⌜ r ≡ kindAt (now (text .entry)) (now (cells .entry)) i ⌝ }
+    ensures { λ r. ⌜ r ≡ declaredKind (now (text .entry)) (now (cells .entry)) i ⌝ }
 {
     definition_words::kind_of_run(definition_cells::run(text, cells, i, 0))
 }

@@ -9,42 +9,42 @@ use lib.Dec.{leb, eqb}
 use borrow.Author.Tests.{ne-eqb, eqb-true, eqb-false, not-true}
 use Rattle.classes.specs.Lists.{sameBytes, pick}
 use Rattle.definition_rules.specs.Words.{kwAs, kwPlugin, takesRange, isCompound, isReference}
-use Rattle.definition_rules.specs.Scan.{Token, run, mark}
-use Rattle.definition_rules.specs.Forms.{MaybeRun, absent, given, Tag, ownName, tagless, explicit, Heading, heading, typeRun, putRange, putCard, putTag, putPlugin, putHead, Sort, parameter, fields, groups, tops, Form, plain, compound, noField, field, noGroup, group, lastTop, moreTops, printForm, Level, topLevel, fieldLevel, RangeAllowed, HeadAllowed, Allowed, Fits}
+use Rattle.definition_rules.specs.Scan.{TextToken, run, mark}
+use Rattle.definition_rules.specs.Forms.{MaybeRun, absent, given, Tag, ownName, tagless, explicit, Heading, heading, typeRun, putRange, putCard, putTag, putPlugin, putHead, FormSort, parameter, fields, groups, tops, Form, plain, compound, noField, field, noGroup, group, lastTop, moreTops, printForm, Level, topLevel, fieldLevel, RangeAllowed, HeadAllowed, Allowed, Fits}
 use Rattle.reading_rules.specs.Record.{Up, top, under}
-use Rattle.definition_rules.specs.Declarations.{Declaration, declaration, countForm, declare, treeDeclarations, Spots, spotsOf, cardSpot, tagSpot, Noted, noted, BodyMode, inFields, groupOpened, inGroup, groupsClosed, Frame, frame, Stage, afterName, afterCard, afterTag, afterPlugin, Phase, atStart, dueSemicolon, afterType, dueRange, dueRangeEnd, dueName, inHeading, dueCard, dueTag, dueCardEnd, Action, stop, move, note, allow, withCard, withTag, withPlugin, takesField, takesClose, takesGroupEnd, isExtension, afterField, fieldDone, parentOf, extensionOf, isInBody, startRun, startMark, headingEnd, headingRun, headingMark, step, Outcome, stuckAt, complete, mapOutcome, endIf, atEnd, parse, parseTokens, declarationsOf}
+use Rattle.definition_rules.specs.Declarations.{Declaration, declaration, countForm, declare, treeDeclarations, Spots, spotsOf, cardSpot, tagSpot, Noted, noted, BodyMode, inFields, groupOpened, inGroup, groupsClosed, Frame, frame, Stage, afterName, afterCard, afterTag, afterPlugin, Phase, atStart, dueSemicolon, afterType, dueRange, dueRangeEnd, dueName, inHeading, dueCard, dueTag, dueCardEnd, Action, stop, move, note, allow, withCard, withTag, withPlugin, takesField, takesClose, takesGroupEnd, isExtension, afterField, fieldDone, parentOf, isUnderExtension, isInBody, startRun, startMark, headingEnd, headingRun, headingMark, step, Outcome, stuckAt, complete, mapOutcome, endIf, atEnd, parseForms, parseTokens, declarationsOf}
 use Rattle.definition_rules.proofs.FirstFault.{Either, left, right}
 
 -- ---- what can follow where a parameter can start: n is the number of the next declaration
 
-unfoldable pub After : List Frame → ℕ → List Token → List Declaration → Type 0
+unfoldable pub After : List Frame → ℕ → List TextToken → List Declaration → Type 0
 After [] n ts ds = Either ((1 ≤ n) × (ts ≡ []) × (ds ≡ [])) ((d : Form tops) × Allowed topLevel d × (printForm d [] ≡ ts) × (declare d top false n [] ≡ ds))
 After (frame p inFields ∷ σ) n ts ds =
-    (f : Form fields) × (g : Form groups) × Allowed fieldLevel f × Allowed fieldLevel g × (r : List Token) × (es : List Declaration) × (m : ℕ)
+    (f : Form fields) × (g : Form groups) × Allowed fieldLevel f × Allowed fieldLevel g × (r : List TextToken) × (es : List Declaration) × (m : ℕ)
     × (printForm f (printForm g (mark 125 ∷ mark 59 ∷ r)) ≡ ts)
     × (declare f (under p) false n (declare g (under p) true (n + countForm f) es) ≡ ds)
     × (m ≡ n + (countForm f + countForm g)) × After σ m r es
 After (frame p groupOpened ∷ σ) n ts ds =
-    (x : Form parameter) × (f : Form fields) × (g : Form groups) × Allowed fieldLevel x × Allowed fieldLevel f × Allowed fieldLevel g × (r : List Token) × (es : List Declaration) × (m : ℕ)
+    (x : Form parameter) × (f : Form fields) × (g : Form groups) × Allowed fieldLevel x × Allowed fieldLevel f × Allowed fieldLevel g × (r : List TextToken) × (es : List Declaration) × (m : ℕ)
     × (printForm x (printForm f (mark 93 ∷ printForm g (mark 125 ∷ mark 59 ∷ r))) ≡ ts)
     × (declare x (under p) true n (declare f (under p) true (n + countForm x) (declare g (under p) true (n + (countForm x + countForm f)) es)) ≡ ds)
     × (m ≡ n + (countForm x + (countForm f + countForm g))) × After σ m r es
 After (frame p inGroup ∷ σ) n ts ds =
-    (f : Form fields) × (g : Form groups) × Allowed fieldLevel f × Allowed fieldLevel g × (r : List Token) × (es : List Declaration) × (m : ℕ)
+    (f : Form fields) × (g : Form groups) × Allowed fieldLevel f × Allowed fieldLevel g × (r : List TextToken) × (es : List Declaration) × (m : ℕ)
     × (printForm f (mark 93 ∷ printForm g (mark 125 ∷ mark 59 ∷ r)) ≡ ts)
     × (declare f (under p) true n (declare g (under p) true (n + countForm f) es) ≡ ds)
     × (m ≡ n + (countForm f + countForm g)) × After σ m r es
 After (frame p groupsClosed ∷ σ) n ts ds =
-    (g : Form groups) × Allowed fieldLevel g × (r : List Token) × (es : List Declaration) × (m : ℕ)
+    (g : Form groups) × Allowed fieldLevel g × (r : List TextToken) × (es : List Declaration) × (m : ℕ)
     × (printForm g (mark 125 ∷ mark 59 ∷ r) ≡ ts)
     × (declare g (under p) true n es ≡ ds)
     × (m ≡ n + countForm g) × After σ m r es
 
 -- ---- what can follow a heading: `;` or `{`
 
-unfoldable pub Ends : List Frame → ℕ → Heading → List Token → List Declaration → Type 0
+unfoldable pub Ends : List Frame → ℕ → Heading → List TextToken → List Declaration → Type 0
 Ends σ n h ts ds =
-    (r : List Token) × (es : List Declaration) × (ds ≡ declaration (parentOf σ) (extensionOf σ) h ∷ es)
+    (r : List TextToken) × (es : List Declaration) × (ds ≡ declaration (parentOf σ) (isUnderExtension σ) h ∷ es)
     × Either ((mark 59 ∷ r ≡ ts) × (isCompound (typeRun h) ≡ false) × After (fieldDone σ) (suc n) r es)
     ((mark 123 ∷ r ≡ ts) × (isCompound (typeRun h) ≡ true) × After (frame n inFields ∷ fieldDone σ) (suc n) r es)
 
@@ -68,27 +68,27 @@ unfoldable pub Bare : List Frame → MaybeRun → Tag → Bool → Type 0
 Bare [] c t p = (c ≡ absent) × (t ≡ ownName) × (p ≡ false)
 Bare (f ∷ σ) c t p = Unit {0}
 
-unfoldable pub Tail : Stage → List Frame → ℕ → Heading → List Token → List Declaration → Type 0
+unfoldable pub Tail : Stage → List Frame → ℕ → Heading → List TextToken → List Declaration → Type 0
 Tail afterName σ n h ts ds =
-    (c : MaybeRun) × (t : Tag) × (p : Bool) × (us : List Token) × Bare σ c t p
+    (c : MaybeRun) × (t : Tag) × (p : Bool) × (us : List TextToken) × Bare σ c t p
     × (putCard c (putTag t (putPlugin p us)) ≡ ts) × Ends σ n (pluginOn p (tagOn t (cardOn c h))) us ds
 Tail afterCard σ n h ts ds =
-    (t : Tag) × (p : Bool) × (us : List Token) × Bare σ absent t p
+    (t : Tag) × (p : Bool) × (us : List TextToken) × Bare σ absent t p
     × (putTag t (putPlugin p us) ≡ ts) × Ends σ n (pluginOn p (tagOn t h)) us ds
-Tail afterTag σ n h ts ds = (p : Bool) × (us : List Token) × Bare σ absent ownName p × (putPlugin p us ≡ ts) × Ends σ n (pluginOn p h) us ds
+Tail afterTag σ n h ts ds = (p : Bool) × (us : List TextToken) × Bare σ absent ownName p × (putPlugin p us ≡ ts) × Ends σ n (pluginOn p h) us ds
 Tail afterPlugin σ n h ts ds = Ends σ n h ts ds
 
-unfoldable pub Rest : List Frame → ℕ → Phase → List Token → List Declaration → Type 0
+unfoldable pub Rest : List Frame → ℕ → Phase → List TextToken → List Declaration → Type 0
 Rest σ n atStart ts ds = After σ n ts ds
-Rest σ n dueSemicolon ts ds = (r : List Token) × (mark 59 ∷ r ≡ ts) × After σ n r ds
-Rest σ n (afterType y w) ts ds = (g : MaybeRun) × (v : List ℕ) × (us : List Token) × RangeAllowed w g × (putRange g (run v ∷ us) ≡ ts) × Tail afterName σ n (heading w g v absent ownName false) us ds
-Rest σ n (dueRange y w) ts ds = (u : List ℕ) × (v : List ℕ) × (us : List Token) × (run u ∷ mark 62 ∷ run v ∷ us ≡ ts) × Tail afterName σ n (heading w (given u) v absent ownName false) us ds
-Rest σ n (dueRangeEnd y g w u) ts ds = (v : List ℕ) × (us : List Token) × (mark 62 ∷ run v ∷ us ≡ ts) × Tail afterName σ n (heading w (given u) v absent ownName false) us ds
-Rest σ n (dueName y g w x) ts ds = (v : List ℕ) × (us : List Token) × (run v ∷ us ≡ ts) × Tail afterName σ n (heading w x v absent ownName false) us ds
+Rest σ n dueSemicolon ts ds = (r : List TextToken) × (mark 59 ∷ r ≡ ts) × After σ n r ds
+Rest σ n (afterType y w) ts ds = (g : MaybeRun) × (v : List ℕ) × (us : List TextToken) × RangeAllowed w g × (putRange g (run v ∷ us) ≡ ts) × Tail afterName σ n (heading w g v absent ownName false) us ds
+Rest σ n (dueRange y w) ts ds = (u : List ℕ) × (v : List ℕ) × (us : List TextToken) × (run u ∷ mark 62 ∷ run v ∷ us ≡ ts) × Tail afterName σ n (heading w (given u) v absent ownName false) us ds
+Rest σ n (dueRangeEnd y g w u) ts ds = (v : List ℕ) × (us : List TextToken) × (mark 62 ∷ run v ∷ us ≡ ts) × Tail afterName σ n (heading w (given u) v absent ownName false) us ds
+Rest σ n (dueName y g w x) ts ds = (v : List ℕ) × (us : List TextToken) × (run v ∷ us ≡ ts) × Tail afterName σ n (heading w x v absent ownName false) us ds
 Rest σ n (inHeading l s h) ts ds = Tail l σ n h ts ds
-Rest σ n (dueCard s h) ts ds = (v : List ℕ) × (us : List Token) × (run v ∷ mark 93 ∷ us ≡ ts) × Tail afterCard σ n (withCard v h) us ds
-Rest σ n (dueTag s h) ts ds = Either ((v : List ℕ) × (us : List Token) × (run v ∷ us ≡ ts) × Tail afterTag σ n (withTag (explicit v) h) us ds) ((us : List Token) × (mark 63 ∷ us ≡ ts) × Tail afterTag σ n (withTag tagless h) us ds)
-Rest σ n (dueCardEnd s h) ts ds = (us : List Token) × (mark 93 ∷ us ≡ ts) × Tail afterCard σ n h us ds
+Rest σ n (dueCard s h) ts ds = (v : List ℕ) × (us : List TextToken) × (run v ∷ mark 93 ∷ us ≡ ts) × Tail afterCard σ n (withCard v h) us ds
+Rest σ n (dueTag s h) ts ds = Either ((v : List ℕ) × (us : List TextToken) × (run v ∷ us ≡ ts) × Tail afterTag σ n (withTag (explicit v) h) us ds) ((us : List TextToken) × (mark 63 ∷ us ≡ ts) × Tail afterTag σ n (withTag tagless h) us ds)
+Rest σ n (dueCardEnd s h) ts ds = (us : List TextToken) × (mark 93 ∷ us ≡ ts) × Tail afterCard σ n h us ds
 
 -- ---- a parameter in front
 
@@ -100,8 +100,8 @@ Stands (frame p m ∷ σ) x = (takesField m ≡ true) × Allowed fieldLevel x
 bool-no : {X : Type 0} → _≡_ {A = Bool} false true → X
 bool-no e = let x : _≡_ {A = ℕ} 0 1 = cc in absurd (omega arith)
 
-in-front : (σ : List Frame) (n m : ℕ) (x : Form parameter) (r : List Token) (es : List Declaration) → Stands σ x → m ≡ n + countForm x → After (fieldDone σ) m r es → After σ n (printForm x r) (declare x (parentOf σ) (extensionOf σ) n es)
-unfolding After Stands fieldDone afterField parentOf extensionOf isExtension takesField printForm declare countForm Allowed
+in-front : (σ : List Frame) (n m : ℕ) (x : Form parameter) (r : List TextToken) (es : List Declaration) → Stands σ x → m ≡ n + countForm x → After (fieldDone σ) m r es → After σ n (printForm x r) (declare x (parentOf σ) (isUnderExtension σ) n es)
+unfolding After Stands fieldDone afterField parentOf isUnderExtension isExtension takesField printForm declare countForm Allowed
 in-front [] n m x r es s e (left a) = right (lastTop x, s, ap (printForm x) (sym (a .1)), ap (declare x top false n) (sym (a .2)))
 in-front [] n m x r es s e (right a) = right (moreTops x (a .0), (s, a .1), ap (printForm x) (a .2), ap (declare x top false n) (ap (λ q. declare (a .0) top false q []) (sym e) ∙ a .3))
 in-front (frame p inFields ∷ σ) n m x r es s e a = (
@@ -147,7 +147,7 @@ in-front (frame p inGroup ∷ σ) n m x r es s e a = (
 )
 in-front (frame p groupsClosed ∷ σ) n m x r es s e a = bool-no (s .0)
 
-after-as : (σ : List Frame) (n : ℕ) (ts us : List Token) (ds es : List Declaration) → ts ≡ us → ds ≡ es → After σ n ts ds → After σ n us es
+after-as : (σ : List Frame) (n : ℕ) (ts us : List TextToken) (ds es : List Declaration) → ts ≡ us → ds ≡ es → After σ n ts ds → After σ n us es
 after-as σ n ts us ds es p q a = rw (← p, ← q) a
 
 -- ---- a heading and what ends it is a parameter
@@ -186,7 +186,7 @@ unfolding Begins Stands level
 stands [] w x b a = a
 stands (frame q m ∷ σ) w x b a = (b, a)
 
-parameter-front : (σ : List Frame) (n : ℕ) (w : List ℕ) (h : Heading) (us : List Token) (ds : List Declaration) → Begins σ w → HeadAllowed (level σ) h → Ends σ n h us ds → After σ n (putHead h us) ds
+parameter-front : (σ : List Frame) (n : ℕ) (w : List ℕ) (h : Heading) (us : List TextToken) (ds : List Declaration) → Begins σ w → HeadAllowed (level σ) h → Ends σ n h us ds → After σ n (putHead h us) ds
 unfolding Ends
 parameter-front σ n w h us ds b a e = by (e .3)
   where
@@ -197,16 +197,16 @@ parameter-front σ n w h us ds b a e = by (e .3)
     by (right z) = inside z (unfold After in (z .2))
       where
         inside : (z : (mark 123 ∷ e .0 ≡ us) × (isCompound (typeRun h) ≡ true) × After (frame n inFields ∷ fieldDone σ) (suc n) (e .0) (e .1))
-            → (f : Form fields) × (g : Form groups) × Allowed fieldLevel f × Allowed fieldLevel g × (r : List Token) × (es : List Declaration) × (m : ℕ)
+            → (f : Form fields) × (g : Form groups) × Allowed fieldLevel f × Allowed fieldLevel g × (r : List TextToken) × (es : List Declaration) × (m : ℕ)
             × (printForm f (printForm g (mark 125 ∷ mark 59 ∷ r)) ≡ e .0)
             × (declare f (under n) false (suc n) (declare g (under n) true (suc n + countForm f) es) ≡ e .1)
             × (m ≡ suc n + (countForm f + countForm g)) × After (fieldDone σ) m r es
             → After σ n (putHead h us) ds
         inside z y =
-            after-as σ n _ _ _ _ (ap (λ q. putHead h (mark 123 ∷ q)) (y .7) ∙ ap (putHead h) (z .0)) (ap (λ q. declaration (parentOf σ) (extensionOf σ) h ∷ q) (y .8) ∙ sym (e .2))
+            after-as σ n _ _ _ _ (ap (λ q. putHead h (mark 123 ∷ q)) (y .7) ∙ ap (putHead h) (z .0)) (ap (λ q. declaration (parentOf σ) (isUnderExtension σ) h ∷ q) (y .8) ∙ sym (e .2))
             (unfold printForm declare countForm Allowed in (in-front σ n (y .6) (compound h (y .0) (y .1)) (y .4) (y .5) (stands σ w (compound h (y .0) (y .1)) b (a, z .1, y .2, y .3)) (omega (arith, y .9)) (y .10)))
 
-begin : (σ : List Frame) (n y : ℕ) (w : List ℕ) (xs : List Token) (ds : List Declaration) → Begins σ w → Rest σ n (afterType y w) xs ds → After σ n (run w ∷ xs) ds
+begin : (σ : List Frame) (n y : ℕ) (w : List ℕ) (xs : List TextToken) (ds : List Declaration) → Begins σ w → Rest σ n (afterType y w) xs ds → After σ n (run w ∷ xs) ds
 unfolding Rest Tail putHead
 begin σ n y w xs ds b z =
     let t = z .5 in
@@ -216,17 +216,17 @@ begin σ n y w xs ds b z =
 
 -- ---- each step backwards
 
-unfoldable Back : List Frame → ℕ → Phase → Token → List Token → Action → Type 0
+unfoldable Back : List Frame → ℕ → Phase → TextToken → List TextToken → Action → Type 0
 Back σ n p x xs stop = Unit {0}
 Back σ n p x xs (move τ q) = (ds : List Declaration) → Rest τ n q xs ds → Rest σ n p (x ∷ xs) ds
 Back σ n p x xs (note (noted s d) τ q) = (ds : List Declaration) → Rest τ (suc n) q xs ds → Rest σ n p (x ∷ xs) (d ∷ ds)
 
-allow-back : (σ : List Frame) (n : ℕ) (p : Phase) (x : Token) (xs : List Token) (b : Bool) (a : Action) → (b ≡ true → Back σ n p x xs a) → Back σ n p x xs (allow b a)
+allow-back : (σ : List Frame) (n : ℕ) (p : Phase) (x : TextToken) (xs : List TextToken) (b : Bool) (a : Action) → (b ≡ true → Back σ n p x xs a) → Back σ n p x xs (allow b a)
 unfolding allow Back
 allow-back σ n p x xs true a f = f refl
 allow-back σ n p x xs false a f = tt
 
-pick-back : (σ : List Frame) (n : ℕ) (p : Phase) (x : Token) (xs : List Token) (b : Bool) (a c : Action) → (b ≡ true → Back σ n p x xs a) → Back σ n p x xs c → Back σ n p x xs (pick b a c)
+pick-back : (σ : List Frame) (n : ℕ) (p : Phase) (x : TextToken) (xs : List TextToken) (b : Bool) (a c : Action) → (b ≡ true → Back σ n p x xs a) → Back σ n p x xs c → Back σ n p x xs (pick b a c)
 unfolding pick
 pick-back σ n p x xs true a c f g = f refl
 pick-back σ n p x xs false a c f g = g
@@ -252,11 +252,11 @@ unfolding Bare
 bare [] = (refl, refl, refl)
 bare (f ∷ σ) = tt
 
-is-mark : (m n : ℕ) (r : List Token) → eqb n m ≡ true → mark m ∷ r ≡ mark n ∷ r
+is-mark : (m n : ℕ) (r : List TextToken) → eqb n m ≡ true → mark m ∷ r ≡ mark n ∷ r
 is-mark m n r e = ap (λ q. mark q ∷ r) (sym (eqb-true n m e))
 
 -- the end of a heading
-end-back : (σ : List Frame) (n : ℕ) (s : Spots) (h : Heading) (m : ℕ) (p : Phase) (xs : List Token) → ((ds : List Declaration) → Ends σ n h (mark m ∷ xs) ds → Rest σ n p (mark m ∷ xs) ds) → Back σ n p (mark m) xs (headingEnd σ n s h m)
+end-back : (σ : List Frame) (n : ℕ) (s : Spots) (h : Heading) (m : ℕ) (p : Phase) (xs : List TextToken) → ((ds : List Declaration) → Ends σ n h (mark m ∷ xs) ds → Rest σ n p (mark m ∷ xs) ds) → Back σ n p (mark m) xs (headingEnd σ n s h m)
 unfolding headingEnd Back Rest
 end-back σ n s h m p xs f =
     pick-back σ n p (mark m) xs (eqb m 59) _ _
@@ -264,28 +264,28 @@ end-back σ n s h m p xs f =
     (allow-back σ n p (mark m) xs (eqb m 123 && isCompound (typeRun h)) _ (λ c ds a. let y = and-both (eqb m 123) (isCompound (typeRun h)) c in f _ (unfold Ends in (xs, ds, refl, right (is-mark 123 m xs (y .0), y .1, a)))))
 
 -- an end from each stage
-ends-tail : (l : Stage) (σ : List Frame) (n : ℕ) (h : Heading) (ts : List Token) (ds : List Declaration) → Ends σ n h ts ds → Tail l σ n h ts ds
+ends-tail : (l : Stage) (σ : List Frame) (n : ℕ) (h : Heading) (ts : List TextToken) (ds : List Declaration) → Ends σ n h ts ds → Tail l σ n h ts ds
 unfolding Tail putCard putTag putPlugin pluginOn tagOn cardOn
 ends-tail afterName σ n h ts ds e = (absent, ownName, false, ts, bare σ, refl, e)
 ends-tail afterCard σ n h ts ds e = (ownName, false, ts, bare σ, refl, e)
 ends-tail afterTag σ n h ts ds e = (false, ts, bare σ, refl, e)
 ends-tail afterPlugin σ n h ts ds e = e
 
-module _ (σ : List Frame) (n : ℕ) (s : Spots) (h : Heading) (w : List ℕ) (xs : List Token) where
+module _ (σ : List Frame) (n : ℕ) (s : Spots) (h : Heading) (w : List ℕ) (xs : List TextToken) where
   plugin-back : (l : Stage) → ((ds : List Declaration) → isInBody σ ≡ true → run kwPlugin ∷ xs ≡ run w ∷ xs → Ends σ n (withPlugin h) xs ds → Tail l σ n h (run w ∷ xs) ds) → Back σ n (inHeading l s h) (run w) xs (allow (sameBytes w kwPlugin && isInBody σ) (move σ (inHeading afterPlugin s (withPlugin h))))
   plugin-back l f = allow-back σ n (inHeading l s h) (run w) xs (sameBytes w kwPlugin && isInBody σ) _ (λ e. unfold Back Rest in (λ ds z. let y = and-both (sameBytes w kwPlugin) (isInBody σ) e in f ds (y .1) (ap (λ q. run q ∷ xs) (sym (same-true w kwPlugin (y .0)))) (unfold Tail in z)))
 
-  as-back : (l : Stage) → ((t : Tag) (p : Bool) (us : List Token) (ds : List Declaration) → isInBody σ ≡ true → putTag t (putPlugin p us) ≡ run w ∷ xs → Ends σ n (pluginOn p (tagOn t h)) us ds → Tail l σ n h (run w ∷ xs) ds) → sameBytes w kwAs ≡ true → Back σ n (inHeading l s h) (run w) xs (allow (isInBody σ) (move σ (dueTag s h)))
+  as-back : (l : Stage) → ((t : Tag) (p : Bool) (us : List TextToken) (ds : List Declaration) → isInBody σ ≡ true → putTag t (putPlugin p us) ≡ run w ∷ xs → Ends σ n (pluginOn p (tagOn t h)) us ds → Tail l σ n h (run w ∷ xs) ds) → sameBytes w kwAs ≡ true → Back σ n (inHeading l s h) (run w) xs (allow (isInBody σ) (move σ (dueTag s h)))
   as-back l f e = allow-back σ n (inHeading l s h) (run w) xs (isInBody σ) _ (λ b. unfold Back Rest in (λ ds z. by ds b z))
     where
-      by : (ds : List Declaration) → isInBody σ ≡ true → Either ((v : List ℕ) × (us : List Token) × (run v ∷ us ≡ xs) × Tail afterTag σ n (withTag (explicit v) h) us ds) ((us : List Token) × (mark 63 ∷ us ≡ xs) × Tail afterTag σ n (withTag tagless h) us ds) → Tail l σ n h (run w ∷ xs) ds
+      by : (ds : List Declaration) → isInBody σ ≡ true → Either ((v : List ℕ) × (us : List TextToken) × (run v ∷ us ≡ xs) × Tail afterTag σ n (withTag (explicit v) h) us ds) ((us : List TextToken) × (mark 63 ∷ us ≡ xs) × Tail afterTag σ n (withTag tagless h) us ds) → Tail l σ n h (run w ∷ xs) ds
       by ds b (left z) = go (unfold Tail in (z .3))
         where
-          go : (p : Bool) × (us : List Token) × Bare σ absent ownName p × (putPlugin p us ≡ z .1) × Ends σ n (pluginOn p (withTag (explicit (z .0)) h)) us ds → Tail l σ n h (run w ∷ xs) ds
+          go : (p : Bool) × (us : List TextToken) × Bare σ absent ownName p × (putPlugin p us ≡ z .1) × Ends σ n (pluginOn p (withTag (explicit (z .0)) h)) us ds → Tail l σ n h (run w ∷ xs) ds
           go y = f (explicit (z .0)) (y .0) (y .1) ds b (unfold putTag in (ap (λ q. run kwAs ∷ run (z .0) ∷ q) (y .3) ∙ (ap (λ q. run kwAs ∷ q) (z .2) ∙ ap (λ q. run q ∷ xs) (sym (same-true w kwAs e))))) (unfold tagOn in (y .4))
       by ds b (right z) = go (unfold Tail in (z .2))
         where
-          go : (p : Bool) × (us : List Token) × Bare σ absent ownName p × (putPlugin p us ≡ z .0) × Ends σ n (pluginOn p (withTag tagless h)) us ds → Tail l σ n h (run w ∷ xs) ds
+          go : (p : Bool) × (us : List TextToken) × Bare σ absent ownName p × (putPlugin p us ≡ z .0) × Ends σ n (pluginOn p (withTag tagless h)) us ds → Tail l σ n h (run w ∷ xs) ds
           go y = f tagless (y .0) (y .1) ds b (unfold putTag in (ap (λ q. run kwAs ∷ mark 63 ∷ q) (y .3) ∙ (ap (λ q. run kwAs ∷ q) (z .1) ∙ ap (λ q. run q ∷ xs) (sym (same-true w kwAs e))))) (unfold tagOn in (y .4))
 
   run-back : (l : Stage) → Back σ n (inHeading l s h) (run w) xs (headingRun σ l s h w)
@@ -299,7 +299,7 @@ module _ (σ : List Frame) (n : ℕ) (s : Spots) (h : Heading) (w : List ℕ) (x
   run-back afterTag = plugin-back afterTag (λ ds b e z. (true, xs, in-body σ absent ownName true b, e, z))
   run-back afterPlugin = unfold Back in tt
 
-mark-back : (σ : List Frame) (n : ℕ) (s : Spots) (h : Heading) (m : ℕ) (xs : List Token) (l : Stage) → Back σ n (inHeading l s h) (mark m) xs (headingMark σ l n s h m)
+mark-back : (σ : List Frame) (n : ℕ) (s : Spots) (h : Heading) (m : ℕ) (xs : List TextToken) (l : Stage) → Back σ n (inHeading l s h) (mark m) xs (headingMark σ l n s h m)
 unfolding headingMark
 mark-back σ n s h m xs afterName = pick-back σ n (inHeading afterName s h) (mark m) xs (eqb m 91) _ _
     (λ e. allow-back σ n (inHeading afterName s h) (mark m) xs (isInBody σ) (move σ (dueCard s h)) (λ b. unfold Back Rest Tail in (λ ds z. let t = z .3 in (given (z .0), t .0, t .1, t .2, in-body σ (given (z .0)) (t .0) (t .1) b, unfold putCard in (ap (λ q. mark 91 ∷ run (z .0) ∷ mark 93 ∷ q) (t .4) ∙ (ap (λ q. mark 91 ∷ q) (z .2) ∙ is-mark 91 m xs e)), unfold cardOn in (t .5)))))
@@ -309,28 +309,28 @@ mark-back σ n s h m xs afterTag = end-back σ n s h m (inHeading afterTag s h) 
 mark-back σ n s h m xs afterPlugin = end-back σ n s h m (inHeading afterPlugin s h) xs (λ ds z. unfold Rest in (ends-tail afterPlugin σ n h (mark m ∷ xs) ds z))
 
 -- bodies close, groups open and close
-close-after : (p : ℕ) (m : BodyMode) (σ : List Frame) (n : ℕ) (r : List Token) (ds : List Declaration) → takesClose m ≡ true → After σ n r ds → After (frame p m ∷ σ) n (mark 125 ∷ mark 59 ∷ r) ds
+close-after : (p : ℕ) (m : BodyMode) (σ : List Frame) (n : ℕ) (r : List TextToken) (ds : List Declaration) → takesClose m ≡ true → After σ n r ds → After (frame p m ∷ σ) n (mark 125 ∷ mark 59 ∷ r) ds
 unfolding After takesClose printForm declare countForm Allowed
 close-after p inFields σ n r ds e a = (noField, noGroup, tt, tt, r, ds, n, refl, refl, omega arith, a)
 close-after p groupOpened σ n r ds e a = bool-no e
 close-after p inGroup σ n r ds e a = bool-no e
 close-after p groupsClosed σ n r ds e a = (noGroup, tt, r, ds, n, refl, refl, omega arith, a)
 
-open-after : (p : ℕ) (m : BodyMode) (σ : List Frame) (n : ℕ) (r : List Token) (ds : List Declaration) → takesClose m ≡ true → After (frame p groupOpened ∷ σ) n r ds → After (frame p m ∷ σ) n (mark 91 ∷ r) ds
+open-after : (p : ℕ) (m : BodyMode) (σ : List Frame) (n : ℕ) (r : List TextToken) (ds : List Declaration) → takesClose m ≡ true → After (frame p groupOpened ∷ σ) n r ds → After (frame p m ∷ σ) n (mark 91 ∷ r) ds
 unfolding After takesClose printForm declare countForm Allowed
 open-after p inFields σ n r ds e a = (noField, group (a .0) (a .1) (a .2), tt, (a .3, a .4, a .5), a .6, a .7, a .8, ap (λ q. mark 91 ∷ q) (a .9), ap (λ q. declare (a .0) (under p) true q (declare (a .1) (under p) true (q + countForm (a .0)) (declare (a .2) (under p) true (q + (countForm (a .0) + countForm (a .1))) (a .7)))) (omega arith) ∙ a .10, omega (arith, a .11), a .12)
 open-after p groupOpened σ n r ds e a = bool-no e
 open-after p inGroup σ n r ds e a = bool-no e
 open-after p groupsClosed σ n r ds e a = (group (a .0) (a .1) (a .2), (a .3, a .4, a .5), a .6, a .7, a .8, ap (λ q. mark 91 ∷ q) (a .9), a .10, a .11, a .12)
 
-end-group-after : (p : ℕ) (m : BodyMode) (σ : List Frame) (n : ℕ) (r : List Token) (ds : List Declaration) → takesGroupEnd m ≡ true → After (frame p groupsClosed ∷ σ) n r ds → After (frame p m ∷ σ) n (mark 93 ∷ r) ds
+end-group-after : (p : ℕ) (m : BodyMode) (σ : List Frame) (n : ℕ) (r : List TextToken) (ds : List Declaration) → takesGroupEnd m ≡ true → After (frame p groupsClosed ∷ σ) n r ds → After (frame p m ∷ σ) n (mark 93 ∷ r) ds
 unfolding After takesGroupEnd printForm declare countForm Allowed
 end-group-after p inFields σ n r ds e a = bool-no e
 end-group-after p groupOpened σ n r ds e a = bool-no e
 end-group-after p inGroup σ n r ds e a = (noField, a .0, tt, a .1, a .2, a .3, a .4, ap (λ q. mark 93 ∷ q) (a .5), ap (λ q. declare (a .0) (under p) true q (a .3)) (omega arith) ∙ a .6, omega (arith, a .7), a .8)
 end-group-after p groupsClosed σ n r ds e a = bool-no e
 
-start-mark-back : (σ : List Frame) (n m : ℕ) (xs : List Token) → Back σ n atStart (mark m) xs (startMark σ m)
+start-mark-back : (σ : List Frame) (n m : ℕ) (xs : List TextToken) → Back σ n atStart (mark m) xs (startMark σ m)
 unfolding startMark
 start-mark-back [] n m xs = unfold Back in tt
 start-mark-back (frame p b ∷ σ) n m xs =
@@ -340,12 +340,12 @@ start-mark-back (frame p b ∷ σ) n m xs =
     (λ e. allow-back (frame p b ∷ σ) n atStart (mark m) xs (takesClose b) (move (frame p groupOpened ∷ σ) atStart) (λ c. unfold Back Rest in (λ ds z. after-as (frame p b ∷ σ) n _ _ ds ds (is-mark 91 m xs e) refl (open-after p b σ n xs ds c z))))
     (allow-back (frame p b ∷ σ) n atStart (mark m) xs (eqb m 93 && takesGroupEnd b) (move (frame p groupsClosed ∷ σ) atStart) (λ c. unfold Back Rest in (λ ds z. let y = and-both (eqb m 93) (takesGroupEnd b) c in after-as (frame p b ∷ σ) n _ _ ds ds (is-mark 93 m xs (y .0)) refl (end-group-after p b σ n xs ds (y .1) z)))))
 
-start-run-back : (σ : List Frame) (n i : ℕ) (w : List ℕ) (xs : List Token) → Back σ n atStart (run w) xs (startRun σ i w)
+start-run-back : (σ : List Frame) (n i : ℕ) (w : List ℕ) (xs : List TextToken) → Back σ n atStart (run w) xs (startRun σ i w)
 unfolding startRun
 start-run-back [] n i w xs = allow-back [] n atStart (run w) xs (not (isReference w)) _ (λ e. unfold Back in (λ ds z. unfold Rest in (begin [] n i w xs ds (unfold Begins in (not-true (isReference w) e)) z)))
 start-run-back (frame p m ∷ σ) n i w xs = allow-back (frame p m ∷ σ) n atStart (run w) xs (takesField m) _ (λ e. unfold Back in (λ ds z. unfold Rest in (begin (frame p m ∷ σ) n i w xs ds (unfold Begins in e) z)))
 
-step-back : (σ : List Frame) (n i : ℕ) (p : Phase) (x : Token) (xs : List Token) → Back σ n p x xs (step σ n i p x)
+step-back : (σ : List Frame) (n i : ℕ) (p : Phase) (x : TextToken) (xs : List TextToken) → Back σ n p x xs (step σ n i p x)
 unfolding step
 step-back σ n i atStart (run w) xs = start-run-back σ n i w xs
 step-back σ n i atStart (mark m) xs = start-mark-back σ n m xs
@@ -396,25 +396,25 @@ end-rest [] n i (dueTag s h) ns e = stuck-complete e
 end-rest [] n i (dueCardEnd s h) ns e = stuck-complete e
 end-rest (f ∷ σ) n i p ns e = stuck-complete e
 
-abbrev pub Sound : List Token → Type 0
-Sound xs = (σ : List Frame) (n i : ℕ) (p : Phase) (ns : List Noted) → parse σ n i p xs ≡ complete ns → Rest σ n p xs (declarationsOf ns)
+abbrev pub Sound : List TextToken → Type 0
+Sound xs = (σ : List Frame) (n i : ℕ) (p : Phase) (ns : List Noted) → parseForms σ n i p xs ≡ complete ns → Rest σ n p xs (declarationsOf ns)
 
-sound-step : (x : Token) (xs : List Token) → Sound xs → Sound (x ∷ xs)
-unfolding parse
+sound-step : (x : TextToken) (xs : List TextToken) → Sound xs → Sound (x ∷ xs)
+unfolding parseForms
 sound-step x xs f σ n i p ns e = by (step σ n i p x) refl (step-back σ n i p x xs)
   where
     by : (a : Action) → step σ n i p x ≡ a → Back σ n p x xs a → Rest σ n p (x ∷ xs) (declarationsOf ns)
-    by stop q b = stuck-complete (rw (q, parse) at e)
-    by (move τ r) q b = unfold Back in (b (declarationsOf ns) (f τ n (suc i) r ns (rw (q, parse) at e)))
-    by (note (noted s d) τ r) q b = map-complete (λ l. noted s d ∷ l) (parse τ (suc n) (suc i) r xs) (rw (q, parse) at e) (λ l e1 e2. rw (← e2) (unfold Back declarationsOf in (b (declarationsOf l) (f τ (suc n) (suc i) r l e1))))
+    by stop q b = stuck-complete (rw (q, parseForms) at e)
+    by (move τ r) q b = unfold Back in (b (declarationsOf ns) (f τ n (suc i) r ns (rw (q, parseForms) at e)))
+    by (note (noted s d) τ r) q b = map-complete (λ l. noted s d ∷ l) (parseForms τ (suc n) (suc i) r xs) (rw (q, parseForms) at e) (λ l e1 e2. rw (← e2) (unfold Back declarationsOf in (b (declarationsOf l) (f τ (suc n) (suc i) r l e1))))
 
-pub parse-sound : (xs : List Token) → Sound xs
-unfolding parse
+pub parse-sound : (xs : List TextToken) → Sound xs
+unfolding parseForms
 parse-sound [] σ n i p ns e = end-rest σ n i p ns e
 parse-sound (x ∷ xs) σ n i p ns e = sound-step x xs (parse-sound xs) σ n i p ns e
 
 -- tokens that are read fit: a tree prints to them, and the declarations are the tree's
-pub complete-fits : (ts : List Token) (ns : List Noted) → parseTokens ts ≡ complete ns → (f : Fits ts) × (treeDeclarations (f .0) ≡ declarationsOf ns)
+pub complete-fits : (ts : List TextToken) (ns : List Noted) → parseTokens ts ≡ complete ns → (f : Fits ts) × (treeDeclarations (f .0) ≡ declarationsOf ns)
 complete-fits ts ns e = by (unfold Rest After in (parse-sound ts [] 0 0 atStart ns e))
   where
     by : Either ((1 ≤ 0) × (ts ≡ []) × (declarationsOf ns ≡ [])) ((d : Form tops) × Allowed topLevel d × (printForm d [] ≡ ts) × (declare d top false 0 [] ≡ declarationsOf ns)) → (f : Fits ts) × (treeDeclarations (f .0) ≡ declarationsOf ns)

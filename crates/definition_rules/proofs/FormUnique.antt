@@ -5,22 +5,22 @@ use mathlib.Core.List.{List, [], _∷_}
 use Prim.Native.Nat.{ℕ, zero, suc}
 use native.Mathlib.Omega.{arith}
 use Rattle.definition_rules.specs.Words.{kwAs, kwPlugin}
-use Rattle.definition_rules.specs.Scan.{Token, run, mark}
-use Rattle.definition_rules.specs.Forms.{MaybeRun, absent, given, Tag, ownName, tagless, explicit, Heading, heading, putRange, putCard, putTag, putPlugin, putHead, Sort, parameter, fields, groups, tops, Form, plain, compound, noField, field, noGroup, group, lastTop, moreTops, printForm}
+use Rattle.definition_rules.specs.Scan.{TextToken, run, mark}
+use Rattle.definition_rules.specs.Forms.{MaybeRun, absent, given, Tag, ownName, tagless, explicit, Heading, heading, putRange, putCard, putTag, putPlugin, putHead, FormSort, parameter, fields, groups, tops, Form, plain, compound, noField, field, noGroup, group, lastTop, moreTops, printForm}
 
-run-mark : {X : Type 0} {w : List ℕ} {n : ℕ} {r s : List Token} → run w ∷ r ≡ mark n ∷ s → X
+run-mark : {X : Type 0} {w : List ℕ} {n : ℕ} {r s : List TextToken} → run w ∷ r ≡ mark n ∷ s → X
 run-mark e = let z : _≡_ {A = ℕ} 0 1 = cc in absurd (omega arith)
 
-run-run : (v w : List ℕ) (r s : List Token) → run v ∷ r ≡ run w ∷ s → (v ≡ w) × (r ≡ s)
+run-run : (v w : List ℕ) (r s : List TextToken) → run v ∷ r ≡ run w ∷ s → (v ≡ w) × (r ≡ s)
 run-run v w r s e = let x : v ≡ w = cc in let y : r ≡ s = cc in (x, y)
 
-mark-mark : (m n : ℕ) (r s : List Token) → mark m ∷ r ≡ mark n ∷ s → (m ≡ n) × (r ≡ s)
+mark-mark : (m n : ℕ) (r s : List TextToken) → mark m ∷ r ≡ mark n ∷ s → (m ≡ n) × (r ≡ s)
 mark-mark m n r s e = let x : m ≡ n = cc in let y : r ≡ s = cc in (x, y)
 
-words-differ : {X : Type 0} {r s : List Token} → run kwPlugin ∷ r ≡ run kwAs ∷ s → X
+words-differ : {X : Type 0} {r s : List TextToken} → run kwPlugin ∷ r ≡ run kwAs ∷ s → X
 words-differ e = let z : _≡_ {A = ℕ} 112 97 = cc in absurd (omega arith)
 
-module _ (a b : ℕ) (r s : List Token) where
+module _ (a b : ℕ) (r s : List TextToken) where
   same-plugin : (p q : Bool) → putPlugin p (mark a ∷ r) ≡ putPlugin q (mark b ∷ s) → (p ≡ q) × (mark a ∷ r ≡ mark b ∷ s)
   unfolding putPlugin
   same-plugin false false e = (refl, e)
@@ -28,12 +28,12 @@ module _ (a b : ℕ) (r s : List Token) where
   same-plugin true false e = run-mark e
   same-plugin true true e = (refl, run-run kwPlugin kwPlugin (mark a ∷ r) (mark b ∷ s) e .1)
 
-  no-as : {X : Type 0} (p : Bool) {u : List Token} → putPlugin p (mark a ∷ r) ≡ run kwAs ∷ u → X
+  no-as : {X : Type 0} (p : Bool) {u : List TextToken} → putPlugin p (mark a ∷ r) ≡ run kwAs ∷ u → X
   unfolding putPlugin
   no-as false e = run-mark (sym e)
   no-as true e = words-differ e
 
-  as-no : {X : Type 0} (q : Bool) {u : List Token} → run kwAs ∷ u ≡ putPlugin q (mark b ∷ s) → X
+  as-no : {X : Type 0} (q : Bool) {u : List TextToken} → run kwAs ∷ u ≡ putPlugin q (mark b ∷ s) → X
   unfolding putPlugin
   as-no false e = run-mark e
   as-no true e = words-differ (sym e)
@@ -50,14 +50,14 @@ module _ (a b : ℕ) (r s : List Token) where
   same-tag (explicit v) tagless p q e = run-mark (run-run kwAs kwAs _ _ e .1)
   same-tag (explicit v) (explicit w) p q e = let x = run-run v w _ _ (run-run kwAs kwAs _ _ e .1) in (ap explicit (x .0), x .1)
 
-  no-bracket : {X : Type 0} (t : Tag) (p : Bool) {u : List Token} → (a ≡ 91 → ⊥) → putTag t (putPlugin p (mark a ∷ r)) ≡ mark 91 ∷ u → X
+  no-bracket : {X : Type 0} (t : Tag) (p : Bool) {u : List TextToken} → (a ≡ 91 → ⊥) → putTag t (putPlugin p (mark a ∷ r)) ≡ mark 91 ∷ u → X
   unfolding putTag putPlugin
   no-bracket ownName false {u} h e = absurd (h (mark-mark a 91 r u e .0))
   no-bracket ownName true h e = run-mark e
   no-bracket tagless p h e = run-mark e
   no-bracket (explicit v) p h e = run-mark e
 
-  bracket-no : {X : Type 0} (t : Tag) (p : Bool) {u : List Token} → (b ≡ 91 → ⊥) → mark 91 ∷ u ≡ putTag t (putPlugin p (mark b ∷ s)) → X
+  bracket-no : {X : Type 0} (t : Tag) (p : Bool) {u : List TextToken} → (b ≡ 91 → ⊥) → mark 91 ∷ u ≡ putTag t (putPlugin p (mark b ∷ s)) → X
   unfolding putTag putPlugin
   bracket-no ownName false {u} h e = absurd (h (sym (mark-mark 91 b u s e .0)))
   bracket-no ownName true h e = run-mark (sym e)
@@ -71,7 +71,7 @@ module _ (a b : ℕ) (r s : List Token) where
   same-card (given v) absent t u p q h k e = bracket-no u q k e
   same-card (given v) (given w) t u p q h k e = let x = run-run v w _ _ (mark-mark 91 91 _ _ e .1) in (ap given (x .0), mark-mark 93 93 _ _ (x .1) .1)
 
-same-range : (g h : MaybeRun) (v w : List ℕ) (r s : List Token) → putRange g (run v ∷ r) ≡ putRange h (run w ∷ s) → (g ≡ h) × (v ≡ w) × (r ≡ s)
+same-range : (g h : MaybeRun) (v w : List ℕ) (r s : List TextToken) → putRange g (run v ∷ r) ≡ putRange h (run w ∷ s) → (g ≡ h) × (v ≡ w) × (r ≡ s)
 unfolding putRange
 same-range absent absent v w r s e = let x = run-run v w r s e in (refl, x .0, x .1)
 same-range absent (given y) v w r s e = run-mark e
@@ -81,7 +81,7 @@ same-range (given x) (given y) v w r s e =
     let b = run-run v w r s (mark-mark 62 62 _ _ (a .1) .1) in
     (ap given (a .0), b .0, b .1)
 
-same-head : (h k : Heading) (a b : ℕ) (r s : List Token) → (a ≡ 91 → ⊥) → (b ≡ 91 → ⊥) → putHead h (mark a ∷ r) ≡ putHead k (mark b ∷ s) → (h ≡ k) × (a ≡ b) × (r ≡ s)
+same-head : (h k : Heading) (a b : ℕ) (r s : List TextToken) → (a ≡ 91 → ⊥) → (b ≡ 91 → ⊥) → putHead h (mark a ∷ r) ≡ putHead k (mark b ∷ s) → (h ≡ k) × (a ≡ b) × (r ≡ s)
 unfolding putHead
 same-head (heading w g n c t p) (heading w1 g1 n1 c1 t1 p1) a b r s x y e =
     let e0 = run-run w w1 _ _ e in
@@ -94,22 +94,22 @@ same-head (heading w g n c t p) (heading w1 g1 n1 c1 t1 p1) a b r s x y e =
 
 -- ---- trees, each in front of what may follow
 
-unfoldable pub StartsMark : List Token → Type 0
+unfoldable pub StartsMark : List TextToken → Type 0
 StartsMark [] = ⊥
 StartsMark (run w ∷ r) = ⊥
 StartsMark (mark n ∷ r) = Unit {0}
 
-unfoldable RunFirst : List Token → Type 0
+unfoldable RunFirst : List TextToken → Type 0
 RunFirst [] = ⊥
 RunFirst (run w ∷ r) = Unit {0}
 RunFirst (mark n ∷ r) = ⊥
 
-param-first : (x : Form parameter) (r : List Token) → RunFirst (printForm x r)
+param-first : (x : Form parameter) (r : List TextToken) → RunFirst (printForm x r)
 unfolding printForm
 param-first (plain (heading w g n c t p)) r = unfold putHead RunFirst in tt
 param-first (compound (heading w g n c t p) f g1) r = unfold putHead RunFirst in tt
 
-first-clash : {X : Type 0} (u v : List Token) → RunFirst u → StartsMark v → u ≡ v → X
+first-clash : {X : Type 0} (u v : List TextToken) → RunFirst u → StartsMark v → u ≡ v → X
 unfolding RunFirst StartsMark
 first-clash [] v h k e = absurd h
 first-clash (mark n ∷ u) v h k e = absurd h
@@ -118,14 +118,14 @@ first-clash (run w ∷ u) (run y ∷ v) h k e = absurd k
 first-clash (run w ∷ u) (mark n ∷ v) h k e = run-mark e
 
 abbrev pub SameParam : Form parameter → Type 0
-SameParam x = (y : Form parameter) (r s : List Token) → printForm x r ≡ printForm y s → (x ≡ y) × (r ≡ s)
+SameParam x = (y : Form parameter) (r s : List TextToken) → printForm x r ≡ printForm y s → (x ≡ y) × (r ≡ s)
 
 abbrev pub SameFields : Form fields → Type 0
-SameFields f = (g : Form fields) (r s : List Token) → StartsMark r → StartsMark s → printForm f r ≡ printForm g s → (f ≡ g) × (r ≡ s)
+SameFields f = (g : Form fields) (r s : List TextToken) → StartsMark r → StartsMark s → printForm f r ≡ printForm g s → (f ≡ g) × (r ≡ s)
 
 -- groups end at `}`
 abbrev pub SameGroups : Form groups → Type 0
-SameGroups f = (g : Form groups) (r s : List Token) → printForm f (mark 125 ∷ r) ≡ printForm g (mark 125 ∷ s) → (f ≡ g) × (r ≡ s)
+SameGroups f = (g : Form groups) (r s : List TextToken) → printForm f (mark 125 ∷ r) ≡ printForm g (mark 125 ∷ s) → (f ≡ g) × (r ≡ s)
 
 no-59 : _≡_ {A = ℕ} 59 91 → ⊥
 no-59 e = omega arith
@@ -133,7 +133,7 @@ no-59 e = omega arith
 no-123 : _≡_ {A = ℕ} 123 91 → ⊥
 no-123 e = omega arith
 
-group-mark : (g : Form groups) (r : List Token) → StartsMark (printForm g (mark 125 ∷ r))
+group-mark : (g : Form groups) (r : List TextToken) → StartsMark (printForm g (mark 125 ∷ r))
 unfolding printForm StartsMark
 group-mark noGroup r = tt
 group-mark (group x f g) r = tt
@@ -165,7 +165,7 @@ same-field x f X F (field y g) r s h k e =
     let b = F g r s h k (a .1) in
     (rw (a .0, b .0), b .1)
 
-shut-mark : (r : List Token) → StartsMark (mark 93 ∷ r)
+shut-mark : (r : List TextToken) → StartsMark (mark 93 ∷ r)
 unfolding StartsMark
 shut-mark r = tt
 
@@ -183,13 +183,13 @@ same-group x f g X F G (group y h k) r s e =
     let c = G k r s (mark-mark 93 93 _ _ (b .1) .1) in
     (rw (a .0, b .0, c .0), c .1)
 
-abbrev pub Same : {s : Sort} → Form s → Type 0
+abbrev pub Same : {s : FormSort} → Form s → Type 0
 Same {s = parameter} x = SameParam x
 Same {s = fields} x = SameFields x
 Same {s = groups} x = SameGroups x
 Same {s = tops} x = (y : Form tops) → printForm x [] ≡ printForm y [] → x ≡ y
 
-nil-first : {X : Type 0} (u : List Token) → RunFirst u → u ≡ [] → X
+nil-first : {X : Type 0} (u : List TextToken) → RunFirst u → u ≡ [] → X
 unfolding RunFirst
 nil-first [] h e = absurd h
 nil-first (run w ∷ u) h e = let z : _≡_ {A = ℕ} 0 1 = cc in absurd (omega arith)
@@ -210,7 +210,7 @@ unfolding printForm
 same-more x t X T (lastTop y) e = nil-first (printForm t []) (tops-first t) (X y (printForm t []) [] e .1)
 same-more x t X T (moreTops y u) e = let a = X y (printForm t []) (printForm u []) e in let b = T u (a .1) in rw (a .0, b)
 
-pub same-form : {s : Sort} (x : Form s) → Same x
+pub same-form : {s : FormSort} (x : Form s) → Same x
 same-form (plain h) = same-plain h
 same-form (compound h f g) = same-compound h f g (same-form f) (same-form g)
 same-form noField = same-nofield

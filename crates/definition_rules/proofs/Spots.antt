@@ -8,42 +8,42 @@ use lib.Dec.{eqb}
 use lib.ListN.{length, getD}
 use Rattle.classes.specs.Lists.{pick, sameBytes}
 use Rattle.definition_rules.specs.Words.{kwAs, kwPlugin, takesRange, isCompound, isReference}
-use Rattle.definition_rules.specs.Scan.{Token, run, mark}
+use Rattle.definition_rules.specs.Scan.{TextToken, run, mark}
 use Rattle.definition_rules.specs.Forms.{MaybeRun, absent, given, Tag, ownName, tagless, explicit, Heading, heading, typeRun, tagOf}
-use Rattle.definition_rules.specs.Declarations.{Declaration, declaration, Spots, spotsOf, cardSpot, tagSpot, Noted, noted, BodyMode, inFields, groupOpened, inGroup, groupsClosed, Frame, frame, Stage, afterName, afterCard, afterTag, afterPlugin, Phase, atStart, dueSemicolon, afterType, dueRange, dueRangeEnd, dueName, inHeading, dueCard, dueTag, dueCardEnd, Action, stop, move, note, allow, withCard, withTag, withPlugin, takesField, takesClose, takesGroupEnd, fieldDone, parentOf, extensionOf, isInBody, startRun, startMark, headingEnd, headingRun, headingMark, step, Outcome, stuckAt, complete, mapOutcome, endIf, atEnd, parse, parseTokens}
+use Rattle.definition_rules.specs.Declarations.{Declaration, declaration, Spots, spotsOf, cardSpot, tagSpot, Noted, noted, BodyMode, inFields, groupOpened, inGroup, groupsClosed, Frame, frame, Stage, afterName, afterCard, afterTag, afterPlugin, Phase, atStart, dueSemicolon, afterType, dueRange, dueRangeEnd, dueName, inHeading, dueCard, dueTag, dueCardEnd, Action, stop, move, note, allow, withCard, withTag, withPlugin, takesField, takesClose, takesGroupEnd, fieldDone, parentOf, isUnderExtension, isInBody, startRun, startMark, headingEnd, headingRun, headingMark, step, Outcome, stuckAt, complete, mapOutcome, endIf, atEnd, parseForms, parseTokens}
 use Rattle.definition_rules.proofs.TableLaws.{All}
 
 -- the i-th token
-abbrev pub tokenAt : List Token → ℕ → Token
+abbrev pub tokenAt : List TextToken → ℕ → TextToken
 tokenAt ts i = getD ts i (mark 0)
 
-unfoldable pub RunThere : List Token → MaybeRun → ℕ → Type 0
+unfoldable pub RunThere : List TextToken → MaybeRun → ℕ → Type 0
 RunThere ts absent i = Unit {0}
 RunThere ts (given v) i = tokenAt ts i ≡ run v
 
 -- "the later name or tag": without a tag run the spot is the name's
-unfoldable pub TagThere : List Token → List ℕ → Tag → ℕ → Type 0
+unfoldable pub TagThere : List TextToken → List ℕ → Tag → ℕ → Type 0
 TagThere ts n ownName i = tokenAt ts i ≡ run n
 TagThere ts n tagless i = tokenAt ts i ≡ run n
 TagThere ts n (explicit v) i = tokenAt ts i ≡ run v
 
-unfoldable pub HeadingThere : List Token → Spots → Heading → Type 0
+unfoldable pub HeadingThere : List TextToken → Spots → Heading → Type 0
 HeadingThere ts s (heading w g n c t p) = (tokenAt ts (s .typeAt) ≡ run w) × RunThere ts g (s .rangeAt) × (tokenAt ts (s .nameAt) ≡ run n) × RunThere ts c (s .cardAt) × TagThere ts n t (s .tagAt)
 
-unfoldable pub NotedThere : List Token → Noted → Type 0
+unfoldable pub NotedThere : List TextToken → Noted → Type 0
 NotedThere ts (noted s (declaration u e h)) = HeadingThere ts s h
 
 -- before a tag is read the heading has its own name as tag
-abbrev OwnThere : List Token → Spots → Heading → Type 0
+abbrev OwnThere : List TextToken → Spots → Heading → Type 0
 OwnThere ts s h = HeadingThere ts s h × (tagOf h ≡ ownName)
 
-unfoldable StageThere : List Token → Stage → Spots → Heading → Type 0
+unfoldable StageThere : List TextToken → Stage → Spots → Heading → Type 0
 StageThere ts afterName s h = OwnThere ts s h
 StageThere ts afterCard s h = OwnThere ts s h
 StageThere ts afterTag s h = HeadingThere ts s h
 StageThere ts afterPlugin s h = HeadingThere ts s h
 
-unfoldable PhaseThere : List Token → Phase → Type 0
+unfoldable PhaseThere : List TextToken → Phase → Type 0
 PhaseThere ts atStart = Unit {0}
 PhaseThere ts dueSemicolon = Unit {0}
 PhaseThere ts (afterType y w) = tokenAt ts y ≡ run w
@@ -55,80 +55,80 @@ PhaseThere ts (dueCard s h) = OwnThere ts s h
 PhaseThere ts (dueTag s h) = OwnThere ts s h
 PhaseThere ts (dueCardEnd s h) = OwnThere ts s h
 
-unfoldable ActionThere : List Token → Action → Type 0
+unfoldable ActionThere : List TextToken → Action → Type 0
 ActionThere ts stop = Unit {0}
 ActionThere ts (move τ q) = PhaseThere ts q
 ActionThere ts (note d τ q) = NotedThere ts d × PhaseThere ts q
 
-allow-there : (ts : List Token) (b : Bool) (a : Action) → ActionThere ts a → ActionThere ts (allow b a)
+allow-there : (ts : List TextToken) (b : Bool) (a : Action) → ActionThere ts a → ActionThere ts (allow b a)
 unfolding allow ActionThere
 allow-there ts true a h = h
 allow-there ts false a h = tt
 
-pick-there : (ts : List Token) (b : Bool) (x y : Action) → ActionThere ts x → ActionThere ts y → ActionThere ts (pick b x y)
+pick-there : (ts : List TextToken) (b : Bool) (x y : Action) → ActionThere ts x → ActionThere ts y → ActionThere ts (pick b x y)
 unfolding pick
 pick-there ts true x y h k = h
 pick-there ts false x y h k = k
 
-start-run : (ts : List Token) (σ : List Frame) (i : ℕ) (w : List ℕ) → tokenAt ts i ≡ run w → ActionThere ts (startRun σ i w)
+start-run : (ts : List TextToken) (σ : List Frame) (i : ℕ) (w : List ℕ) → tokenAt ts i ≡ run w → ActionThere ts (startRun σ i w)
 unfolding startRun ActionThere PhaseThere
 start-run ts [] i w e = allow-there ts _ (move [] (afterType i w)) e
 start-run ts (frame p m ∷ σ) i w e = allow-there ts _ (move (frame p m ∷ σ) (afterType i w)) e
 
-start-mark : (ts : List Token) (σ : List Frame) (n : ℕ) → ActionThere ts (startMark σ n)
+start-mark : (ts : List TextToken) (σ : List Frame) (n : ℕ) → ActionThere ts (startMark σ n)
 unfolding startMark ActionThere PhaseThere
 start-mark ts [] n = tt
 start-mark ts (frame p m ∷ σ) n =
     pick-there ts _ _ _ (allow-there ts _ (move σ dueSemicolon) tt)
     (pick-there ts _ _ _ (allow-there ts _ (move (frame p groupOpened ∷ σ) atStart) tt) (allow-there ts _ (move (frame p groupsClosed ∷ σ) atStart) tt))
 
-heading-end : (ts : List Token) (σ : List Frame) (k : ℕ) (s : Spots) (h : Heading) (n : ℕ) → HeadingThere ts s h → ActionThere ts (headingEnd σ k s h n)
+heading-end : (ts : List TextToken) (σ : List Frame) (k : ℕ) (s : Spots) (h : Heading) (n : ℕ) → HeadingThere ts s h → ActionThere ts (headingEnd σ k s h n)
 unfolding headingEnd ActionThere NotedThere PhaseThere
 heading-end ts σ k s h n g =
     pick-there ts _ _ _
-    (allow-there ts _ (note (noted s (declaration (parentOf σ) (extensionOf σ) h)) (fieldDone σ) atStart) (g, tt))
-    (allow-there ts _ (note (noted s (declaration (parentOf σ) (extensionOf σ) h)) (frame k inFields ∷ fieldDone σ) atStart) (g, tt))
+    (allow-there ts _ (note (noted s (declaration (parentOf σ) (isUnderExtension σ) h)) (fieldDone σ) atStart) (g, tt))
+    (allow-there ts _ (note (noted s (declaration (parentOf σ) (isUnderExtension σ) h)) (frame k inFields ∷ fieldDone σ) atStart) (g, tt))
 
-plugin-there : (ts : List Token) (s : Spots) (h : Heading) → HeadingThere ts s h → HeadingThere ts s (withPlugin h)
+plugin-there : (ts : List TextToken) (s : Spots) (h : Heading) → HeadingThere ts s h → HeadingThere ts s (withPlugin h)
 unfolding HeadingThere withPlugin
 plugin-there ts s (heading w g n c t p) x = x
 
-tag-there : (ts : List Token) (i : ℕ) (s : Spots) (h : Heading) (w : List ℕ) → tokenAt ts i ≡ run w → HeadingThere ts s h → HeadingThere ts (tagSpot i s) (withTag (explicit w) h)
+tag-there : (ts : List TextToken) (i : ℕ) (s : Spots) (h : Heading) (w : List ℕ) → tokenAt ts i ≡ run w → HeadingThere ts s h → HeadingThere ts (tagSpot i s) (withTag (explicit w) h)
 unfolding HeadingThere withTag TagThere
 tag-there ts i s (heading w g n c t p) v e x = (x .0, x .1, x .2, x .3, e)
 
 -- `?`: the spot stays the name's
-tagless-there : (ts : List Token) (s : Spots) (h : Heading) → OwnThere ts s h → HeadingThere ts s (withTag tagless h)
+tagless-there : (ts : List TextToken) (s : Spots) (h : Heading) → OwnThere ts s h → HeadingThere ts s (withTag tagless h)
 unfolding HeadingThere withTag TagThere tagOf
 tagless-there ts s (heading w g n c t p) x = (x .0 .0, x .0 .1, x .0 .2, x .0 .3, own t (x .1) (x .0 .4))
   where
     own : (t : Tag) → t ≡ ownName → TagThere ts n t (s .tagAt) → tokenAt ts (s .tagAt) ≡ run n
     own t e h = rw e at h
 
-card-there : (ts : List Token) (i : ℕ) (s : Spots) (h : Heading) (w : List ℕ) → tokenAt ts i ≡ run w → OwnThere ts s h → OwnThere ts (cardSpot i s) (withCard w h)
+card-there : (ts : List TextToken) (i : ℕ) (s : Spots) (h : Heading) (w : List ℕ) → tokenAt ts i ≡ run w → OwnThere ts s h → OwnThere ts (cardSpot i s) (withCard w h)
 unfolding HeadingThere withCard RunThere tagOf
 card-there ts i s (heading w g n c t p) v e x = ((x .0 .0, x .0 .1, x .0 .2, e, x .0 .4), x .1)
 
 -- a name ends what must be there of a heading
-name-there : (ts : List Token) (y g i : ℕ) (w v : List ℕ) (x : MaybeRun) → tokenAt ts y ≡ run w → RunThere ts x g → tokenAt ts i ≡ run v → OwnThere ts (spotsOf y g i) (heading w x v absent ownName false)
+name-there : (ts : List TextToken) (y g i : ℕ) (w v : List ℕ) (x : MaybeRun) → tokenAt ts y ≡ run w → RunThere ts x g → tokenAt ts i ≡ run v → OwnThere ts (spotsOf y g i) (heading w x v absent ownName false)
 unfolding HeadingThere RunThere TagThere tagOf
 name-there ts y g i w v x a b e = ((a, b, e, tt, e), refl)
 
-heading-run : (ts : List Token) (σ : List Frame) (l : Stage) (s : Spots) (h : Heading) (w : List ℕ) → StageThere ts l s h → ActionThere ts (headingRun σ l s h w)
+heading-run : (ts : List TextToken) (σ : List Frame) (l : Stage) (s : Spots) (h : Heading) (w : List ℕ) → StageThere ts l s h → ActionThere ts (headingRun σ l s h w)
 unfolding headingRun ActionThere PhaseThere StageThere
 heading-run ts σ afterName s h w g = pick-there ts _ _ _ (allow-there ts _ (move σ (dueTag s h)) g) (allow-there ts _ (move σ (inHeading afterPlugin s (withPlugin h))) (plugin-there ts s h (g .0)))
 heading-run ts σ afterCard s h w g = pick-there ts _ _ _ (allow-there ts _ (move σ (dueTag s h)) g) (allow-there ts _ (move σ (inHeading afterPlugin s (withPlugin h))) (plugin-there ts s h (g .0)))
 heading-run ts σ afterTag s h w g = allow-there ts _ (move σ (inHeading afterPlugin s (withPlugin h))) (plugin-there ts s h g)
 heading-run ts σ afterPlugin s h w g = tt
 
-heading-mark : (ts : List Token) (σ : List Frame) (l : Stage) (k : ℕ) (s : Spots) (h : Heading) (n : ℕ) → StageThere ts l s h → ActionThere ts (headingMark σ l k s h n)
+heading-mark : (ts : List TextToken) (σ : List Frame) (l : Stage) (k : ℕ) (s : Spots) (h : Heading) (n : ℕ) → StageThere ts l s h → ActionThere ts (headingMark σ l k s h n)
 unfolding headingMark ActionThere PhaseThere StageThere
 heading-mark ts σ afterName k s h n g = pick-there ts _ _ _ (allow-there ts _ (move σ (dueCard s h)) g) (heading-end ts σ k s h n (g .0))
 heading-mark ts σ afterCard k s h n g = heading-end ts σ k s h n (g .0)
 heading-mark ts σ afterTag k s h n g = heading-end ts σ k s h n g
 heading-mark ts σ afterPlugin k s h n g = heading-end ts σ k s h n g
 
-step-there : (ts : List Token) (σ : List Frame) (k i : ℕ) (p : Phase) (x : Token) → tokenAt ts i ≡ x → PhaseThere ts p → ActionThere ts (step σ k i p x)
+step-there : (ts : List TextToken) (σ : List Frame) (k i : ℕ) (p : Phase) (x : TextToken) → tokenAt ts i ≡ x → PhaseThere ts p → ActionThere ts (step σ k i p x)
 unfolding step ActionThere PhaseThere StageThere RunThere
 step-there ts σ k i atStart (run w) e h = start-run ts σ i w e
 step-there ts σ k i atStart (mark n) e h = start-mark ts σ n
@@ -152,7 +152,7 @@ step-there ts σ k i (dueCardEnd s h) (run w) e g = tt
 step-there ts σ k i (dueCardEnd s h) (mark n) e g = allow-there ts _ (move σ (inHeading afterCard s h)) g
 
 -- the tokens from the i-th on are these
-abbrev From : List Token → ℕ → List Token → Type 0
+abbrev From : List TextToken → ℕ → List TextToken → Type 0
 From ts i xs = (j : ℕ) → j < length xs → tokenAt ts (i + j) ≡ tokenAt xs j
 
 end-none : (σ : List Frame) (k i : ℕ) (p : Phase) (ns : List Noted) → atEnd σ k i p ≡ complete ns → ns ≡ []
@@ -173,8 +173,8 @@ end-none [] k i (dueTag s h) ns e = let z : _≡_ {A = ℕ} 0 1 = cc in absurd (
 end-none [] k i (dueCardEnd s h) ns e = let z : _≡_ {A = ℕ} 0 1 = cc in absurd (omega arith)
 end-none (f ∷ σ) k i p ns e = let z : _≡_ {A = ℕ} 0 1 = cc in absurd (omega arith)
 
-parse-there : (ts : List Token) (σ : List Frame) (k i : ℕ) (p : Phase) (xs : List Token) → From ts i xs → PhaseThere ts p → (ns : List Noted) → parse σ k i p xs ≡ complete ns → All (NotedThere ts) ns
-unfolding parse
+parse-there : (ts : List TextToken) (σ : List Frame) (k i : ℕ) (p : Phase) (xs : List TextToken) → From ts i xs → PhaseThere ts p → (ns : List Noted) → parseForms σ k i p xs ≡ complete ns → All (NotedThere ts) ns
+unfolding parseForms
 parse-there ts σ k i p [] f h ns e = rw (end-none σ k i p ns e) (unfold All in tt)
 parse-there ts σ k i p (x ∷ xs) f h ns e = go (step σ k i p x) (step-there ts σ k i p x first h) (λ τ q g m s. parse-there ts τ k (suc i) q xs next g m s) (λ τ q g m s. parse-there ts τ (suc k) (suc i) q xs next g m s) e
   where
@@ -189,15 +189,15 @@ parse-there ts σ k i p (x ∷ xs) f h ns e = go (step σ k i p x) (step-there t
     noting d (complete m) a b e = unfold mapOutcome in (let z : d ∷ m ≡ ns = cc in rw (← z) (unfold All in (a, b m refl)))
 
     go : (a : Action) → ActionThere ts a
-        → ((τ : List Frame) (q : Phase) → PhaseThere ts q → (m : List Noted) → parse τ k (suc i) q xs ≡ complete m → All (NotedThere ts) m)
-        → ((τ : List Frame) (q : Phase) → PhaseThere ts q → (m : List Noted) → parse τ (suc k) (suc i) q xs ≡ complete m → All (NotedThere ts) m)
-        → elim a [ stop ↦ stuckAt i | move τ q ↦ parse τ k (suc i) q xs | note d τ q ↦ mapOutcome (λ r. d ∷ r) (parse τ (suc k) (suc i) q xs) ] ≡ complete ns
+        → ((τ : List Frame) (q : Phase) → PhaseThere ts q → (m : List Noted) → parseForms τ k (suc i) q xs ≡ complete m → All (NotedThere ts) m)
+        → ((τ : List Frame) (q : Phase) → PhaseThere ts q → (m : List Noted) → parseForms τ (suc k) (suc i) q xs ≡ complete m → All (NotedThere ts) m)
+        → elim a [ stop ↦ stuckAt i | move τ q ↦ parseForms τ k (suc i) q xs | note d τ q ↦ mapOutcome (λ r. d ∷ r) (parseForms τ (suc k) (suc i) q xs) ] ≡ complete ns
         → All (NotedThere ts) ns
     go stop a b c e = let z : _≡_ {A = ℕ} 0 1 = cc in absurd (omega arith)
     go (move τ q) a b c e = b τ q (unfold ActionThere in a) ns e
-    go (note d τ q) a b c e = unfold ActionThere in (noting d (parse τ (suc k) (suc i) q xs) (a .0) (λ m s. c τ q (a .1) m s) e)
+    go (note d τ q) a b c e = unfold ActionThere in (noting d (parseForms τ (suc k) (suc i) q xs) (a .0) (λ m s. c τ q (a .1) m s) e)
 
 -- the runs of every declaration stand at its spots
-pub spots-there : (ts : List Token) (ns : List Noted) → parseTokens ts ≡ complete ns → All (NotedThere ts) ns
+pub spots-there : (ts : List TextToken) (ns : List Noted) → parseTokens ts ≡ complete ns → All (NotedThere ts) ns
 unfolding PhaseThere
 spots-there ts ns e = parse-there ts [] 0 0 atStart ts (λ j l. let y : 0 + j ≡ j = omega arith in ap (tokenAt ts) y) tt ns e

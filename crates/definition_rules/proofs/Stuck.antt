@@ -9,9 +9,9 @@ use lib.ListN.{length}
 use borrow.Author.Tests.{ne-eqb}
 use Rattle.classes.specs.Lists.{sameBytes, pick}
 use Rattle.definition_rules.specs.Words.{kwInt, numberIf, numberIn, kindOfRun, takesRange, isCompound, isReference}
-use Rattle.definition_rules.specs.Scan.{Token, run, mark}
+use Rattle.definition_rules.specs.Scan.{TextToken, run, mark}
 use Rattle.definition_rules.specs.Forms.{MaybeRun, absent, given, Tag, ownName, tagless, explicit, Heading, heading, typeRun, Fits, Viable}
-use Rattle.definition_rules.specs.Declarations.{Declaration, declaration, Spots, spotsOf, cardSpot, tagSpot, Noted, noted, BodyMode, inFields, groupOpened, inGroup, groupsClosed, Frame, frame, Stage, afterName, afterCard, afterTag, afterPlugin, Phase, atStart, dueSemicolon, afterType, dueRange, dueRangeEnd, dueName, inHeading, dueCard, dueTag, dueCardEnd, Action, stop, move, note, allow, withCard, withTag, withPlugin, takesField, takesClose, takesGroupEnd, isExtension, afterField, fieldDone, parentOf, extensionOf, isInBody, startRun, startMark, headingEnd, headingRun, headingMark, step, Outcome, stuckAt, complete, mapOutcome, endIf, atEnd, parse, parseTokens}
+use Rattle.definition_rules.specs.Declarations.{Declaration, declaration, Spots, spotsOf, cardSpot, tagSpot, Noted, noted, BodyMode, inFields, groupOpened, inGroup, groupsClosed, Frame, frame, Stage, afterName, afterCard, afterTag, afterPlugin, Phase, atStart, dueSemicolon, afterType, dueRange, dueRangeEnd, dueName, inHeading, dueCard, dueTag, dueCardEnd, Action, stop, move, note, allow, withCard, withTag, withPlugin, takesField, takesClose, takesGroupEnd, isExtension, afterField, fieldDone, parentOf, isUnderExtension, isInBody, startRun, startMark, headingEnd, headingRun, headingMark, step, Outcome, stuckAt, complete, mapOutcome, endIf, atEnd, parseForms, parseTokens}
 use Rattle.definition_rules.proofs.FirstFault.{Either, left, right}
 use Rattle.definition_rules.proofs.FormComplete.{parse-move, parse-note, parse-stop, fits-complete}
 use Rattle.definition_rules.proofs.FormSound.{stuck-complete, complete-fits}
@@ -21,11 +21,11 @@ use Rattle.definition_rules.proofs.FormSound.{stuck-complete, complete-
 abbrev anyRun : List ℕ
 anyRun = 120 ∷ []
 
-abbrev Completes : List Frame → ℕ → ℕ → Phase → List Token → Type 0
-Completes σ k i p ts = (ns : List Noted) × (parse σ k i p ts ≡ complete ns)
+abbrev Completes : List Frame → ℕ → ℕ → Phase → List TextToken → Type 0
+Completes σ k i p ts = (ns : List Noted) × (parseForms σ k i p ts ≡ complete ns)
 
 -- closes all that is open; a top more makes one or more
-unfoldable closing : List Frame → List Token
+unfoldable closing : List Frame → List TextToken
 closing [] = run kwInt ∷ run anyRun ∷ mark 59 ∷ []
 closing (frame p inFields ∷ σ) = mark 125 ∷ mark 59 ∷ closing σ
 closing (frame p groupOpened ∷ σ) = run kwInt ∷ run anyRun ∷ mark 59 ∷ mark 93 ∷ mark 125 ∷ mark 59 ∷ closing σ
@@ -37,26 +37,26 @@ unfolding mapOutcome
 noted-too d m h = (d ∷ h .0, rw (h .1))
 
 close-start : (σ : List Frame) (k i : ℕ) → Completes σ k i atStart (closing σ)
-unfolding closing parse step startRun startMark allow isReference takesField takesClose takesGroupEnd headingMark headingEnd pick isCompound kindOfRun numberIn numberIf sameBytes typeRun parentOf extensionOf isExtension fieldDone afterField atEnd
+unfolding closing parseForms step startRun startMark allow isReference takesField takesClose takesGroupEnd headingMark headingEnd pick isCompound kindOfRun numberIn numberIf sameBytes typeRun parentOf isUnderExtension isExtension fieldDone afterField atEnd
 close-start [] k i = noted-too _ (endIf (eqb (suc k) 0) (suc (suc (suc i)))) (rw (ne-eqb (suc k) 0 (λ q. omega arith)) ([], unfold endIf in refl))
 close-start (frame p inFields ∷ σ) k i = close-start σ k (suc (suc i))
-close-start (frame p groupOpened ∷ σ) k i = noted-too _ (parse σ (suc k) (suc (suc (suc (suc (suc (suc i)))))) atStart (closing σ)) (close-start σ (suc k) (suc (suc (suc (suc (suc (suc i)))))))
+close-start (frame p groupOpened ∷ σ) k i = noted-too _ (parseForms σ (suc k) (suc (suc (suc (suc (suc (suc i)))))) atStart (closing σ)) (close-start σ (suc k) (suc (suc (suc (suc (suc (suc i)))))))
 close-start (frame p inGroup ∷ σ) k i = close-start σ k (suc (suc (suc i)))
 close-start (frame p groupsClosed ∷ σ) k i = close-start σ k (suc (suc i))
 
 -- ends a heading and closes the rest
-unfoldable endingOf : Bool → List Frame → ℕ → List Token
+unfoldable endingOf : Bool → List Frame → ℕ → List TextToken
 endingOf true σ k = mark 123 ∷ closing (frame k inFields ∷ fieldDone σ)
 endingOf false σ k = mark 59 ∷ closing (fieldDone σ)
 
-abbrev ending : List Frame → ℕ → Heading → List Token
+abbrev ending : List Frame → ℕ → Heading → List TextToken
 ending σ k h = endingOf (isCompound (typeRun h)) σ k
 
 close-heading : (σ : List Frame) (k i : ℕ) (l : Stage) (s : Spots) (h : Heading) → Completes σ k i (inHeading l s h) (ending σ k h)
 close-heading σ k i l s h = by (isCompound (typeRun h)) refl
   where
     d : Noted
-    d = noted s (declaration (parentOf σ) (extensionOf σ) h)
+    d = noted s (declaration (parentOf σ) (isUnderExtension σ) h)
 
     semi : (l : Stage) → isCompound (typeRun h) ≡ false → step σ k i (inHeading l s h) (mark 59) ≡ note d (fieldDone σ) atStart
     semi afterName e = unfold step headingMark headingEnd pick allow in (rw e)
@@ -72,21 +72,21 @@ close-heading σ k i l s h = by (isCompound (typeRun h)) refl
 
     by : (b : Bool) → isCompound (typeRun h) ≡ b → Completes σ k i (inHeading l s h) (endingOf b σ k)
     by true e =
-        let x = noted-too d (parse (frame k inFields ∷ fieldDone σ) (suc k) (suc i) atStart (closing (frame k inFields ∷ fieldDone σ))) (close-start (frame k inFields ∷ fieldDone σ) (suc k) (suc i)) in
+        let x = noted-too d (parseForms (frame k inFields ∷ fieldDone σ) (suc k) (suc i) atStart (closing (frame k inFields ∷ fieldDone σ))) (close-start (frame k inFields ∷ fieldDone σ) (suc k) (suc i)) in
         unfold endingOf in (x .0, parse-note σ (frame k inFields ∷ fieldDone σ) k i (inHeading l s h) atStart (mark 123) (closing (frame k inFields ∷ fieldDone σ)) d (brace l e) ∙ x .1)
     by false e =
-        let x = noted-too d (parse (fieldDone σ) (suc k) (suc i) atStart (closing (fieldDone σ))) (close-start (fieldDone σ) (suc k) (suc i)) in
+        let x = noted-too d (parseForms (fieldDone σ) (suc k) (suc i) atStart (closing (fieldDone σ))) (close-start (fieldDone σ) (suc k) (suc i)) in
         unfold endingOf in (x .0, parse-note σ (fieldDone σ) k i (inHeading l s h) atStart (mark 59) (closing (fieldDone σ)) d (semi l e) ∙ x .1)
 
 abbrev bareHeading : List ℕ → MaybeRun → Heading
 bareHeading w g = heading w g anyRun absent ownName false
 
 close-name : (σ : List Frame) (k i y g : ℕ) (w : List ℕ) (x : MaybeRun) → Completes σ k i (dueName y g w x) (run anyRun ∷ ending σ k (bareHeading w x))
-unfolding parse step
+unfolding parseForms step
 close-name σ k i y g w x = close-heading σ k (suc i) afterName (spotsOf y g i) (bareHeading w x)
 
-pub completion : (σ : List Frame) (k i : ℕ) (p : Phase) → (ts : List Token) × Completes σ k i p ts
-unfolding parse step allow
+pub completion : (σ : List Frame) (k i : ℕ) (p : Phase) → (ts : List TextToken) × Completes σ k i p ts
+unfolding parseForms step allow
 completion σ k i atStart = (closing σ, close-start σ k i)
 completion σ k i dueSemicolon = (mark 59 ∷ closing σ, close-start σ k (suc i))
 completion σ k i (afterType y w) = (run anyRun ∷ ending σ k (bareHeading w absent), close-heading σ k (suc i) afterName (spotsOf y y i) (bareHeading w absent))
@@ -107,8 +107,8 @@ unfolding mapOutcome
 map-stuck f i = refl
 
 -- a state at the end of the row
-at-end : (σ : List Frame) (k j : ℕ) (p : Phase) → Either (parse σ k j p [] ≡ stuckAt j) (parse σ k j p [] ≡ complete [])
-unfolding parse atEnd endIf
+at-end : (σ : List Frame) (k j : ℕ) (p : Phase) → Either (parseForms σ k j p [] ≡ stuckAt j) (parseForms σ k j p [] ≡ complete [])
+unfolding parseForms atEnd endIf
 at-end [] k j atStart = by (eqb k 0)
   where
     by : (b : Bool) → Either (endIf b j ≡ stuckAt j) (endIf b j ≡ complete [])
@@ -128,18 +128,18 @@ at-end [] k j (dueCardEnd s h) = left refl
 -- ---- over a beginning
 
 -- after the beginning ps the automaton stands in a state, whatever follows
-pub record Reached (σ : List Frame) (k i : ℕ) (p : Phase) (ps : List Token) : Type 0 where
+pub record Reached (σ : List Frame) (k i : ℕ) (p : Phase) (ps : List TextToken) : Type 0 where
   pub stack : List Frame
   pub count : ℕ
   pub phase : Phase
   pub before : List Noted → List Noted
-  pub goes : (ts : List Token) → parse σ k i p (ps ++ ts) ≡ mapOutcome before (parse stack count (i + length ps) phase ts)
+  pub goes : (ts : List TextToken) → parseForms σ k i p (ps ++ ts) ≡ mapOutcome before (parseForms stack count (i + length ps) phase ts)
 
 -- or it stops inside
-pub record Halted (σ : List Frame) (k i : ℕ) (p : Phase) (ps : List Token) : Type 0 where
+pub record Halted (σ : List Frame) (k i : ℕ) (p : Phase) (ps : List TextToken) : Type 0 where
   pub at : ℕ
   pub inside : at < i + length ps
-  pub halts : (ts : List Token) → parse σ k i p (ps ++ ts) ≡ stuckAt at
+  pub halts : (ts : List TextToken) → parseForms σ k i p (ps ++ ts) ≡ stuckAt at
 
 map-same : (o : Outcome (List Noted)) → mapOutcome (λ r. r) o ≡ o
 unfolding mapOutcome
@@ -151,13 +151,13 @@ unfolding mapOutcome
 map-twice f g (stuckAt i) = refl
 map-twice f g (complete a) = refl
 
-at-number : (σ : List Frame) (k i j : ℕ) (p : Phase) (ts : List Token) → i ≡ j → parse σ k i p ts ≡ parse σ k j p ts
+at-number : (σ : List Frame) (k i j : ℕ) (p : Phase) (ts : List TextToken) → i ≡ j → parseForms σ k i p ts ≡ parseForms σ k j p ts
 at-number σ k i j p ts e = rw e
 
-abbrev Over : List Token → Type 0
+abbrev Over : List TextToken → Type 0
 Over ps = (σ : List Frame) (k i : ℕ) (p : Phase) → Either (Halted σ k i p ps) (Reached σ k i p ps)
 
-over-step : (x : Token) (ps : List Token) → Over ps → Over (x ∷ ps)
+over-step : (x : TextToken) (ps : List TextToken) → Over ps → Over (x ∷ ps)
 over-step x ps f σ k i p = by (step σ k i p x) refl
   where
     by : (a : Action) → step σ k i p x ≡ a → Either (Halted σ k i p (x ∷ ps)) (Reached σ k i p (x ∷ ps))
@@ -173,21 +173,21 @@ over-step x ps f σ k i p = by (step σ k i p x) refl
         go (left h) = left (record { at = h .at; inside = omega (arith, h .inside); halts = λ ts. parse-note σ τ k i p q x (ps ++ ts) d e ∙ (ap (mapOutcome (λ r. d ∷ r)) (h .halts ts) ∙ map-stuck (λ r. d ∷ r) (h .at)) })
         go (right r) = right (record { stack = r .stack; count = r .count; phase = r .phase; before = λ l. d ∷ r .before l; goes = λ ts. parse-note σ τ k i p q x (ps ++ ts) d e ∙ (ap (mapOutcome (λ r. d ∷ r)) (r .goes ts ∙ ap (mapOutcome (r .before)) (at-number (r .stack) (r .count) (suc i + length ps) (i + suc (length ps)) (r .phase) ts (omega arith))) ∙ map-twice (λ l. d ∷ l) (r .before) _) })
 
-over : (ps : List Token) → Over ps
+over : (ps : List TextToken) → Over ps
 over [] σ k i p = right (record { stack = σ; count = k; phase = p; before = λ r. r; goes = λ ts. at-number σ k i (i + 0) p ts (omega arith) ∙ sym (map-same _) })
 over (x ∷ ps) σ k i p = over-step x ps (over ps) σ k i p
 
 -- ---- the theorem
 
-abbrev Start : List Token → Type 0
+abbrev Start : List TextToken → Type 0
 Start ps = Reached [] 0 0 atStart ps
 
-reached-viable : (ps : List Token) → Start ps → Viable ps
+reached-viable : (ps : List TextToken) → Start ps → Viable ps
 reached-viable ps r =
     let c = completion (r .stack) (r .count) (0 + length ps) (r .phase) in
     (c .0, complete-fits (ps ++ c .0) (r .before (c .1 .0)) (r .goes (c .0) ∙ (ap (mapOutcome (r .before)) (c .1 .1) ∙ map-done (r .before) (c .1 .0))) .0)
 
-viable-reached : {X : Type 0} (ps : List Token) → Viable ps → (Start ps → X) → X
+viable-reached : {X : Type 0} (ps : List TextToken) → Viable ps → (Start ps → X) → X
 viable-reached {X} ps v k = by (over ps [] 0 0 atStart)
   where
     by : Either (Halted [] 0 0 atStart ps) (Start ps) → X
@@ -195,43 +195,43 @@ viable-reached {X} ps v k = by (over ps [] 0 0 atStart)
     by (right r) = k r
 
 -- the token t after ps can't go on
-abbrev pub CannotGoOn : List Token → Token → Type 0
-CannotGoOn ps t = (more : List Token) → Fits (ps ++ (t ∷ more)) → ⊥
+abbrev pub CannotGoOn : List TextToken → TextToken → Type 0
+CannotGoOn ps t = (more : List TextToken) → Fits (ps ++ (t ∷ more)) → ⊥
 
 -- "first token that can't go on, or the text's length": where number 3 stands
-pub data StuckBy (ts : List Token) (i : ℕ) : Type 0 where
-  token : (ps : List Token) (t : Token) (more : List Token) → ts ≡ ps ++ (t ∷ more) → i ≡ length ps → Viable ps → CannotGoOn ps t → StuckBy ts i
+pub data StuckBy (ts : List TextToken) (i : ℕ) : Type 0 where
+  token : (ps : List TextToken) (t : TextToken) (more : List TextToken) → ts ≡ ps ++ (t ∷ more) → i ≡ length ps → Viable ps → CannotGoOn ps t → StuckBy ts i
   ending-due : i ≡ length ts → Viable ts → (Fits ts → ⊥) → StuckBy ts i
 
-fits-not-stuck : (ts : List Token) (i : ℕ) → parseTokens ts ≡ stuckAt i → Fits ts → ⊥
+fits-not-stuck : (ts : List TextToken) (i : ℕ) → parseTokens ts ≡ stuckAt i → Fits ts → ⊥
 fits-not-stuck ts i e f = let c = fits-complete ts f in stuck-complete (sym e ∙ c .1)
 
-halt-at : (ps : List Token) (r : Start ps) (t : Token) (more : List Token) → step (r .stack) (r .count) (0 + length ps) (r .phase) t ≡ stop → parseTokens (ps ++ (t ∷ more)) ≡ stuckAt (0 + length ps)
+halt-at : (ps : List TextToken) (r : Start ps) (t : TextToken) (more : List TextToken) → step (r .stack) (r .count) (0 + length ps) (r .phase) t ≡ stop → parseTokens (ps ++ (t ∷ more)) ≡ stuckAt (0 + length ps)
 halt-at ps r t more e = r .goes (t ∷ more) ∙ (ap (mapOutcome (r .before)) (parse-stop (r .stack) (r .count) (0 + length ps) (r .phase) t more e) ∙ map-stuck (r .before) (0 + length ps))
 
 -- ps read so far, ts still to read
 stuck-number : {i j : ℕ} → _≡_ {A = Outcome (List Noted)} (stuckAt i) (stuckAt j) → i ≡ j
 stuck-number e = cc
 
-next-reached : (ps : List Token) (t : Token) → Viable (ps ++ (t ∷ [])) → Start (ps ++ (t ∷ []))
+next-reached : (ps : List TextToken) (t : TextToken) → Viable (ps ++ (t ∷ [])) → Start (ps ++ (t ∷ []))
 next-reached ps t v = viable-reached (ps ++ (t ∷ [])) v (λ r. r)
 
-pub data Fate (ps : List Token) (ts : List Token) : Type 0 where
-  stops : (qs : List Token) (t : Token) (more : List Token) (r : Start qs) → ps ++ ts ≡ qs ++ (t ∷ more) → step (r .stack) (r .count) (0 + length qs) (r .phase) t ≡ stop → Fate ps ts
+pub data Fate (ps : List TextToken) (ts : List TextToken) : Type 0 where
+  stops : (qs : List TextToken) (t : TextToken) (more : List TextToken) (r : Start qs) → ps ++ ts ≡ qs ++ (t ∷ more) → step (r .stack) (r .count) (0 + length qs) (r .phase) t ≡ stop → Fate ps ts
   passes : Start (ps ++ ts) → Fate ps ts
 
-fate-on : (ps : List Token) (t : Token) (ts : List Token) → Fate (ps ++ (t ∷ [])) ts → Fate ps (t ∷ ts)
+fate-on : (ps : List TextToken) (t : TextToken) (ts : List TextToken) → Fate (ps ++ (t ∷ [])) ts → Fate ps (t ∷ ts)
 fate-on ps t ts (stops qs u more r e s) = stops qs u more r (sym (append-assoc ps (t ∷ []) ts) ∙ e) s
 fate-on ps t ts (passes r) = passes (subst Start (append-assoc ps (t ∷ []) ts) r)
 
-one-more : (ps : List Token) (t : Token) (r : Start ps) (a : Action) → step (r .stack) (r .count) (0 + length ps) (r .phase) t ≡ a → (a ≡ stop → ⊥) → Start (ps ++ (t ∷ []))
+one-more : (ps : List TextToken) (t : TextToken) (r : Start ps) (a : Action) → step (r .stack) (r .count) (0 + length ps) (r .phase) t ≡ a → (a ≡ stop → ⊥) → Start (ps ++ (t ∷ []))
 one-more ps t r a e n = by (over (ps ++ (t ∷ [])) [] 0 0 atStart)
   where
     by : Either (Halted [] 0 0 atStart (ps ++ (t ∷ []))) (Start (ps ++ (t ∷ []))) → Start (ps ++ (t ∷ []))
     by (right s) = s
     by (left h) = absurd (go a e n)
       where
-        halted : (ts : List Token) → mapOutcome (r .before) (parse (r .stack) (r .count) (0 + length ps) (r .phase) (t ∷ ts)) ≡ stuckAt (h .at)
+        halted : (ts : List TextToken) → mapOutcome (r .before) (parseForms (r .stack) (r .count) (0 + length ps) (r .phase) (t ∷ ts)) ≡ stuckAt (h .at)
         halted ts = sym (r .goes (t ∷ ts)) ∙ (ap parseTokens (sym (append-assoc ps (t ∷ []) ts)) ∙ h .halts ts)
 
         go : (a : Action) → step (r .stack) (r .count) (0 + length ps) (r .phase) t ≡ a → (a ≡ stop → ⊥) → ⊥
@@ -239,10 +239,10 @@ one-more ps t r a e n = by (over (ps ++ (t ∷ [])) [] 0 0 atStart)
         go (move τ q) e n = let c = completion τ (r .count) (suc (0 + length ps)) q in stuck-complete (sym (halted (c .0)) ∙ (ap (mapOutcome (r .before)) (parse-move (r .stack) τ (r .count) (0 + length ps) (r .phase) q t (c .0) e ∙ c .1 .1) ∙ map-done (r .before) (c .1 .0)))
         go (note d τ q) e n = let c = completion τ (suc (r .count)) (suc (0 + length ps)) q in stuck-complete (sym (halted (c .0)) ∙ (ap (mapOutcome (r .before)) (parse-note (r .stack) τ (r .count) (0 + length ps) (r .phase) q t (c .0) d e ∙ (ap (mapOutcome (λ r. d ∷ r)) (c .1 .1) ∙ map-done (λ r. d ∷ r) (c .1 .0))) ∙ map-done (r .before) (d ∷ c .1 .0)))
 
-fate : (ts ps : List Token) → Start ps → Fate ps ts
+fate : (ts ps : List TextToken) → Start ps → Fate ps ts
 fate [] ps r = passes (subst Start (sym (nil-right ps)) r)
   where
-    nil-right : (l : List Token) → l ++ [] ≡ l
+    nil-right : (l : List TextToken) → l ++ [] ≡ l
     nil-right [] = refl
     nil-right (x ∷ l) = ap (λ q. x ∷ q) (nil-right l)
 fate (t ∷ ts) ps r = by (step (r .stack) (r .count) (0 + length ps) (r .phase) t) refl (λ s. fate ts (ps ++ (t ∷ [])) s)
@@ -262,22 +262,22 @@ begun : Start []
 begun = record { stack = []; count = 0; phase = atStart; before = λ r. r; goes = λ ts. sym (map-same _) }
 
 -- a state at the end that is not complete
-end-stuck : (ts : List Token) (r : Start ts) (i : ℕ) → parseTokens ts ≡ stuckAt i → i ≡ length ts
+end-stuck : (ts : List TextToken) (r : Start ts) (i : ℕ) → parseTokens ts ≡ stuckAt i → i ≡ length ts
 end-stuck ts r i e = by (at-end (r .stack) (r .count) (0 + length ts) (r .phase))
   where
-    nil-right : (l : List Token) → l ++ [] ≡ l
+    nil-right : (l : List TextToken) → l ++ [] ≡ l
     nil-right [] = refl
     nil-right (x ∷ l) = ap (λ q. x ∷ q) (nil-right l)
 
-    ended : mapOutcome (r .before) (parse (r .stack) (r .count) (0 + length ts) (r .phase) []) ≡ stuckAt i
+    ended : mapOutcome (r .before) (parseForms (r .stack) (r .count) (0 + length ts) (r .phase) []) ≡ stuckAt i
     ended = sym (r .goes []) ∙ (ap parseTokens (nil-right ts) ∙ e)
 
-    by : Either (parse (r .stack) (r .count) (0 + length ts) (r .phase) [] ≡ stuckAt (0 + length ts)) (parse (r .stack) (r .count) (0 + length ts) (r .phase) [] ≡ complete []) → i ≡ length ts
+    by : Either (parseForms (r .stack) (r .count) (0 + length ts) (r .phase) [] ≡ stuckAt (0 + length ts)) (parseForms (r .stack) (r .count) (0 + length ts) (r .phase) [] ≡ complete []) → i ≡ length ts
     by (left q) = let z = stuck-number {i = i} {j = 0 + length ts} (sym ended ∙ (ap (mapOutcome (r .before)) q ∙ map-stuck (r .before) (0 + length ts))) in omega arith
     by (right q) = stuck-complete (sym ended ∙ (ap (mapOutcome (r .before)) q ∙ map-done (r .before) []))
 
 -- number 3 at token i exactly when i is the first token that can't go on, or more is due at the end
-pub stuck-by : (ts : List Token) (i : ℕ) → parseTokens ts ≡ stuckAt i → StuckBy ts i
+pub stuck-by : (ts : List TextToken) (i : ℕ) → parseTokens ts ≡ stuckAt i → StuckBy ts i
 stuck-by ts i e = by (fate ts [] begun)
   where
     by : Fate [] ts → StuckBy ts i
@@ -286,14 +286,14 @@ stuck-by ts i e = by (fate ts [] begun)
         token ps t more q (omega arith) (reached-viable ps r) (λ us f. fits-not-stuck (ps ++ (t ∷ us)) (0 + length ps) (halt-at ps r t us s) f)
     by (passes r) = ending-due (end-stuck ts r i e) (reached-viable ts r) (fits-not-stuck ts i e)
 
-outcome-case : {X : Type 0} (ts : List Token) → ((i : ℕ) → parseTokens ts ≡ stuckAt i → X) → ((ns : List Noted) → parseTokens ts ≡ complete ns → X) → X
+outcome-case : {X : Type 0} (ts : List TextToken) → ((i : ℕ) → parseTokens ts ≡ stuckAt i → X) → ((ns : List Noted) → parseTokens ts ≡ complete ns → X) → X
 outcome-case {X} ts f g = by (parseTokens ts) refl
   where
     by : (o : Outcome (List Noted)) → parseTokens ts ≡ o → X
     by (stuckAt i) e = f i e
     by (complete ns) e = g ns e
 
-dead-token : (ps : List Token) (t : Token) → Viable ps → CannotGoOn ps t → (r : Start ps) × (step (r .stack) (r .count) (0 + length ps) (r .phase) t ≡ stop)
+dead-token : (ps : List TextToken) (t : TextToken) → Viable ps → CannotGoOn ps t → (r : Start ps) × (step (r .stack) (r .count) (0 + length ps) (r .phase) t ≡ stop)
 dead-token ps t v c = viable-reached ps v (λ r. (r, by r (step (r .stack) (r .count) (0 + length ps) (r .phase) t) refl))
   where
     live : (r : Start ps) (a : Action) → step (r .stack) (r .count) (0 + length ps) (r .phase) t ≡ a → (a ≡ stop → ⊥) → ⊥
@@ -306,7 +306,7 @@ dead-token ps t v c = viable-reached ps v (λ r. (r, by r (step (r .stack) (r .c
     by r (move τ q) e = absurd (live r (move τ q) e (λ z. let w : _≡_ {A = ℕ} 0 1 = cc in omega arith))
     by r (note d τ q) e = absurd (live r (note d τ q) e (λ z. let w : _≡_ {A = ℕ} 0 1 = cc in omega arith))
 
-pub by-stuck : (ts : List Token) (i : ℕ) → StuckBy ts i → parseTokens ts ≡ stuckAt i
+pub by-stuck : (ts : List TextToken) (i : ℕ) → StuckBy ts i → parseTokens ts ≡ stuckAt i
 by-stuck ts i (token ps t more e n v c) =
     let d = dead-token ps t v c in
     ap parseTokens e ∙ (halt-at ps (d .0) t more (d .1) ∙ ap stuckAt (omega arith))

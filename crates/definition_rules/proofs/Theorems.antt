@@ -9,12 +9,12 @@ use lib.Dec.{ltb}
 use lib.ListN.{length, drop}
 use borrow.Author.Tests.{ltb-true, ltb-false, lt-ltb, le-ltb}
 use Rattle.classes.specs.Lists.{pick}
-use Rattle.definition_rules.specs.Scan.{Token}
+use Rattle.definition_rules.specs.Scan.{TextToken}
 use Rattle.definition_rules.specs.Forms.{tops, Form, printForm, Fits}
 use Rattle.reading_rules.specs.Record.{Record}
 use Rattle.definition_rules.specs.Declarations.{Noted, complete, stuckAt, parseTokens, declarationsOf, treeDeclarations}
 use Rattle.definition_rules.specs.Table.{Maybe, just, encode, decode}
-use Rattle.definition_rules.specs.Compile.{checks, Verdict, refused, table, verdict, Answer, compiled, refusal, answerOf, compileAnswer, lentAfter, tableAfter}
+use Rattle.definition_rules.specs.Compile.{checks, Verdict, refused, table, verdict, CompileAnswer, compiled, refusal, answerWithRoom, compileAnswer, lentAfter, tableAfter}
 use Rattle.definition_rules.proofs.TableLaws.{All, Storable, Byte, decode-encode, encode-decode}
 use Rattle.definition_rules.proofs.FirstFault.{Found, refused-found, found-refused}
 use Rattle.definition_rules.proofs.FormComplete.{fits-complete}
@@ -25,11 +25,11 @@ use Rattle.definition_rules.specs.Finite.{finites}
 use Rattle.definition_rules.proofs.FiniteLaws.{Sub, Closed, finites-closed, finites-least}
 
 -- T2. "the tokens .. fit the forms" exactly when they are read
-pub fits-read : (ts : List Token) → Fits ts ↔ ((ns : List Noted) × (parseTokens ts ≡ complete ns))
+pub fits-read : (ts : List TextToken) → Fits ts ↔ ((ns : List Noted) × (parseTokens ts ≡ complete ns))
 fits-read ts = ((λ f. let x = fits-complete ts f in (x .0, x .1)), λ x. complete-fits ts (x .0) (x .1) .0)
 
 -- .. and what is declared is what every tree that prints to them declares
-pub declared : (ts : List Token) (ns : List Noted) → parseTokens ts ≡ complete ns → (f : Fits ts) → declarationsOf ns ≡ treeDeclarations (f .0)
+pub declared : (ts : List TextToken) (ns : List Noted) → parseTokens ts ≡ complete ns → (f : Fits ts) → declarationsOf ns ≡ treeDeclarations (f .0)
 declared ts ns e f = let x = fits-complete ts f in let q : ns ≡ x .0 = same (sym e ∙ x .1) in ap declarationsOf q ∙ x .2
   where
     same : {a b : List Noted} → complete a ≡ complete b → a ≡ b
@@ -40,7 +40,7 @@ pub one-tree : (d e : Form tops) → printForm d [] ≡ printForm e [] → d ≡
 one-tree = form-unique
 
 -- T3. "first token that can't go on, or the text's length"
-pub stuck-iff : (ts : List Token) (i : ℕ) → (parseTokens ts ≡ stuckAt i) ↔ StuckBy ts i
+pub stuck-iff : (ts : List TextToken) (i : ℕ) → (parseTokens ts ≡ stuckAt i) ↔ StuckBy ts i
 stuck-iff ts i = (stuck-by ts i, by-stuck ts i)
 
 -- T4. "The lowest number that applies is given, at its smallest place."
@@ -52,16 +52,16 @@ fits-room : (room : ℕ) (bytes : List ℕ) → length bytes ≤ room → ltb ro
 fits-room room bytes h = le-ltb room (length bytes) h
 
 pub compiled-lent : (text bytes lent : List ℕ) → verdict text ≡ table bytes → length bytes ≤ length lent → (compileAnswer text (length lent) ≡ compiled (length bytes)) × (tableAfter text lent ≡ bytes ++ drop (length bytes) lent)
-unfolding compileAnswer answerOf tableAfter lentAfter pick
+unfolding compileAnswer answerWithRoom tableAfter lentAfter pick
 compiled-lent text bytes lent e h = rw (e, fits-room (length lent) bytes h) (refl, refl)
 
 -- 11: "table longer than the lent buffer", "bytes needed"
 pub short-lent : (text bytes lent : List ℕ) → verdict text ≡ table bytes → length lent < length bytes → (compileAnswer text (length lent) ≡ refusal 11 (length bytes)) × (tableAfter text lent ≡ lent)
-unfolding compileAnswer answerOf tableAfter lentAfter pick
+unfolding compileAnswer answerWithRoom tableAfter lentAfter pick
 short-lent text bytes lent e h = rw (e, lt-ltb (length lent) (length bytes) h) (refl, refl)
 
 pub refused-lent : (text lent : List ℕ) (n p : ℕ) → verdict text ≡ refused n p → (compileAnswer text (length lent) ≡ refusal n p) × (tableAfter text lent ≡ lent)
-unfolding compileAnswer answerOf tableAfter lentAfter
+unfolding compileAnswer answerWithRoom tableAfter lentAfter
 refused-lent text lent n p e = rw e (refl, refl)
 
 -- T7. Decoding after encoding, and back

@@ -6,7 +6,7 @@ use lib.Dec.{leb, ltb, eqb}
 use lib.ListN.{length, drop, getD}
 use Rattle.numbers.specs.Limits.{textLimit, parameterLimit}
 use Rattle.classes.specs.Lists.{pick}
-use Rattle.definition_rules.specs.Scan.{Item, itemsOf, tokensOf, placesOf, badPlaces, deepPlaces, placeIf}
+use Rattle.definition_rules.specs.Scan.{Item, itemsOf, textTokensOf, placesOf, badPlaces, deepPlaces, placeIf}
 use Rattle.definition_rules.specs.Declarations.{Noted, Outcome, stuckAt, complete, parseTokens, declarationsOf}
 use Rattle.reading_rules.specs.Record.{Record}
 use Rattle.definition_rules.specs.Records.{recordsOf}
@@ -38,12 +38,12 @@ firstFault (check n ps ∷ cs) = findingOf n ps (firstFault cs)
 -- ---- places
 
 -- a token's place by its number; the text's length where there is no such token
-unfoldable pub placeAt : List ℕ → List Item → ℕ → ℕ
-placeAt text items i = getD (placesOf items) i (length text)
+unfoldable pub tokenPlace : List ℕ → List Item → ℕ → ℕ
+tokenPlace text items i = getD (placesOf items) i (length text)
 
-unfoldable pub placesAt : List ℕ → List Item → List ℕ → List ℕ
-placesAt text items [] = []
-placesAt text items (i ∷ r) = placeAt text items i ∷ placesAt text items r
+unfoldable pub tokenPlaces : List ℕ → List Item → List ℕ → List ℕ
+tokenPlaces text items [] = []
+tokenPlaces text items (i ∷ r) = tokenPlace text items i ∷ tokenPlaces text items r
 
 -- 1: "over 65,535 bytes", "65,535"
 unfoldable pub faults1 : List ℕ → List ℕ
@@ -69,18 +69,18 @@ unfoldable pub checksOf : List ℕ → List Item → Outcome (List Noted) → Li
 checksOf text items o ns rs =
     check 1 (faults1 text)
     ∷ check 2 (faults2 items)
-    ∷ check 3 (placesAt text items (faults3 o))
-    ∷ check 4 (placesAt text items (faults4 parameterLimit ns))
-    ∷ check 5 (placesAt text items (faults5 ns))
-    ∷ check 6 (placesAt text items (faults6 rs ns))
-    ∷ check 7 (placesAt text items (faults7 rs ns))
-    ∷ check 8 (placesAt text items (faults8 rs ns))
-    ∷ check 9 (placesAt text items (faults9 rs ns))
-    ∷ check 10 (placesAt text items (faults10 rs ns))
+    ∷ check 3 (tokenPlaces text items (faults3 o))
+    ∷ check 4 (tokenPlaces text items (faults4 parameterLimit ns))
+    ∷ check 5 (tokenPlaces text items (faults5 ns))
+    ∷ check 6 (tokenPlaces text items (faults6 rs ns))
+    ∷ check 7 (tokenPlaces text items (faults7 rs ns))
+    ∷ check 8 (tokenPlaces text items (faults8 rs ns))
+    ∷ check 9 (tokenPlaces text items (faults9 rs ns))
+    ∷ check 10 (tokenPlaces text items (faults10 rs ns))
     ∷ []
 
 abbrev pub outcomeOf : List ℕ → Outcome (List Noted)
-outcomeOf text = parseTokens (tokensOf (itemsOf text))
+outcomeOf text = parseTokens (textTokensOf (itemsOf text))
 
 abbrev pub recordsOfText : List ℕ → List Record
 recordsOfText text = recordsOf (declarationsOf (notedOf (outcomeOf text)))
@@ -89,7 +89,7 @@ unfoldable pub checksAfter : List ℕ → List Item → Outcome (List Noted) →
 checksAfter text items o = checksOf text items o (notedOf o) (recordsOf (declarationsOf (notedOf o)))
 
 unfoldable pub checksFrom : List ℕ → List Item → List Check
-checksFrom text items = checksAfter text items (parseTokens (tokensOf items))
+checksFrom text items = checksAfter text items (parseTokens (textTokensOf items))
 
 unfoldable pub checks : List ℕ → List Check
 checks text = checksFrom text (itemsOf text)
@@ -109,30 +109,30 @@ unfoldable pub verdict : List ℕ → Verdict
 verdict text = verdictOf (firstFault (checks text)) (recordsOfText text)
 
 -- "Answer: number and place"; "Success gives the table's length"
-pub data Answer : Type 0 where
-  compiled : ℕ → Answer
-  refusal : ℕ → ℕ → Answer
+pub data CompileAnswer : Type 0 where
+  compiled : ℕ → CompileAnswer
+  refusal : ℕ → ℕ → CompileAnswer
 
 -- the paper's number of an answer, 0 for success; a refusal's place; the table's length
-unfoldable pub numberOf : Answer → ℕ
-numberOf (compiled n) = 0
-numberOf (refusal n p) = n
+unfoldable pub numberOfCompile : CompileAnswer → ℕ
+numberOfCompile (compiled n) = 0
+numberOfCompile (refusal n p) = n
 
-unfoldable pub placeOf : Answer → ℕ
-placeOf (compiled n) = 0
-placeOf (refusal n p) = p
+unfoldable pub placeOfCompile : CompileAnswer → ℕ
+placeOfCompile (compiled n) = 0
+placeOfCompile (refusal n p) = p
 
-unfoldable pub countOf : Answer → ℕ
-countOf (compiled n) = n
-countOf (refusal n p) = 0
+unfoldable pub lengthOfCompile : CompileAnswer → ℕ
+lengthOfCompile (compiled n) = n
+lengthOfCompile (refusal n p) = 0
 
 -- 11: "table longer than the lent buffer", "bytes needed"
-unfoldable pub answerOf : ℕ → Verdict → Answer
-answerOf room (refused n p) = refusal n p
-answerOf room (table bytes) = pick (ltb room (length bytes)) (refusal 11 (length bytes)) (compiled (length bytes))
+unfoldable pub answerWithRoom : ℕ → Verdict → CompileAnswer
+answerWithRoom room (refused n p) = refusal n p
+answerWithRoom room (table bytes) = pick (ltb room (length bytes)) (refusal 11 (length bytes)) (compiled (length bytes))
 
-unfoldable pub compileAnswer : List ℕ → ℕ → Answer
-compileAnswer text room = answerOf room (verdict text)
+unfoldable pub compileAnswer : List ℕ → ℕ → CompileAnswer
+compileAnswer text room = answerWithRoom room (verdict text)
 
 -- "the table buffer is untouched"; "bytes beyond it stay"
 unfoldable pub lentAfter : Verdict → List ℕ → List ℕ

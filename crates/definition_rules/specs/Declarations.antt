@@ -8,8 +8,8 @@ use lib.Dec.{leb, eqb}
 use lib.ListN.{length}
 use Rattle.classes.specs.Lists.{sameBytes, pick}
 use Rattle.definition_rules.specs.Words.{kwAs, kwPlugin, takesRange, isCompound, isReference}
-use Rattle.definition_rules.specs.Scan.{Token, run, mark}
-use Rattle.definition_rules.specs.Forms.{MaybeRun, absent, given, Tag, ownName, tagless, explicit, Heading, heading, typeRun, Sort, parameter, fields, groups, tops, Form, plain, compound, noField, field, noGroup, group, lastTop, moreTops}
+use Rattle.definition_rules.specs.Scan.{TextToken, run, mark}
+use Rattle.definition_rules.specs.Forms.{MaybeRun, absent, given, Tag, ownName, tagless, explicit, Heading, heading, typeRun, FormSort, parameter, fields, groups, tops, Form, plain, compound, noField, field, noGroup, group, lastTop, moreTops}
 use Rattle.reading_rules.specs.Record.{Up, top, under}
 
 -- parent, directly in an extension, heading
@@ -18,7 +18,7 @@ pub data Declaration : Type 0 where
 
 -- ---- told by a tree, in front of what follows; k is the number of the first
 
-unfoldable pub countForm : {s : Sort} → Form s → ℕ
+unfoldable pub countForm : {s : FormSort} → Form s → ℕ
 countForm (plain h) = 1
 countForm (compound h f g) = suc (countForm f + countForm g)
 countForm noField = 0
@@ -28,7 +28,7 @@ countForm (group x f g) = countForm x + (countForm f + countForm g)
 countForm (lastTop x) = countForm x
 countForm (moreTops x t) = countForm x + countForm t
 
-unfoldable pub declare : {s : Sort} → Form s → Up → Bool → ℕ → List Declaration → List Declaration
+unfoldable pub declare : {s : FormSort} → Form s → Up → Bool → ℕ → List Declaration → List Declaration
 declare (plain h) u e k r = declaration u e h ∷ r
 declare (compound h f g) u e k r = declaration u e h ∷ declare f (under k) false (suc k) (declare g (under k) true (suc k + countForm f) r)
 declare noField u e k r = r
@@ -140,9 +140,9 @@ unfoldable pub parentOf : List Frame → Up
 parentOf [] = top
 parentOf (frame p m ∷ σ) = under p
 
-unfoldable pub extensionOf : List Frame → Bool
-extensionOf [] = false
-extensionOf (frame p m ∷ σ) = isExtension m
+unfoldable pub isUnderExtension : List Frame → Bool
+isUnderExtension [] = false
+isUnderExtension (frame p m ∷ σ) = isExtension m
 
 unfoldable pub isInBody : List Frame → Bool
 isInBody [] = false
@@ -163,8 +163,8 @@ startMark (frame p m ∷ σ) n =
 unfoldable pub headingEnd : List Frame → ℕ → Spots → Heading → ℕ → Action
 headingEnd σ k s h n =
     pick (eqb n 59)
-    (allow (not (isCompound (typeRun h))) (note (noted s (declaration (parentOf σ) (extensionOf σ) h)) (fieldDone σ) atStart))
-    (allow (eqb n 123 && isCompound (typeRun h)) (note (noted s (declaration (parentOf σ) (extensionOf σ) h)) (frame k inFields ∷ fieldDone σ) atStart))
+    (allow (not (isCompound (typeRun h))) (note (noted s (declaration (parentOf σ) (isUnderExtension σ) h)) (fieldDone σ) atStart))
+    (allow (eqb n 123 && isCompound (typeRun h)) (note (noted s (declaration (parentOf σ) (isUnderExtension σ) h)) (frame k inFields ∷ fieldDone σ) atStart))
 
 unfoldable pub headingRun : List Frame → Stage → Spots → Heading → List ℕ → Action
 headingRun σ afterName s h w = pick (sameBytes w kwAs) (allow (isInBody σ) (move σ (dueTag s h))) (allow (sameBytes w kwPlugin && isInBody σ) (move σ (inHeading afterPlugin s (withPlugin h))))
@@ -178,7 +178,7 @@ headingMark σ afterCard k s h n = headingEnd σ k s h n
 headingMark σ afterTag k s h n = headingEnd σ k s h n
 headingMark σ afterPlugin k s h n = headingEnd σ k s h n
 
-unfoldable pub step : List Frame → ℕ → ℕ → Phase → Token → Action
+unfoldable pub step : List Frame → ℕ → ℕ → Phase → TextToken → Action
 step σ k i atStart (run w) = startRun σ i w
 step σ k i atStart (mark n) = startMark σ n
 step σ k i dueSemicolon (run w) = stop
@@ -227,17 +227,17 @@ atEnd [] k i (dueTag s h) = stuckAt i
 atEnd [] k i (dueCardEnd s h) = stuckAt i
 atEnd (f ∷ σ) k i p = stuckAt i
 
-unfoldable pub parse : List Frame → ℕ → ℕ → Phase → List Token → Outcome (List Noted)
-parse σ k i p [] = atEnd σ k i p
-parse σ k i p (x ∷ xs) =
+unfoldable pub parseForms : List Frame → ℕ → ℕ → Phase → List TextToken → Outcome (List Noted)
+parseForms σ k i p [] = atEnd σ k i p
+parseForms σ k i p (x ∷ xs) =
     elim (step σ k i p x) [
       | stop ↦ stuckAt i
-      | move τ q ↦ parse τ k (suc i) q xs
-      | note d τ q ↦ mapOutcome (λ r. d ∷ r) (parse τ (suc k) (suc i) q xs)
+      | move τ q ↦ parseForms τ k (suc i) q xs
+      | note d τ q ↦ mapOutcome (λ r. d ∷ r) (parseForms τ (suc k) (suc i) q xs)
     ]
 
-abbrev pub parseTokens : List Token → Outcome (List Noted)
-parseTokens ts = parse [] 0 0 atStart ts
+abbrev pub parseTokens : List TextToken → Outcome (List Noted)
+parseTokens ts = parseForms [] 0 0 atStart ts
 
 unfoldable pub declarationsOf : List Noted → List Declaration
 declarationsOf [] = []

@@ -14,7 +14,7 @@ use Rattle.definition_rules.specs.Words.{kindOfRun, isReference, nameFor
 use Rattle.definition_rules.specs.Scan.{placeIf}
 use Rattle.definition_rules.specs.Forms.{MaybeRun, absent, given, Tag, ownName, tagless, explicit, Heading, heading}
 use Rattle.definition_rules.specs.Declarations.{Declaration, declaration, Spots, Noted, noted, declarationsOf}
-use Rattle.definition_rules.specs.Records.{kindLeast, kindMost, rangeOf, countOf, topNames, findTop, orNone}
+use Rattle.definition_rules.specs.Records.{kindLeast, kindMost, limitsOf, countRangeOf, topNames, findTop, orNone}
 use Rattle.definition_rules.specs.Finite.{finites, isEndless}
 
 -- ---- all spots of one test
@@ -70,17 +70,17 @@ countFine noRange = false
 countFine (range a b) = leb a countLimit && leb 1 b && leb a b
 
 unfoldable pub rangeBroken : Declaration → Bool
-rangeBroken (declaration u e (heading w g n c t p)) = not (withinKind (kindOfRun w) (rangeOf (kindOfRun w) g))
+rangeBroken (declaration u e (heading w g n c t p)) = not (withinKind (kindOfRun w) (limitsOf (kindOfRun w) g))
 
 unfoldable pub countBroken : Declaration → Bool
-countBroken (declaration u e (heading w g n c t p)) = not (countFine (countOf c))
+countBroken (declaration u e (heading w g n c t p)) = not (countFine (countRangeOf c))
 
-unfoldable pub kindOf : Declaration → ℕ
-kindOf (declaration u e (heading w g n c t p)) = kindOfRun w
+unfoldable pub kindOfDeclaration : Declaration → ℕ
+kindOfDeclaration (declaration u e (heading w g n c t p)) = kindOfRun w
 
 unfoldable pub kindsOf : List Declaration → List ℕ
 kindsOf [] = []
-kindsOf (d ∷ ds) = kindOf d ∷ kindsOf ds
+kindsOf (d ∷ ds) = kindOfDeclaration d ∷ kindsOf ds
 
 -- p is the number of a union, by the kinds of all parameters
 unfoldable pub isUnionAt : List ℕ → ℕ → Bool
@@ -169,9 +169,9 @@ pub data Key : Type 0 where
 unfoldable pub sameKey : Key → Key → Bool
 sameKey (key u l) (key v m) = sameUp u v && sameBytes l m
 
-unfoldable pub isNew : Key → List Key → Bool
-isNew k [] = true
-isNew k (j ∷ js) = not (sameKey k j) && isNew k js
+unfoldable pub isNewKey : Key → List Key → Bool
+isNewKey k [] = true
+isNewKey k (j ∷ js) = not (sameKey k j) && isNewKey k js
 
 unfoldable pub nameKey : Declaration → Key
 nameKey (declaration u e (heading w g n c t p)) = key u n
@@ -179,7 +179,7 @@ nameKey (declaration u e (heading w g n c t p)) = key u n
 -- before: the names before
 unfoldable pub repeatedNames : List Key → List Noted → List ℕ
 repeatedNames before [] = []
-repeatedNames before (noted s d ∷ r) = placeIf (not (isNew (nameKey d) before)) (s .nameAt) (repeatedNames (nameKey d ∷ before) r)
+repeatedNames before (noted s d ∷ r) = placeIf (not (isNewKey (nameKey d) before)) (s .nameAt) (repeatedNames (nameKey d ∷ before) r)
 
 -- an untagged field and a top have no wire tag
 unfoldable pub hasWireTag : Record → Bool

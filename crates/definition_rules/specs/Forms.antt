@@ -4,7 +4,7 @@ use mathlib.Core.Bool.{Bool, true, false}
 use mathlib.Core.List.{List, [], _∷_, _++_}
 use Prim.Native.Nat.{ℕ, zero, suc, _+_}
 use Rattle.definition_rules.specs.Words.{kwAs, kwPlugin, takesRange, isCompound, isReference}
-use Rattle.definition_rules.specs.Scan.{Token, run, mark}
+use Rattle.definition_rules.specs.Scan.{TextToken, run, mark}
 
 -- ---- a parameter's heading: type, range, name, cardinality, tag, plugin
 
@@ -41,32 +41,32 @@ unfoldable pub pluginOf : Heading → Bool
 pluginOf (heading w g n c t p) = p
 
 -- its tokens, in front of what follows
-unfoldable pub putRange : MaybeRun → List Token → List Token
+unfoldable pub putRange : MaybeRun → List TextToken → List TextToken
 putRange absent r = r
 putRange (given v) r = mark 60 ∷ run v ∷ mark 62 ∷ r
 
-unfoldable pub putCard : MaybeRun → List Token → List Token
+unfoldable pub putCard : MaybeRun → List TextToken → List TextToken
 putCard absent r = r
 putCard (given v) r = mark 91 ∷ run v ∷ mark 93 ∷ r
 
-unfoldable pub putTag : Tag → List Token → List Token
+unfoldable pub putTag : Tag → List TextToken → List TextToken
 putTag ownName r = r
 putTag tagless r = run kwAs ∷ mark 63 ∷ r
 putTag (explicit v) r = run kwAs ∷ run v ∷ r
 
-unfoldable pub putPlugin : Bool → List Token → List Token
+unfoldable pub putPlugin : Bool → List TextToken → List TextToken
 putPlugin false r = r
 putPlugin true r = run kwPlugin ∷ r
 
-unfoldable pub putHead : Heading → List Token → List Token
+unfoldable pub putHead : Heading → List TextToken → List TextToken
 putHead (heading w g n c t p) r = run w ∷ putRange g (run n ∷ putCard c (putTag t (putPlugin p r)))
 
 -- ---- the trees
 
-pub data Sort : Type 0 where
-  parameter fields groups tops : Sort
+pub data FormSort : Type 0 where
+  parameter fields groups tops : FormSort
 
-pub data Form : Sort → Type 0 where
+pub data Form : FormSort → Type 0 where
   plain : Heading → Form parameter
   compound : Heading → Form fields → Form groups → Form parameter
   noField : Form fields
@@ -78,7 +78,7 @@ pub data Form : Sort → Type 0 where
 
 -- "for struct and union then `{` body `}`, then `;`"
 -- "body: any number of fields, none included, then extension groups, each `[` one or more fields `]`"
-unfoldable pub printForm : {s : Sort} → Form s → List Token → List Token
+unfoldable pub printForm : {s : FormSort} → Form s → List TextToken → List TextToken
 printForm (plain h) r = putHead h (mark 59 ∷ r)
 printForm (compound h f g) r = putHead h (mark 123 ∷ printForm f (printForm g (mark 125 ∷ mark 59 ∷ r)))
 printForm noField r = r
@@ -100,7 +100,7 @@ unfoldable pub HeadAllowed : Level → Heading → Type 0
 HeadAllowed topLevel (heading w g n c t p) = (isReference w ≡ false) × RangeAllowed w g × (c ≡ absent) × (t ≡ ownName) × (p ≡ false)
 HeadAllowed fieldLevel (heading w g n c t p) = RangeAllowed w g
 
-unfoldable pub Allowed : {s : Sort} → Level → Form s → Type 0
+unfoldable pub Allowed : {s : FormSort} → Level → Form s → Type 0
 Allowed l (plain h) = HeadAllowed l h × (isCompound (typeRun h) ≡ false)
 Allowed l (compound h f g) = HeadAllowed l h × (isCompound (typeRun h) ≡ true) × Allowed fieldLevel f × Allowed fieldLevel g
 Allowed l noField = Unit {0}
@@ -111,9 +111,9 @@ Allowed l (lastTop x) = Allowed l x
 Allowed l (moreTops x t) = Allowed l x × Allowed l t
 
 -- "A definition is one or more top parameters": a row of tokens fits when some tree prints to it
-abbrev pub Fits : List Token → Type 0
+abbrev pub Fits : List TextToken → Type 0
 Fits ts = (d : Form tops) × Allowed topLevel d × (printForm d [] ≡ ts)
 
 -- the beginning of some row that fits
-abbrev pub Viable : List Token → Type 0
-Viable ts = (more : List Token) × Fits (ts ++ more)
+abbrev pub Viable : List TextToken → Type 0
+Viable ts = (more : List TextToken) × Fits (ts ++ more)

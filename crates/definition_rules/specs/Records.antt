@@ -18,14 +18,14 @@ kindLeast k = pick (eqb k 3) 0 (pick (eqb k 5) (bias + 1) bias)
 unfoldable pub kindMost : ℕ → ℕ
 kindMost k = pick (eqb k 3) intMost (pick (kindTakesRange k) (bias + lengthLimit) bias)
 
-unfoldable pub rangeOf : ℕ → MaybeRun → MaybeRange
-rangeOf k absent = range (kindLeast k) (kindMost k)
-rangeOf k (given w) = readIntRange w
+unfoldable pub limitsOf : ℕ → MaybeRun → MaybeRange
+limitsOf k absent = range (kindLeast k) (kindMost k)
+limitsOf k (given w) = readIntRange w
 
 -- "default 1..1"
-unfoldable pub countOf : MaybeRun → MaybeRange
-countOf absent = range 1 1
-countOf (given w) = readCountRange w
+unfoldable pub countRangeOf : MaybeRun → MaybeRange
+countRangeOf absent = range 1 1
+countRangeOf (given w) = readCountRange w
 
 -- the names of tops, each at its number; absent at a parameter that is no top
 unfoldable pub topName : Declaration → MaybeRun
@@ -70,10 +70,10 @@ recordFor T (declaration u e (heading w g n c t p)) = record {
   untagged = isTagless t;
   extension = e;
   plugin = p;
-  loCount = lowOf (countOf c);
-  hiCount = highOf (countOf c);
-  least = lowOf (rangeOf (kindOfRun w) g);
-  most = highOf (rangeOf (kindOfRun w) g);
+  loCount = lowOf (countRangeOf c);
+  hiCount = highOf (countRangeOf c);
+  least = lowOf (limitsOf (kindOfRun w) g);
+  most = highOf (limitsOf (kindOfRun w) g);
   target = targetOf T (kindOfRun w) w;
   label = labelOf n t;
 }

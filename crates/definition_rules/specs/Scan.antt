@@ -8,14 +8,14 @@ use Rattle.classes.specs.Lists.{pick}
 use Rattle.definition_rules.specs.Words.{ByteClass, inRun, blank, single, slash, other, classOf}
 
 -- "A run is the longest row of letters, digits, .. Other tokens are the single bytes `< > [ ] { } ; ?`."
-pub data Token : Type 0 where
-  run : List ℕ → Token
-  mark : ℕ → Token
+pub data TextToken : Type 0 where
+  run : List ℕ → TextToken
+  mark : ℕ → TextToken
 
 -- a gap is a blank, or a comment's first byte; it ends a run
 pub data Item : Type 0 where
   gap : Item
-  item : ℕ → Token → Item
+  item : ℕ → TextToken → Item
   bad : ℕ → Item
 
 -- outside comments, or where in a comment one stands, with the place of the comment
@@ -60,11 +60,11 @@ abbrev pub itemsOf : List ℕ → List Item
 itemsOf text = scan outside 0 text
 
 -- the tokens, and beside them their places
-unfoldable pub tokensOf : List Item → List Token
-tokensOf [] = []
-tokensOf (gap ∷ r) = tokensOf r
-tokensOf (bad p ∷ r) = tokensOf r
-tokensOf (item p t ∷ r) = t ∷ tokensOf r
+unfoldable pub textTokensOf : List Item → List TextToken
+textTokensOf [] = []
+textTokensOf (gap ∷ r) = textTokensOf r
+textTokensOf (bad p ∷ r) = textTokensOf r
+textTokensOf (item p t ∷ r) = t ∷ textTokensOf r
 
 unfoldable pub placesOf : List Item → List ℕ
 placesOf [] = []
@@ -82,12 +82,12 @@ badPlaces (bad p ∷ r) = p ∷ badPlaces r
 badPlaces (item p t ∷ r) = badPlaces r
 
 -- braces open after a mark: "opened less closed, never under 0"
-unfoldable pub openAfter : ℕ → ℕ → ℕ
-openAfter d n = pick (eqb n 123) (suc d) (pick (eqb n 125) (d - 1) d)
+unfoldable pub bracesAfter : ℕ → ℕ → ℕ
+bracesAfter d n = pick (eqb n 123) (suc d) (pick (eqb n 125) (d - 1) d)
 
 -- "`{` with 8 already open"
-unfoldable pub tooDeep : ℕ → ℕ → Bool
-tooDeep d n = eqb n 123 && leb depthLimit d
+unfoldable pub isDeepBrace : ℕ → ℕ → Bool
+isDeepBrace d n = eqb n 123 && leb depthLimit d
 
 unfoldable pub placeIf : Bool → ℕ → List ℕ → List ℕ
 placeIf true p r = p ∷ r
@@ -99,4 +99,4 @@ deepPlaces d [] = []
 deepPlaces d (gap ∷ r) = deepPlaces d r
 deepPlaces d (bad p ∷ r) = deepPlaces d r
 deepPlaces d (item p (run w) ∷ r) = deepPlaces d r
-deepPlaces d (item p (mark n) ∷ r) = placeIf (tooDeep d n) p (deepPlaces (openAfter d n) r)
+deepPlaces d (item p (mark n) ∷ r) = placeIf (isDeepBrace d n) p (deepPlaces (bracesAfter d n) r)

@@ -9,7 +9,7 @@ use lib.ListN.{length}
 use borrow.Author.Tests.{leb-false}
 use Rattle.numbers.specs.Limits.{depthLimit}
 use Rattle.classes.specs.Lists.{pick}
-use Rattle.definition_rules.specs.Scan.{Item, item, bad, mark, badPlaces, deepPlaces, placeIf, tooDeep, openAfter, itemsOf}
+use Rattle.definition_rules.specs.Scan.{Item, item, bad, mark, badPlaces, deepPlaces, placeIf, isDeepBrace, bracesAfter, itemsOf}
 use Rattle.definition_rules.specs.Compile.{leastOf, faults2}
 use Rattle.definition_rules.proofs.TableLaws.{All}
 use Rattle.definition_scanner.specs.Live.{liveFrom}
@@ -58,18 +58,18 @@ module _ (text : List ℕ) (at d : ℕ) where
   unfolding faultsFrom badPlaces deepPlaces
   fault-run r = rw (r .cut)
 
-  pub fault-mark : {b a e : ℕ} → MarkAt text at b a e → tooDeep d b ≡ false → faultsFrom text at d ≡ faultsFrom text e (openAfter d b)
+  pub fault-mark : {b a e : ℕ} → MarkAt text at b a e → isDeepBrace d b ≡ false → faultsFrom text at d ≡ faultsFrom text e (bracesAfter d b)
   unfolding faultsFrom badPlaces deepPlaces placeIf
   fault-mark m t = rw (m .cut, t)
 
-  pub fault-deep : {b a e : ℕ} → MarkAt text at b a e → tooDeep d b ≡ true → At a ≡ leastPlace (faultsFrom text at d)
+  pub fault-deep : {b a e : ℕ} → MarkAt text at b a e → isDeepBrace d b ≡ true → At a ≡ leastPlace (faultsFrom text at d)
   unfolding faultsFrom badPlaces deepPlaces placeIf
   fault-deep {b} {a} {e} m t =
       let l = live-ahead a text e (omega (arith, m .next)) in
-      rw (m .cut, t) (sym (first-there a (badPlaces (liveFrom text e)) (deepPlaces (openAfter d b) (liveFrom text e)) (ahead-bad a _ l) (ahead-deep a (openAfter d b) _ l)))
+      rw (m .cut, t) (sym (first-there a (badPlaces (liveFrom text e)) (deepPlaces (bracesAfter d b) (liveFrom text e)) (ahead-bad a _ l) (ahead-deep a (bracesAfter d b) _ l)))
 
-pub open-few : (d b : ℕ) → tooDeep d b ≡ false → d ≤ depthLimit → openAfter d b ≤ depthLimit
-unfolding tooDeep openAfter pick
+pub open-few : (d b : ℕ) → isDeepBrace d b ≡ false → d ≤ depthLimit → bracesAfter d b ≤ depthLimit
+unfolding isDeepBrace bracesAfter pick
 open-few d b t h = go (eqb b 123) (eqb b 125) (leb 8 d) refl t
   where
     go : (x y z : Bool) → leb 8 d ≡ z → (x && z) ≡ false → pick x (suc d) (pick y (d - 1) d) ≤ 8

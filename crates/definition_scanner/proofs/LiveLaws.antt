@@ -8,13 +8,13 @@ use lib.Dec.{eqb}
 use lib.ListN.{length, drop}
 use Rattle.classes.specs.Lists.{pick}
 use Rattle.definition_rules.specs.Words.{ByteClass, inRun, blank, single, slash, other, classOf}
-use Rattle.definition_rules.specs.Scan.{Token, run, mark, Item, gap, item, bad, ScanState, outside, lineComment, opening, comment, star, joinRun, startsWith, scan, tokensOf, placesOf, badPlaces, tooDeep, openAfter, placeIf, deepPlaces}
+use Rattle.definition_rules.specs.Scan.{TextToken, run, mark, Item, gap, item, bad, ScanState, outside, lineComment, opening, comment, star, joinRun, startsWith, scan, textTokensOf, placesOf, badPlaces, isDeepBrace, bracesAfter, placeIf, deepPlaces}
 use Rattle.definition_rules.proofs.TableLaws.{All}
 use Rattle.definition_rules.proofs.ScanLaws.{at-blank, at-single, at-other, at-slash, at-run}
 use Rattle.definition_scanner.specs.Live.{live, liveFrom, Ahead}
 
-pub tokens-live : (is : List Item) → tokensOf (live is) ≡ tokensOf is
-unfolding live tokensOf
+pub tokens-live : (is : List Item) → textTokensOf (live is) ≡ textTokensOf is
+unfolding live textTokensOf
 tokens-live [] = refl
 tokens-live (gap ∷ r) = tokens-live r
 tokens-live (bad p ∷ r) = tokens-live r
@@ -40,7 +40,7 @@ deep-live d [] = refl
 deep-live d (gap ∷ r) = deep-live d r
 deep-live d (bad p ∷ r) = deep-live d r
 deep-live d (item p (run w) ∷ r) = deep-live d r
-deep-live d (item p (mark n) ∷ r) = ap (placeIf (tooDeep d n) p) (deep-live (openAfter d n) r)
+deep-live d (item p (mark n) ∷ r) = ap (placeIf (isDeepBrace d n) p) (deep-live (bracesAfter d n) r)
 
 -- ---- places only rise
 
@@ -116,4 +116,4 @@ ahead-deep k d [] a = unfold All in tt
 ahead-deep k d (gap ∷ r) a = ahead-deep k d r a
 ahead-deep k d (bad p ∷ r) a = ahead-deep k d r (a .1)
 ahead-deep k d (item p (run w) ∷ r) a = ahead-deep k d r (a .1)
-ahead-deep k d (item p (mark n) ∷ r) a = least-if k (tooDeep d n) p (deepPlaces (openAfter d n) r) (a .0) (ahead-deep k (openAfter d n) r (a .1))
+ahead-deep k d (item p (mark n) ∷ r) a = least-if k (isDeepBrace d n) p (deepPlaces (bracesAfter d n) r) (a .0) (ahead-deep k (bracesAfter d n) r (a .1))

@@ -18,7 +18,7 @@ use Rattle.definition_rules.proofs.TableLaws.{All}
 use Rattle.definition_rules.proofs.ScanLaws.{at-blank, at-single, at-other, at-slash, at-longest-run, StartsNoRun}
 use Rattle.definition_cells.specs.Cells.{part}
 use Rattle.definition_scanner.specs.Live.{live, liveFrom, Ahead}
-use Rattle.definition_scanner.specs.Lexed.{LineEnded, CommentEnded, RunAt, MarkAt, BadAt, Lexed, Passed, Turned}
+use Rattle.definition_scanner.specs.Lexed.{LineEnded, CommentEnded, RunAt, MarkAt, BadAt, Lexed, Passed, LexTurned}
 use Rattle.definition_scanner.specs.declared.Lexeme.{Lexeme}
 use Rattle.definition_scanner.specs.declared.Lexeme.the-variants.{Run, Mark, Bad, End}
 use Rattle.definition_scanner.specs.declared.Turn.{Turn}
@@ -239,7 +239,7 @@ along-start text at = record { same = refl; after = omega arith }
 pub along-on : {text : List ℕ} {from at e : ℕ} → Along text from at → Passed text at e → Along text from e
 along-on i p = record { same = i .same ∙ p .same; after = omega (arith, i .after, p .after) }
 
-pub along-out : {text : List ℕ} {from at : ℕ} → Along text from at → (t : Turn) (x : Lexeme) → t ≡ Out x → Turned text at t → Lexed text from x
+pub along-out : {text : List ℕ} {from at : ℕ} → Along text from at → (t : Turn) (x : Lexeme) → t ≡ Out x → LexTurned text at t → Lexed text from x
 along-out {text} {from} {at} i t x e l = by x (rw e at l)
   where
     by : (x : Lexeme) → Lexed text at x → Lexed text from x

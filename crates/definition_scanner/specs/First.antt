@@ -19,6 +19,6 @@ pub record GoesOn (text : List ℕ) (at deep e n : ℕ) : Type 0 where
   pub within : e ≤ length text
   pub few : n ≤ 8
 
-abbrev pub Checked : List ℕ → ℕ → ℕ → Step → Type 0
-Checked text at deep (On c n) = GoesOn text at deep (c .at) n
-Checked text at deep (Out p) = p ≡ leastPlace (faultsFrom text at deep)
+abbrev pub ScanStep : List ℕ → ℕ → ℕ → Step → Type 0
+ScanStep text at deep (On c n) = GoesOn text at deep (c .at) n
+ScanStep text at deep (Out p) = p ≡ leastPlace (faultsFrom text at deep)

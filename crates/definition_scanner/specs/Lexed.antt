@@ -60,6 +60,6 @@ pub record Passed (text : List ℕ) (at e : ℕ) : Type 0 where
   pub after : at < e
   pub within : e ≤ length text
 
-abbrev pub Turned : List ℕ → ℕ → Turn → Type 0
-Turned text at (On e) = Passed text at e
-Turned text at (Out x) = Lexed text at x
+abbrev pub LexTurned : List ℕ → ℕ → Turn → Type 0
+LexTurned text at (On e) = Passed text at e
+LexTurned text at (Out x) = Lexed text at x

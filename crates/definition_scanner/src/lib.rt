@@ -6,11 +6,11 @@ ghost use lib.Dec.{eqb};
 ghost use lib.ListN.{length, drop, getD};
 ghost use Rattle.classes.specs.Lists.{runOf};
 ghost use Rattle.classes.specs.Bytes.{isRunByte};
-ghost use Rattle.definition_rules.specs.Scan.{itemsOf, openAfter, tooDeep};
+ghost use Rattle.definition_rules.specs.Scan.{itemsOf, bracesAfter, isDeepBrace};
 ghost use Rattle.definition_rules.specs.Compile.{faults2};
-ghost use Rattle.definition_scanner.specs.Lexed.{LineEnded, Closed, Turned, Lexed};
+ghost use Rattle.definition_scanner.specs.Lexed.{LineEnded, Closed, LexTurned, Lexed};
 ghost use Rattle.definition_cells.specs.Places.{leastPlace};
-ghost use Rattle.definition_scanner.specs.First.{Checked};
+ghost use Rattle.definition_scanner.specs.First.{ScanStep};
 use definition_cells::Place;
 
 // Where in the text one stands.
@@ -108,7 +108,7 @@ fn comment_end(text: &[u8], from: usize) -> Comment
 // What a `/` begins: a comment, or nothing.
 fn slash(text: &[u8], at: usize) -> Turn
     requires { ⌜ (at < length (now text)) × (getD (now text) at 0 ≡ 47) ⌝ }
-    ensures { λ r. ⌜ Turned (now (text .entry)) at r ⌝ }
+    ensures { λ r. ⌜ LexTurned (now (text .entry)) at r ⌝ }
 {
     let n = at + 1;
     if text.len() <= n {
@@ -132,7 +132,7 @@ fn slash(text: &[u8], at: usize) -> Turn
 }
 
 fn turn_at(text: &[u8], at: usize) -> Turn
-    ensures { λ r. ⌜ Turned (now (text .entry)) at r ⌝ }
+    ensures { λ r. ⌜ LexTurned (now (text .entry)) at r ⌝ }
 {
     if text.len() <= at {
         return Turn::Out(Lexeme::End);
@@ -176,7 +176,7 @@ impl Cursor {
 // ---- refusal 2
 
 fn too_deep(deep: usize, b: u8) -> bool
-    ensures { λ r. ⌜ r ≡ tooDeep deep b ⌝ }
+    ensures { λ r. ⌜ r ≡ isDeepBrace deep b ⌝ }
 {
     if b == b'{' {
         return 8 <= deep;
@@ -187,7 +187,7 @@ fn too_deep(deep: usize, b: u8) -> bool
 // The braces open after a mark: opened less closed, never under 0.
 fn open_after(deep: usize, b: u8) -> usize
     requires { ⌜ deep < 65536 ⌝ }
-    ensures { λ r. ⌜ r ≡ openAfter deep b ⌝ }
+    ensures { λ r. ⌜ r ≡ bracesAfter deep b ⌝ }
 {
     if b == b'{' {
         return deep + 1;
@@ -203,7 +203,7 @@ fn open_after(deep: usize, b: u8) -> usize
 
 fn check_next(text: &[u8], c: Cursor, deep: usize) -> Step
     requires { ⌜ deep ≤ 8 ⌝ }
-    ensures { λ r. ⌜ Checked (now (text .entry)) (c .at) deep r ⌝ }
+    ensures { λ r. ⌜ ScanStep (now (text .entry)) (c .at) deep r ⌝ }
 {
     match c.next(text) {
         Lexeme::Run(_, d) => Step::On(d, deep),

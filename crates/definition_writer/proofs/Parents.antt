@@ -11,8 +11,8 @@ use borrow.Author.Tests.{eqb-true}
 use Rattle.classes.specs.Lists.{pick}
 use Rattle.numbers.specs.Limits.{none16}
 use Rattle.reading_rules.specs.Record.{Record, Up, top, under, recordAt, Before, Nested}
-use Rattle.definition_rules.specs.Scan.{Token}
-use Rattle.definition_rules.specs.Forms.{MaybeRun, Sort, tops, Form, plain, compound, noField, field, noGroup, group, lastTop, moreTops}
+use Rattle.definition_rules.specs.Scan.{TextToken}
+use Rattle.definition_rules.specs.Forms.{MaybeRun, FormSort, tops, Form, plain, compound, noField, field, noGroup, group, lastTop, moreTops}
 use Rattle.definition_rules.specs.Declarations.{Declaration, declaration, Noted, noted, countForm, declare, treeDeclarations, complete, parseTokens, declarationsOf}
 use Rattle.definition_rules.specs.Records.{recordFor, recordsFor, recordsOf, topNames}
 use Rattle.definition_rules.specs.Table.{numberUp}
@@ -34,7 +34,7 @@ After k (declaration u e h ∷ ds) = Before k u × After (suc k) ds
 from : (k m : ℕ) (r : List Declaration) → m ≡ k → After m r → After k r
 from k m r e a = subst (λ (j : ℕ). After j r) e a
 
-tree-after : {s : Sort} (x : Form s) (u : Up) (e : Bool) (k : ℕ) (r : List Declaration) → Before k u → After (k + countForm x) r → After k (declare x u e k r)
+tree-after : {s : FormSort} (x : Form s) (u : Up) (e : Bool) (k : ℕ) (r : List Declaration) → Before k u → After (k + countForm x) r → After k (declare x u e k r)
 unfolding declare countForm After
 tree-after (plain h) u e k r p a = (p, from (suc k) (k + 1) r (omega arith) a)
 tree-after (compound h f g) u e k r p a =
@@ -60,7 +60,7 @@ after-at t cs (suc n) i a (suc j) h =
     rw z (after-at t cs n (suc i) (a .1) j (omega arith))
 
 -- the row of numbers holds the declarations of a row of tokens
-pub parents-before : (t cs : List ℕ) (n : ℕ) (ts : List Token) (ns : List Noted) → parseTokens ts ≡ complete ns → declarationsOf (notedFrom t cs n 0) ≡ declarationsOf ns → (i : ℕ) → i < n → Before i (numberUp (cellAt cs i 15))
+pub parents-before : (t cs : List ℕ) (n : ℕ) (ts : List TextToken) (ns : List Noted) → parseTokens ts ≡ complete ns → declarationsOf (notedFrom t cs n 0) ≡ declarationsOf ns → (i : ℕ) → i < n → Before i (numberUp (cellAt cs i 15))
 parents-before t cs n ts ns p e i h = rw (zero-add i) at (after-at t cs n 0 all i h)
   where
     tree : Form tops

@@ -15,7 +15,7 @@ use Rattle.definition_rules.specs.Records.{topNames, recordsFor, recordsOf}
 use Rattle.definition_cells.specs.Cells.{notedAt, notedFrom}
 use Rattle.definition_rules.specs.Table.{upNumber, bit, flagsNumber, encodeRecord, encode, just, decode}
 use Rattle.definition_rules.proofs.TableLaws.{All, decode-encode}
-use Rattle.definition_writer.specs.Written.{recordsIn, cut, cutBytes, encodeCut, Wrote}
+use Rattle.definition_writer.specs.Written.{recordsWritten, low16, cutBytes, encodeCut, WroteRecords}
 use Rattle.definition_writer.proofs.WriteLaws.{sets-front, encode-length}
 use Rattle.definition_writer.proofs.Widths.{Fit, Narrow, all-narrow, all-storable}
 
@@ -62,7 +62,7 @@ unfolding notedFrom notedAt declarationsOf recordsFor
 records-length T t cs zero i = refl
 records-length T t cs (suc n) i = ap suc (records-length T t cs n (suc i))
 
-pub records-count : (t cs : List ℕ) (n : ℕ) → length (recordsIn t cs n) ≡ n
+pub records-count : (t cs : List ℕ) (n : ℕ) → length (recordsWritten t cs n) ≡ n
 unfolding recordsOf
 records-count t cs n = records-length (topNames (declarationsOf (notedFrom t cs n 0))) t cs n 0
 
@@ -76,11 +76,11 @@ pub record Held (rs : List Record) (n len : ℕ) (table tableAfter : List ℕ) :
   pub back : decode (take len tableAfter) ≡ just rs
 
 pub held : (t cs : List ℕ) (n len : ℕ) (table tableAfter : List ℕ) → Fit t cs n → 87 * n ≤ length table
-    → Wrote (recordsIn t cs n) len table tableAfter → Held (recordsIn t cs n) n len table tableAfter
+    → WroteRecords (recordsWritten t cs n) len table tableAfter → Held (recordsWritten t cs n) n len table tableAfter
 held t cs n len table tableAfter f big w = record { size = w .size; most = few; bytes = whole ∙ rw (← w .size); count = count; back = all }
   where
     rs : List Record
-    rs = recordsIn t cs n
+    rs = recordsWritten t cs n
 
     count : length rs ≡ n
     count = records-count t cs n

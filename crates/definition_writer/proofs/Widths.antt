@@ -19,15 +19,15 @@ use Rattle.definition_rules.specs.Words.{numberIf, numberIn, kindOfRun, kindTak
 use Rattle.definition_rules.specs.Scan.{placeIf}
 use Rattle.definition_rules.specs.Forms.{MaybeRun, absent, given, Tag, ownName, tagless, explicit}
 use Rattle.definition_rules.specs.Declarations.{Declaration, Spots, Noted, noted, declarationsOf}
-use Rattle.definition_rules.specs.Records.{kindLeast, kindMost, rangeOf, countOf, topNames, isNamed, findTop, orNone, targetOf, labelOf, recordFor, recordsFor, recordsOf}
+use Rattle.definition_rules.specs.Records.{kindLeast, kindMost, limitsOf, countRangeOf, topNames, isNamed, findTop, orNone, targetOf, labelOf, recordFor, recordsFor, recordsOf}
 use Rattle.definition_rules.specs.Table.{upNumber, numberUp}
 use Rattle.definition_rules.specs.Faults.{spotsWhere, nameBroken, tagBroken, tagBrokenIn, referenceBroken, faults5}
 use Rattle.definition_rules.proofs.TableLaws.{All, Storable}
 use Rattle.definition_cells.specs.declared.Place.the-variants.{Nowhere}
 use Rattle.definition_cells.specs.Cells.{cellAt, runAt, tagAt, maybeRunAt, notedAt, notedFrom}
 use Rattle.definition_cells.specs.Places.{leastPlace}
-use Rattle.definition_headings.specs.Heads.{kindAt, labelAt, namesFrom}
-use Rattle.definition_writer.specs.Written.{declarationIn, recordAt, recordsIn}
+use Rattle.definition_headings.specs.Heads.{declaredKind, labelAt, namesFrom}
+use Rattle.definition_writer.specs.Written.{declarationIn, recordWritten, recordsWritten}
 
 -- ---- numbers that were read
 
@@ -93,8 +93,8 @@ pub kind-ten : (w : List ℕ) → kindOfRun w ≤ 10
 unfolding kindOfRun
 kind-ten w = number-in _ 1 w
 
-limits-within : (k : ℕ) (g : MaybeRun) → Both intMost (rangeOf k g)
-unfolding rangeOf kindLeast kindMost lowOf highOf
+limits-within : (k : ℕ) (g : MaybeRun) → Both intMost (limitsOf k g)
+unfolding limitsOf kindLeast kindMost lowOf highOf
 limits-within k absent = (low (eqb k 3) (eqb k 5), high (eqb k 3) (kindTakesRange k))
   where
     low : (a b : Bool) → pick a 0 (pick b (bias + 1) bias) ≤ intMost
@@ -108,8 +108,8 @@ limits-within k absent = (low (eqb k 3) (eqb k 5), high (eqb k 3) (kindTakesRang
     high false false = unfold pick in omega arith
 limits-within k (given w) = int-range w
 
-counts-within : (c : MaybeRun) → Both none16 (countOf c)
-unfolding countOf lowOf highOf
+counts-within : (c : MaybeRun) → Both none16 (countRangeOf c)
+unfolding countRangeOf lowOf highOf
 counts-within absent = (omega arith, omega arith)
 counts-within (given w) = count-range w
 
@@ -173,25 +173,25 @@ pub record Narrow (r : Record) : Type 0 where
   pub labels : length (r .label) ≤ labelLimit
 
 module _ (t cs : List ℕ) (n i : ℕ) where
-  narrow : Fit t cs n → i < n → Narrow (recordAt t cs n i)
-  unfolding recordAt recordFor notedAt declarationIn
+  narrow : Fit t cs n → i < n → Narrow (recordWritten t cs n i)
+  unfolding recordWritten recordFor notedAt declarationIn
   narrow f h = record {
     kinds = omega (arith, kind-ten (runAt t cs i 0));
     parents = up-narrow (cellAt cs i 15) (f .parents i h);
     los = counts-within (maybeRunAt t cs i 11 6) .0;
     his = counts-within (maybeRunAt t cs i 11 6) .1;
-    targets = target-within (namesFrom t cs n 0) (kindAt t cs i) (runAt t cs i 0) (omega (arith, names-length t cs n 0, f .few));
+    targets = target-within (namesFrom t cs n 0) (declaredKind t cs i) (runAt t cs i 0) (omega (arith, names-length t cs n 0, f .few));
     labels = f .labels i h;
   }
 
-  storable : Storable (recordAt t cs n i)
-  unfolding recordAt recordFor notedAt declarationIn
+  storable : Storable (recordWritten t cs n i)
+  unfolding recordWritten recordFor notedAt declarationIn
   storable =
-      (up-storable (cellAt cs i 15), omega (arith, limits-within (kindAt t cs i) (maybeRunAt t cs i 10 2) .0), omega (arith, limits-within (kindAt t cs i) (maybeRunAt t cs i 10 2) .1))
+      (up-storable (cellAt cs i 15), omega (arith, limits-within (declaredKind t cs i) (maybeRunAt t cs i 10 2) .0), omega (arith, limits-within (declaredKind t cs i) (maybeRunAt t cs i 10 2) .1))
 
 -- what holds of each declaration's record holds of all
-all-from : (P : Record → Type 0) (t cs : List ℕ) (n m i : ℕ) → ((j : ℕ) → j < i + m → P (recordAt t cs n j)) → All P (recordsFor (namesFrom t cs n 0) (declarationsOf (notedFrom t cs m i)))
-unfolding All recordAt notedFrom
+all-from : (P : Record → Type 0) (t cs : List ℕ) (n m i : ℕ) → ((j : ℕ) → j < i + m → P (recordWritten t cs n j)) → All P (recordsFor (namesFrom t cs n 0) (declarationsOf (notedFrom t cs m i)))
+unfolding All recordWritten notedFrom
 all-from P t cs n zero i h = unfold declarationsOf recordsFor in tt
 all-from P t cs n (suc m) i h = one (notedAt t cs i) (h i (omega arith)) (all-from P t cs n m (suc i) (λ j l. h j (omega arith)))
   where
@@ -200,11 +200,11 @@ all-from P t cs n (suc m) i h = one (notedAt t cs i) (h i (omega arith)) (all-fr
     one (noted s d) p q = unfold declarationsOf recordsFor declarationIn in (p, q)
 
 module _ (t cs : List ℕ) (n : ℕ) where
-  pub all-narrow : Fit t cs n → All Narrow (recordsIn t cs n)
+  pub all-narrow : Fit t cs n → All Narrow (recordsWritten t cs n)
   unfolding recordsOf
   all-narrow f = all-from Narrow t cs n n 0 (λ j h. narrow t cs n j f (omega arith))
 
-  pub all-storable : All Storable (recordsIn t cs n)
+  pub all-storable : All Storable (recordsWritten t cs n)
   unfolding recordsOf
   all-storable = all-from Storable t cs n n 0 (λ j h. storable t cs n j)
 

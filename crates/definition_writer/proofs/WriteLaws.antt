@@ -20,8 +20,8 @@ use Rattle.definition_rules.specs.Records.{recordFor, recordsFor, recordsOf, is
 use Rattle.definition_rules.specs.Table.{upNumber, numberUp, bit, flagsNumber, encodeRecord, encode}
 use Rattle.definition_cells.specs.Cells.{cellAt, part, runAt, tagAt, notedAt, notedFrom}
 use Rattle.definition_cells.proofs.CellLaws.{noted-more, noted-end, noted-all}
-use Rattle.definition_headings.specs.Heads.{kindAt, limitsAt, countsAt, labelAt, targetAt, namesFrom}
-use Rattle.definition_writer.specs.Written.{declarationIn, recordAt, recordsIn, recordsAfter, cut, cutBytes, encodeCut}
+use Rattle.definition_headings.specs.Heads.{declaredKind, limitsAt, countsAt, labelAt, targetAt, namesFrom}
+use Rattle.definition_writer.specs.Written.{declarationIn, recordWritten, recordsWritten, recordsAfter, low16, cutBytes, encodeCut}
 
 -- ---- stores in a row
 
@@ -101,13 +101,13 @@ up-number x = by (eqb x 65535) refl
 
 -- the eleven stores
 pub record-is : (t cs : List ℕ) (n i at k p f g lo hi a b : ℕ) (l : List ℕ) (c m : MaybeRange) (e e1 e2 e3 e4 e5 e6 e7 e8 e9 e10 e11 : List ℕ)
-    → l ≡ labelAt t cs i → k ≡ kindAt t cs i → p ≡ cellAt cs i 15 → f ≡ flagsNumber (eqb (cellAt cs i 12) 1) (eqb (cellAt cs i 14) 1) (eqb (cellAt cs i 13) 1)
+    → l ≡ labelAt t cs i → k ≡ declaredKind t cs i → p ≡ cellAt cs i 15 → f ≡ flagsNumber (eqb (cellAt cs i 12) 1) (eqb (cellAt cs i 14) 1) (eqb (cellAt cs i 13) 1)
     → c ≡ countsAt t cs i → m ≡ limitsAt t cs i → g ≡ targetAt t cs n i → lo ≡ lowOf c → hi ≡ highOf c → a ≡ lowOf m → b ≡ highOf m
-    → e1 ≡ sets e at (put16 (cut (24 + length l % 65536)) []) → e2 ≡ sets e1 (at + 2) (put16 (cut k) []) → e3 ≡ sets e2 (at + 4) (put16 (cut p) []) → e4 ≡ sets e3 (at + 6) (put16 (cut f) [])
-    → e5 ≡ sets e4 (at + 8) (put16 (cut lo) []) → e6 ≡ sets e5 (at + 10) (put16 (cut hi) []) → e7 ≡ sets e6 (at + 12) (put32 (signed a) []) → e8 ≡ sets e7 (at + 16) (put32 (signed b) [])
-    → e9 ≡ sets e8 (at + 20) (put16 (cut g) []) → e10 ≡ sets e9 (at + 22) (put16 (cut (length l % 65536)) []) → e11 ≡ sets e10 (at + 24) l
-    → e11 ≡ sets e at (cutBytes (recordAt t cs n i))
-unfolding recordAt recordFor notedAt declarationIn cutBytes put16 put32
+    → e1 ≡ sets e at (put16 (low16 (24 + length l % 65536)) []) → e2 ≡ sets e1 (at + 2) (put16 (low16 k) []) → e3 ≡ sets e2 (at + 4) (put16 (low16 p) []) → e4 ≡ sets e3 (at + 6) (put16 (low16 f) [])
+    → e5 ≡ sets e4 (at + 8) (put16 (low16 lo) []) → e6 ≡ sets e5 (at + 10) (put16 (low16 hi) []) → e7 ≡ sets e6 (at + 12) (put32 (signed a) []) → e8 ≡ sets e7 (at + 16) (put32 (signed b) [])
+    → e9 ≡ sets e8 (at + 20) (put16 (low16 g) []) → e10 ≡ sets e9 (at + 22) (put16 (low16 (length l % 65536)) []) → e11 ≡ sets e10 (at + 24) l
+    → e11 ≡ sets e at (cutBytes (recordWritten t cs n i))
+unfolding recordWritten recordFor notedAt declarationIn cutBytes put16 put32
 record-is t cs n i at k p f g lo hi a b l c m e e1 e2 e3 e4 e5 e6 e7 e8 e9 e10 e11 el ek ep ef ec em eg elo ehi ea eb q1 q2 q3 q4 q5 q6 q7 q8 q9 q10 q11 =
     let x2 : at + 2 ≡ suc (suc at) = omega arith in
     let x4 : at + 4 ≡ suc (suc (suc (suc at))) = omega arith in
@@ -140,8 +140,8 @@ length-is t cs s i e h = (rw e, omega (arith, ap length e, label-within t cs i))
 
 -- ---- all records
 
-record-label : (t cs : List ℕ) (n i : ℕ) → recordAt t cs n i .label ≡ labelAt t cs i
-unfolding recordAt recordFor notedAt declarationIn
+record-label : (t cs : List ℕ) (n i : ℕ) → recordWritten t cs n i .label ≡ labelAt t cs i
+unfolding recordWritten recordFor notedAt declarationIn
 record-label t cs n i = refl
 
 pub cut-length : (r : Record) → length (cutBytes r) ≡ 24 + length (r .label)
@@ -153,12 +153,12 @@ unfolding encodeRecord put16 put32
 encode-length r s = omega (arith, length-append (r .label) s)
 
 module _ (t cs : List ℕ) (n : ℕ) where
-  pub records-start : recordsIn t cs n ≡ recordsAfter t cs n 0
+  pub records-start : recordsWritten t cs n ≡ recordsAfter t cs n 0
   unfolding recordsAfter recordsOf
   records-start = rw (noted-all t cs n)
 
-  pub records-more : (i : ℕ) → i < n → recordsAfter t cs n i ≡ recordAt t cs n i ∷ recordsAfter t cs n (i + 1)
-  unfolding recordsAfter recordAt
+  pub records-more : (i : ℕ) → i < n → recordsAfter t cs n i ≡ recordWritten t cs n i ∷ recordsAfter t cs n (i + 1)
+  unfolding recordsAfter recordWritten
   records-more i h = ap (λ l. recordsFor (namesFrom t cs n 0) (declarationsOf l)) (noted-more t cs n i h) ∙ one (notedAt t cs i)
     where
       one : (x : Noted) → recordsFor (namesFrom t cs n 0) (declarationsOf (x ∷ notedFrom t cs (n - (i + 1)) (i + 1))) ≡ recordFor (namesFrom t cs n 0) (declarationIn x) ∷ recordsFor (namesFrom t cs n 0) (declarationsOf (notedFrom t cs (n - (i + 1)) (i + 1)))
@@ -168,21 +168,21 @@ module _ (t cs : List ℕ) (n : ℕ) where
   unfolding recordsAfter declarationsOf recordsFor
   records-end i h = rw (noted-end t cs n i h)
 
-  pub length-start : length (encode (recordsIn t cs n)) ≡ 0 + length (encode (recordsAfter t cs n 0))
+  pub length-start : length (encode (recordsWritten t cs n)) ≡ 0 + length (encode (recordsAfter t cs n 0))
   length-start = ap (λ l. length (encode l)) records-start ∙ omega arith
 
 -- what is left to write, and where it goes
 module _ (t cs : List ℕ) (n i at k : ℕ) (ek : k ≡ 24 + length (labelAt t cs i)) (h : i < n) where
-  pub bytes-more : (all d e : List ℕ) → all ≡ sets d at (encodeCut (recordsAfter t cs n i)) → e ≡ sets d at (cutBytes (recordAt t cs n i)) → all ≡ sets e (at + k) (encodeCut (recordsAfter t cs n (i + 1)))
+  pub bytes-more : (all d e : List ℕ) → all ≡ sets d at (encodeCut (recordsAfter t cs n i)) → e ≡ sets d at (cutBytes (recordWritten t cs n i)) → all ≡ sets e (at + k) (encodeCut (recordsAfter t cs n (i + 1)))
   unfolding encodeCut
   bytes-more all d e q p =
-      q ∙ (rw (records-more t cs n i h, p, ek, ← record-label t cs n i, ← cut-length (recordAt t cs n i))
-      (sym (sets-append (cutBytes (recordAt t cs n i)) (encodeCut (recordsAfter t cs n (i + 1))) d at)))
+      q ∙ (rw (records-more t cs n i h, p, ek, ← record-label t cs n i, ← cut-length (recordWritten t cs n i))
+      (sym (sets-append (cutBytes (recordWritten t cs n i)) (encodeCut (recordsAfter t cs n (i + 1))) d at)))
 
   pub length-more : (all : ℕ) → all ≡ at + length (encode (recordsAfter t cs n i)) → all ≡ at + k + length (encode (recordsAfter t cs n (i + 1)))
   unfolding encode
   length-more all q =
-      q ∙ (rw (records-more t cs n i h, encode-length (recordAt t cs n i) (encode (recordsAfter t cs n (i + 1))), record-label t cs n i, ← ek) (omega arith))
+      q ∙ (rw (records-more t cs n i h, encode-length (recordWritten t cs n i) (encode (recordsAfter t cs n (i + 1))), record-label t cs n i, ← ek) (omega arith))
 
 module _ (t cs : List ℕ) (n i at : ℕ) (h : n ≤ i) where
   pub bytes-end : (all d : List ℕ) → all ≡ sets d at (encodeCut (recordsAfter t cs n i)) → d ≡ all

@@ -9,13 +9,13 @@ ghost use Rattle.numbers.specs.LittleEndian.{put16, put32, signed};
 ghost use Rattle.definition_rules.specs.Table.{bit as bitOf, flagsNumber};
 ghost use Rattle.definition_cells.specs.Cells.{cellAt};
 ghost use Rattle.definition_headings.specs.Heads.{labelAt};
-ghost use Rattle.definition_writer.specs.Written.{recordAt, recordsIn, cut, cutBytes, Wrote};
+ghost use Rattle.definition_writer.specs.Written.{recordWritten, recordsWritten, low16, cutBytes, WroteRecords};
 
 // ---- numbers and bytes; nothing is written past the end
 
 // Writes the low 16 bits of a number.
 fn put_cut(table: &mut [u8], at: usize, x: usize)
-    ensures { λ _. ⌜ now (table .exit) ≡ sets (now (table .entry)) at (put16 (cut x) []) ⌝ }
+    ensures { λ _. ⌜ now (table .exit) ≡ sets (now (table .entry)) at (put16 (low16 x) []) ⌝ }
 {
     numbers::put_u16(table, at, (x % 65536) as u16);
 }
@@ -63,7 +63,7 @@ fn flags(cells: &[u32], i: usize) -> usize
 }
 
 fn write_record(text: &[u8], cells: &[u32], n: usize, i: usize, table: &mut [u8], at: usize)
-    ensures { λ _. ⌜ now (table .exit) ≡ sets (now (table .entry)) at (cutBytes (recordAt (now (text .entry)) (now (cells .entry)) n i)) ⌝ }
+    ensures { λ _. ⌜ now (table .exit) ≡ sets (now (table .entry)) at (cutBytes (recordWritten (now (text .entry)) (now (cells .entry)) n i)) ⌝ }
 {
     if table.len() <= at {
         return;
@@ -108,7 +108,7 @@ fn record_length(text: &[u8], cells: &[u32], i: usize) -> usize
 // The sizes are those that the first and the fourth refusal leave: with them the length is a number of 32 bits.
 pub fn write_records(text: &[u8], cells: &[u32], n: usize, table: &mut [u8]) -> usize
     requires { ⌜ (n ≤ 256) × (length (now text) ≤ 65535) ⌝ }
-    ensures { λ r. ⌜ Wrote (recordsIn (now (text .entry)) (now (cells .entry)) n) r (now (table .entry)) (now (table .exit)) ⌝ }
+    ensures { λ r. ⌜ WroteRecords (recordsWritten (now (text .entry)) (now (cells .entry)) n) r (now (table .entry)) (now (table .exit)) ⌝ }
 {
     let mut i: usize = 0;
     let mut at: usize = 0;

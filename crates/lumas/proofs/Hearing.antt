@@ -21,7 +21,7 @@ heard-refusal zero p h = absurd (omega arith)
 heard-refusal (suc n) p h = refl
 
 pub record CompileTold (text : List ℕ) (room n v : ℕ) : Type 0 where
-  pub number : n ≡ compiler.numberOf (compileAnswer text room)
+  pub number : n ≡ compiler.numberOfCompile (compileAnswer text room)
   pub value : v ≡ compileValue (compileAnswer text room)
   pub heard : compileHeard n v ≡ compileAnswer text room
   pub endless : EndlessPromise text (compileHeard n v)
@@ -29,11 +29,11 @@ pub record CompileTold (text : List ℕ) (room n v : ℕ) : Type 0 where
 
 module _ (text : List ℕ) (room : ℕ) where
   pub told-table : (n : ℕ) → compiler.compiled n ≡ compileAnswer text room → EndlessPromise text (compiler.compiled n) → CompileTold text room 0 n
-  unfolding compileValue compiler.numberOf compiler.countOf compiler.placeOf
+  unfolding compileValue compiler.numberOfCompile compiler.lengthOfCompile compiler.placeOfCompile
   told-table n e promise = record { number = rw (← e); value = rw (← e) (omega arith); heard = e; endless = promise; fits = λ _ z. omega (arith, z) }
 
   pub told-refusal : (n p : ℕ) → compiler.refusal n p ≡ compileAnswer text room → EndlessPromise text (compiler.refusal n p) → CompileTold text room n p
-  unfolding compileValue compiler.numberOf compiler.countOf compiler.placeOf
+  unfolding compileValue compiler.numberOfCompile compiler.lengthOfCompile compiler.placeOfCompile
   told-refusal n p e promise =
       let h : compileHeard n p ≡ compiler.refusal n p = heard-refusal n p (compile-number text room n p (sym e) .0) in
       record { number = rw (← e); value = rw (← e) (omega arith); heard = h ∙ e; endless = rw h promise; fits = λ l z. never-eleven text room p l (sym e ∙ ap (λ k. compiler.refusal k p) z) }
@@ -45,7 +45,7 @@ read-refusal zero p h = absurd (omega arith)
 read-refusal (suc n) p h = refl
 
 pub record ReadTold (table message lent : List ℕ) (n v : ℕ) (after : List ℕ) : Type 0 where
-  pub number : n ≡ reader.numberOf (readAnswer table message (length lent))
+  pub number : n ≡ reader.numberOfRead (readAnswer table message (length lent))
   pub value : v ≡ readValue (readAnswer table message (length lent))
   pub heard : readHeard n v ≡ readAnswer table message (length lent)
   pub promise : ReadPromise table message lent (readHeard n v) after
@@ -53,12 +53,12 @@ pub record ReadTold (table message lent : List ℕ) (n v : ℕ) (after : List �
 module _ (table message lent after : List ℕ) where
   pub told-rows : (n : ℕ) → reader.accepted n ≡ readAnswer table message (length lent) → ReadPromise table message lent (reader.accepted n) after
       → ReadTold table message lent 0 n after
-  unfolding readValue reader.numberOf reader.countOf reader.placeOf
+  unfolding readValue reader.numberOfRead reader.countOfRead reader.placeOfRead
   told-rows n e promise = record { number = rw (← e); value = rw (← e) (omega arith); heard = e; promise = promise }
 
   pub told-no-rows : (n p : ℕ) → reader.refusal n p ≡ readAnswer table message (length lent) → ReadPromise table message lent (reader.refusal n p) after
       → ReadTold table message lent n p after
-  unfolding readValue reader.numberOf reader.countOf reader.placeOf
+  unfolding readValue reader.numberOfRead reader.countOfRead reader.placeOfRead
   told-no-rows n p e promise =
       let h : readHeard n p ≡ reader.refusal n p = read-refusal n p (omega (arith, read-number table message (length lent) n p (sym e) .0)) in
       record { number = rw (← e); value = rw (← e) (omega arith); heard = h ∙ e; promise = rw h promise }

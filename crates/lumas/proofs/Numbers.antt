@@ -11,7 +11,7 @@ use Rattle.classes.specs.Lists.{pick}
 use Rattle.numbers.specs.Limits.{parameterLimit}
 use Rattle.reading_rules.proofs.CountLaws.{and-both}
 use Rattle.definition_rules.specs.Table.{encode}
-use Rattle.definition_rules.specs.Compile.{Check, check, Finding, clean, fault, findingOf, firstFault, checksOf, checksAfter, checksFrom, checks, recordsOfText, verdictOf, verdict, answerOf, compileAnswer}
+use Rattle.definition_rules.specs.Compile.{Check, check, Finding, clean, fault, findingOf, firstFault, checksOf, checksAfter, checksFrom, checks, recordsOfText, verdictOf, verdict, answerWithRoom, compileAnswer}
 use Rattle.definition_rules.specs.Compile as compiler
 use Rattle.table_rules.specs.RecordRules.{tableRules}
 use Rattle.message_rules.specs.Verdict.{recordsIn, readWith, readAnswer}
@@ -49,8 +49,8 @@ module _ (text : List ℕ) (room n p : ℕ) where
   room-number true k e = let z : 11 ≡ n = cc in (omega arith, omega arith)
   room-number false k e = let z : _≡_ {A = ℕ} 0 1 = cc in absurd (omega arith)
 
-  by-finding : (f : Finding) → firstFault (checks text) ≡ f → answerOf room (verdictOf f (recordsOfText text)) ≡ compiler.refusal n p → (1 ≤ n) × (n ≤ 11)
-  unfolding verdictOf answerOf
+  by-finding : (f : Finding) → firstFault (checks text) ≡ f → answerWithRoom room (verdictOf f (recordsOfText text)) ≡ compiler.refusal n p → (1 ≤ n) × (n ≤ 11)
+  unfolding verdictOf answerWithRoom
   by-finding clean e h = room-number (ltb room (length (encode (recordsOfText text)))) (length (encode (recordsOfText text))) h
   by-finding (fault m q) e h =
       let z : m ≡ n = cc in

@@ -13,7 +13,7 @@ use Rattle.reading_rules.specs.Record.{Record}
 use Rattle.definition_rules.specs.Words.{nameForm, tagForm}
 use Rattle.definition_rules.specs.Faults.{isUnionAt}
 use Rattle.definition_rules.specs.Table.{encode}
-use Rattle.definition_rules.specs.Compile.{Finding, clean, fault, firstFault, checks, recordsOfText, table, verdictOf, verdict, compiled, refusal, answerOf, compileAnswer}
+use Rattle.definition_rules.specs.Compile.{Finding, clean, fault, firstFault, checks, recordsOfText, table, verdictOf, verdict, compiled, refusal, answerWithRoom, compileAnswer}
 use Rattle.table_rules.specs.RecordRules.{ordered, kindsOfRecords, countsFine, rangeFine, targetFine, showsName, labelFine, topFine, recordFine, everyRecord, recordRules}
 use Rattle.table_rules.proofs.Witness.{and-both}
 use Rattle.table_rules.proofs.Made.{name-len, tag-len}
@@ -63,8 +63,8 @@ module _ (text : List ℕ) (room p : ℕ) (enough : tableMost ≤ room) where
   fits true k e l h = omega (arith, ltb-true room k e)
   fits false k e l h = let z : _≡_ {A = ℕ} 0 1 = cc in omega arith
 
-  by-finding : (f : Finding) → firstFault (checks text) ≡ f → answerOf room (verdictOf f (recordsOfText text)) ≡ refusal 11 p → ⊥
-  unfolding verdictOf answerOf
+  by-finding : (f : Finding) → firstFault (checks text) ≡ f → answerWithRoom room (verdictOf f (recordsOfText text)) ≡ refusal 11 p → ⊥
+  unfolding verdictOf answerWithRoom
   by-finding clean e h =
       let v : verdict text ≡ table (encode (recordsOfText text)) = unfold verdict in (ap (λ f. verdictOf f (recordsOfText text)) e) in
       fits (ltb room (length (encode (recordsOfText text)))) (length (encode (recordsOfText text))) refl (rules-short (recordsOfText text) (text-rules-records text (encode (recordsOfText text)) v)) h

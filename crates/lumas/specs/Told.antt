@@ -9,23 +9,23 @@ use Rattle.message_rules.specs.Verdict as reader
 use Rattle.message_rules.specs.RowBytes.{rowBytes}
 
 -- "Success gives the table's length", a refusal its place
-unfoldable pub compileValue : compiler.Answer → ℕ
-compileValue a = compiler.countOf a + compiler.placeOf a
+unfoldable pub compileValue : compiler.CompileAnswer → ℕ
+compileValue a = compiler.lengthOfCompile a + compiler.placeOfCompile a
 
 -- "Success gives the row count", a refusal its place
-unfoldable pub readValue : reader.Answer → ℕ
-readValue a = reader.countOf a + reader.placeOf a
+unfoldable pub readValue : reader.MessageAnswer → ℕ
+readValue a = reader.countOfRead a + reader.placeOfRead a
 
 -- "A record has 25 to 87 bytes": no table is longer
 abbrev pub tableMost : ℕ
 tableMost = parameterLimit * 87
 
 -- the answer that a number and a value stand for: 0 stands for success alone
-abbrev pub compileHeard : ℕ → ℕ → compiler.Answer
+abbrev pub compileHeard : ℕ → ℕ → compiler.CompileAnswer
 compileHeard zero value = compiler.compiled value
 compileHeard (suc n) value = compiler.refusal (suc n) value
 
-abbrev pub readHeard : ℕ → ℕ → reader.Answer
+abbrev pub readHeard : ℕ → ℕ → reader.MessageAnswer
 readHeard zero value = reader.accepted value
 readHeard (suc n) value = reader.refusal (suc n) value
 

@@ -9,11 +9,11 @@ ghost use mathlib.Core.Logic.{_↔_};
 ghost use Prim.Native.Nat.{_≤_};
 ghost use lib.ListN.{length};
 ghost use Rattle.numbers.specs.Limits.{parameterLimit};
-ghost use Rattle.definition_rules.specs.Compile.{numberOf as compileNumber, compileAnswer, tableAfter};
+ghost use Rattle.definition_rules.specs.Compile.{numberOfCompile, compileAnswer, tableAfter};
 ghost use Rattle.table_rules.specs.Endless.{EndlessPromise};
 ghost use Rattle.table_rules.specs.Compilable.{Compilable};
 ghost use Rattle.table_rules.specs.RecordRules.{tableRules};
-ghost use Rattle.message_rules.specs.Verdict.{numberOf as readNumber, readAnswer, rowsAfter};
+ghost use Rattle.message_rules.specs.Verdict.{numberOfRead, readAnswer, rowsAfter};
 ghost use Rattle.message_rules.specs.Promise.{ReadPromise};
 ghost use Rattle.lumas.specs.Told.{tableMost, compileValue, compileHeard, readValue, readHeard, RowPart};
 
@@ -25,7 +25,7 @@ const ROW_WIDTH: usize = 4;
 // Where as much is lent as the longest table has, it is never refused for its length.
 #[no_mangle]
 pub extern "C" fn lumas_compile(text: &[u8], table: &mut [u8], value: &mut usize) -> u32
-    ensures { λ r. ⌜ r ≡ compileNumber (compileAnswer (now (text .entry)) (length (now (table .entry)))) ⌝ }
+    ensures { λ r. ⌜ r ≡ numberOfCompile (compileAnswer (now (text .entry)) (length (now (table .entry)))) ⌝ }
     ensures { λ _. ⌜ now (value .exit) ≡ compileValue (compileAnswer (now (text .entry)) (length (now (table .entry)))) ⌝ }
     ensures { λ _. ⌜ now (table .exit) ≡ tableAfter (now (text .entry)) (now (table .entry)) ⌝ }
     ensures { λ r. ⌜ compileHeard r (now (value .exit)) ≡ compileAnswer (now (text .entry)) (length (now (table .entry))) ⌝ }
@@ -61,7 +61,7 @@ pub extern "C" fn lumas_read(
     rows: &mut [u32],
     value: &mut usize,
 ) -> u32
-    ensures { λ r. ⌜ r ≡ readNumber (readAnswer (now (table .entry)) (now (message .entry)) (length (now (rows .entry)))) ⌝ }
+    ensures { λ r. ⌜ r ≡ numberOfRead (readAnswer (now (table .entry)) (now (message .entry)) (length (now (rows .entry)))) ⌝ }
     ensures { λ _. ⌜ now (value .exit) ≡ readValue (readAnswer (now (table .entry)) (now (message .entry)) (length (now (rows .entry)))) ⌝ }
     ensures { λ _. ⌜ now (rows .exit) ≡ rowsAfter (now (table .entry)) (now (message .entry)) (now (rows .entry)) ⌝ }
     ensures { λ r. ⌜ readHeard r (now (value .exit)) ≡ readAnswer (now (table .entry)) (now (message .entry)) (length (now (rows .entry))) ⌝ }

@@ -19,10 +19,10 @@ use Rattle.message_rules.specs.Scan.{Lexeme as Lex}
 use Rattle.reading_rules.specs.Parse.{Result, refused, bodyAt, parse}
 use Rattle.reading_rules.specs.Parse as parser
 use Rattle.message_rules.specs.Rows.{Row, rowCount, rowsOf, messageRows, cells}
-use Rattle.message_rules.specs.Verdict.{RoomFree, fault, rows, outcome, placeAt, afterScan, roomFree, Answer, accepted, refusal, withRoom, written}
+use Rattle.message_rules.specs.Verdict.{RoomFree, fault, rows, outcome, placeOfLeft, afterScan, roomFree, MessageAnswer, accepted, refusal, withRoom, written}
 use Rattle.message_rules.proofs.RowLaws.{message-counted, cells-counted, rows-counted}
 use Rattle.message_tokens.specs.Cursor.{cutAt, lexemesAt}
-use Rattle.message_tokens.specs.Scanned.{foundOf}
+use Rattle.message_tokens.specs.Scanned.{faultOf}
 use Rattle.message_tokens.specs.declared.Scanned.{Scanned}
 use Rattle.message_tokens.specs.declared.Scanned.the-variants.{Clean, Fault}
 use Rattle.message_tokens.proofs.CutAt.{cut-start}
@@ -36,7 +36,7 @@ use Rattle.message_values.specs.declared.Frame.{Frame}
 use Rattle.message_values.specs.declared.Got.{Got}
 use Rattle.message_values.specs.declared.Got.the-variants as got
 use Rattle.message_values.specs.Ends.{Room, Ended, Ends}
-use Rattle.message.specs.Reads.{answerOf, rootFrame, reading, Rows, Counted, Fills}
+use Rattle.message.specs.Reads.{answerOfRead, rootFrame, reading, Rows, RowsCounted, Fills}
 use Rattle.message.specs.declared.Verdict.{Verdict}
 use Rattle.message.specs.declared.Verdict.the-variants.{Accepted, Refused}
 
@@ -78,13 +78,13 @@ module _ (t o : List ℕ) (n : ℕ) (m : List ℕ) (before after : List ℕ) whe
   reading-is : reading t o n m ≡ outcome m (lexemesAt 0 m 0) (bodyAt (schemaAt t o n) 17 false 0 (tokensOf (lexemesAt 0 m 0)))
   reading-is = ap (λ x. outcome m x (bodyAt (schemaAt t o n) 17 false 0 (tokensOf x))) start
 
-  pub counted : (r : Got) → Ends (bodyAt (schemaAt t o n) 17 false 0 (tokensOf (lexemesAt 0 m 0))) m rootFrame before after 0 r → Counted (reading t o n m) r
+  pub counted : (r : Got) → Ends (bodyAt (schemaAt t o n) 17 false 0 (tokensOf (lexemesAt 0 m 0))) m rootFrame before after 0 r → RowsCounted (reading t o n m) r
   unfolding outcome
   counted (got.Done u k) h =
       let e : reading t o n m ≡ rows (messageRows m (lexemesAt 0 m 0) (h .read .tree)) = reading-is ∙ ap (outcome m (lexemesAt 0 m 0)) (h .read .is) in
       record { all = messageRows m (lexemesAt 0 m 0) (h .read .tree); is = e; counted = omega (arith, h .read .sized, message-counted m (lexemesAt 0 m 0) (h .read .tree)) }
   counted (got.Refused k q) h =
-      let p : placeAt m (lexemesAt 0 m 0) (tokensOf (h .rest)) ≡ q = place-left m (lexemesAt 0 m 0) (h .rest) (h .along) ∙ sym (rw (zero-add (length m)) at (h .place)) in
+      let p : placeOfLeft m (lexemesAt 0 m 0) (tokensOf (h .rest)) ≡ q = place-left m (lexemesAt 0 m 0) (h .rest) (h .along) ∙ sym (rw (zero-add (length m)) at (h .place)) in
       reading-is ∙ (ap (outcome m (lexemesAt 0 m 0)) (h .is) ∙ ap (fault k) p)
 
   pub filled : (lent : List ℕ) (r : Got) → before ≡ sets lent (rowWidth * 0) (cells (record { parameter = 0; parent = noRow; start = 0; end = length m } ∷ [])) → Ends (bodyAt (schemaAt t o n) 17 false 0 (tokensOf (lexemesAt 0 m 0))) m rootFrame before after 0 r → Fills (reading t o n m) lent after
@@ -94,7 +94,7 @@ module _ (t o : List ℕ) (n : ℕ) (m : List ℕ) (before after : List ℕ) whe
       let y : rs ≡ messageRows m (lexemesAt 0 m 0) (h .read .tree) = cc in
       rw y (h .read .written ∙ rw b (rows-append lent 0 1 (record { parameter = 0; parent = noRow; start = 0; end = length m } ∷ []) (rowsOf (lexemesAt 0 m 0) (h .read .tree) 0 1 0 0) refl))
   filled lent (got.Refused k q) b h rs e =
-      let z : rows rs ≡ fault k (placeAt m (lexemesAt 0 m 0) (tokensOf (h .rest))) = sym e ∙ (reading-is ∙ ap (outcome m (lexemesAt 0 m 0)) (h .is)) in
+      let z : rows rs ≡ fault k (placeOfLeft m (lexemesAt 0 m 0) (tokensOf (h .rest))) = sym e ∙ (reading-is ∙ ap (outcome m (lexemesAt 0 m 0)) (h .is)) in
       let y : _≡_ {A = ℕ} 0 1 = cc in absurd (omega arith)
 
 -- ---- the room
@@ -144,14 +144,14 @@ module _ (table : List ℕ) (o : List ℕ) (n : ℕ) (m : List ℕ) where
   unfolding roomFree
   scanned h = rw (le-leb (length m) messageLimit h, roomFree) refl
 
-  pub bad-byte : (r : Scanned) (at : ℕ) → length m ≤ messageLimit → foundOf r ≡ scanFault (cut m) → r ≡ Fault at → roomFree (recordsAt table o n) m ≡ fault 22 at
+  pub bad-byte : (r : Scanned) (at : ℕ) → length m ≤ messageLimit → faultOf r ≡ scanFault (cut m) → r ≡ Fault at → roomFree (recordsAt table o n) m ≡ fault 22 at
   unfolding afterScan
-  bad-byte r at h e q = scanned h ∙ ap (afterScan (schemaOf (recordsAt table o n)) m (cut m .lexemes)) (sym e ∙ ap foundOf q)
+  bad-byte r at h e q = scanned h ∙ ap (afterScan (schemaOf (recordsAt table o n)) m (cut m .lexemes)) (sym e ∙ ap faultOf q)
 
-  pub no-bad : (r : Scanned) → Linked table o n 0 → length m ≤ messageLimit → foundOf r ≡ scanFault (cut m) → r ≡ Clean → roomFree (recordsAt table o n) m ≡ reading table o n m
+  pub no-bad : (r : Scanned) → Linked table o n 0 → length m ≤ messageLimit → faultOf r ≡ scanFault (cut m) → r ≡ Clean → roomFree (recordsAt table o n) m ≡ reading table o n m
   unfolding afterScan
   no-bad r l h e q =
-      scanned h ∙ (ap (afterScan (schemaOf (recordsAt table o n)) m (cut m .lexemes)) (sym e ∙ ap foundOf q)
+      scanned h ∙ (ap (afterScan (schemaOf (recordsAt table o n)) m (cut m .lexemes)) (sym e ∙ ap faultOf q)
       ∙ ap (λ S. outcome m (cut m .lexemes) (parse S openLimit (tokensOf (cut m .lexemes)))) (sym (schema-is table o n l)))
 
 -- nothing was lent

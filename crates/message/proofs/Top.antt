@@ -14,13 +14,13 @@ use Rattle.reading_rules.proofs.CountLaws.{clash-bool, and-both}
 use Rattle.definition_rules.specs.Table.{Maybe, none, just, decode}
 use Rattle.table_rules.specs.RecordRules.{recordRules, tableRules}
 use Rattle.table_rules.proofs.Theorems.{bytes-records}
-use Rattle.message_rules.specs.Verdict.{Answer, accepted, refusal, RoomFree, withRoom, written, roomFree, orEmpty, recordsIn, readWith, rowsWith, readAnswer, rowsAfter}
+use Rattle.message_rules.specs.Verdict.{MessageAnswer, accepted, refusal, RoomFree, withRoom, written, roomFree, orEmpty, recordsIn, readWith, rowsWith, readAnswer, rowsAfter}
 use Rattle.message_rules.specs.Promise.{ReadPromise}
 use Rattle.message_rules.proofs.Compiled.{read-promise}
 use Rattle.table_records.specs.Stored.{recordsAt}
 use Rattle.table_walk.specs.declared.Walk.{Walk}
 use Rattle.table_walk.specs.declared.Walk.the-variants.{Count, Bad}
-use Rattle.table_walk.specs.Walked.{Counted, Uncounted, Walked}
+use Rattle.table_walk.specs.Walked.{RecordsCounted, Uncounted, Walked}
 
 -- ---- 20
 
@@ -29,11 +29,11 @@ unfolding readAnswer rowsAfter
 bad-table table message lent e = (rw (← e, readAnswer), rw (← e, rowsAfter))
 
 -- the records that were walked are the table's
-records-are : (table unpacked : List ℕ) (n : ℕ) → Counted table unpacked n → recordsIn table ≡ recordsAt table unpacked n
+records-are : (table unpacked : List ℕ) (n : ℕ) → RecordsCounted table unpacked n → recordsIn table ≡ recordsAt table unpacked n
 unfolding recordsIn orEmpty
 records-are table unpacked n c = ap orEmpty (c .these)
 
-pub good-table : (table message lent after unpacked : List ℕ) (n : ℕ) (a : Answer) → true ≡ tableRules parameterLimit table → Counted table unpacked n → a ≡ withRoom (length lent) (roomFree (recordsAt table unpacked n) message) → after ≡ written lent (roomFree (recordsAt table unpacked n) message) → (a ≡ readAnswer table message (length lent)) × (after ≡ rowsAfter table message lent)
+pub good-table : (table message lent after unpacked : List ℕ) (n : ℕ) (a : MessageAnswer) → true ≡ tableRules parameterLimit table → RecordsCounted table unpacked n → a ≡ withRoom (length lent) (roomFree (recordsAt table unpacked n) message) → after ≡ written lent (roomFree (recordsAt table unpacked n) message) → (a ≡ readAnswer table message (length lent)) × (after ≡ rowsAfter table message lent)
 unfolding readAnswer rowsAfter readWith rowsWith
 good-table table message lent after unpacked n a e c x y =
     let q = records-are table unpacked n c in
@@ -41,6 +41,6 @@ good-table table message lent after unpacked n a e c x y =
 
 -- ---- the promise
 
-pub promised : (table message lent after : List ℕ) (a : Answer) → ((i : ℕ) → getD table i 0 < 2 ^ 8) → (a ≡ readAnswer table message (length lent)) × (after ≡ rowsAfter table message lent) → (a ≡ readAnswer table message (length lent)) × ((after ≡ rowsAfter table message lent) × ReadPromise table message lent a after)
+pub promised : (table message lent after : List ℕ) (a : MessageAnswer) → ((i : ℕ) → getD table i 0 < 2 ^ 8) → (a ≡ readAnswer table message (length lent)) × (after ≡ rowsAfter table message lent) → (a ≡ readAnswer table message (length lent)) × ((after ≡ rowsAfter table message lent) × ReadPromise table message lent a after)
 promised table message lent after a h x =
     (x .0, (x .1, subst (λ b. ReadPromise table message lent b after) (sym (x .0)) (subst (λ l. ReadPromise table message lent (readAnswer table message (length lent)) l) (sym (x .1)) (read-promise table message lent h))))

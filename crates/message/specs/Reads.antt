@@ -9,7 +9,7 @@ use Rattle.message_lookup.specs.Questions.{schemaAt}
 use Rattle.message_rules.specs.Scan.{cut, tokensOf}
 use Rattle.reading_rules.specs.Parse.{parse}
 use Rattle.message_rules.specs.Rows.{Row, cells}
-use Rattle.message_rules.specs.Verdict.{RoomFree, fault, rows, outcome, Answer, accepted, refusal}
+use Rattle.message_rules.specs.Verdict.{RoomFree, fault, rows, outcome, MessageAnswer, accepted, refusal}
 use Rattle.message_values.specs.declared.Frame.{Frame}
 use Rattle.message_values.specs.declared.Got.{Got}
 use Rattle.message_values.specs.declared.Got.the-variants as got
@@ -17,9 +17,9 @@ use Rattle.message.specs.declared.Verdict.{Verdict}
 use Rattle.message.specs.declared.Verdict.the-variants.{Accepted, Refused}
 
 -- "Success gives the row count"; a refusal its number and place
-abbrev pub answerOf : Verdict → Answer
-answerOf (Accepted n) = accepted n
-answerOf (Refused n place) = refusal n place
+abbrev pub answerOfRead : Verdict → MessageAnswer
+answerOfRead (Accepted n) = accepted n
+answerOfRead (Refused n place) = refusal n place
 
 abbrev pub rootFrame : Frame
 rootFrame = record { base = 0; at = 0; row = 1; parameter = 0; parent = 0; depth = 17 }
@@ -34,9 +34,9 @@ pub record Rows (o : RoomFree) (m : ℕ) : Type 0 where
   pub is : o ≡ rows all
   pub counted : m ≡ length all
 
-abbrev pub Counted : RoomFree → Got → Type 0
-Counted o (got.Done u m) = Rows o m
-Counted o (got.Refused n q) = o ≡ fault n q
+abbrev pub RowsCounted : RoomFree → Got → Type 0
+RowsCounted o (got.Done u m) = Rows o m
+RowsCounted o (got.Refused n q) = o ≡ fault n q
 
 -- the rows of a reading, stored from the start
 abbrev pub Fills : RoomFree → List ℕ → List ℕ → Type 0

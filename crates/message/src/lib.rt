@@ -12,7 +12,7 @@ ghost use Rattle.message_rules.specs.RowBytes.{rowBytes};
 ghost use Rattle.message_rules.specs.Rows.{Row, cells};
 ghost use Rattle.message_rules.specs.Verdict.{roomFree, withRoom, written, readAnswer, rowsAfter};
 ghost use Rattle.message_rules.specs.Promise.{ReadPromise};
-ghost use Rattle.message.specs.Reads.{answerOf, rootFrame, reading, Counted, Fills};
+ghost use Rattle.message.specs.Reads.{answerOfRead, rootFrame, reading, RowsCounted, Fills};
 use message_rows::Row;
 use message_tokens::Scanned;
 use message_values::Frame;
@@ -72,7 +72,7 @@ fn root() -> Frame
 // The first pass, over no rows: how many there are, or the refusal. The records are at most 256, as a table's are.
 fn count(table: &[u8], unpacked: &[u32], n: usize, message: &[u8], rows: &mut [u32]) -> Got
     requires { ⌜ (length (now message) ≤ messageLimit) × (n ≤ parameterLimit) ⌝ }
-    ensures { λ r. ⌜ Counted (reading (now (table .entry)) (now (unpacked .entry)) n (now (message .entry))) r ⌝ }
+    ensures { λ r. ⌜ RowsCounted (reading (now (table .entry)) (now (unpacked .entry)) n (now (message .entry))) r ⌝ }
     ensures { λ _. ⌜ now (rows .exit) ≡ now (rows .entry) ⌝ }
 {
     message_reader::body(table, unpacked, n, message, &mut rows[0..0], root(), false)
@@ -106,7 +106,7 @@ fn read_records(
     rows: &mut [u32],
 ) -> Verdict
     requires { ⌜ (n ≤ parameterLimit) × Linked (now table) (now unpacked) n 0 ⌝ }
-    ensures { λ r. ⌜ answerOf r ≡ withRoom (length (now (rows .entry))) (roomFree (recordsAt (now (table .entry)) (now (unpacked .entry)) n) (now (message .entry))) ⌝ }
+    ensures { λ r. ⌜ answerOfRead r ≡ withRoom (length (now (rows .entry))) (roomFree (recordsAt (now (table .entry)) (now (unpacked .entry)) n) (now (message .entry))) ⌝ }
     ensures { λ _. ⌜ now (rows .exit) ≡ written (now (rows .entry)) (roomFree (recordsAt (now (table .entry)) (now (unpacked .entry)) n) (now (message .entry))) ⌝ }
 {
     if MESSAGE_LIMIT < message.len() {
@@ -131,7 +131,7 @@ fn read_tokens(
     rows: &mut [u32],
 ) -> Verdict
     requires { ⌜ (length (now message) ≤ messageLimit) × (n ≤ parameterLimit) ⌝ }
-    ensures { λ r. ⌜ answerOf r ≡ withRoom (length (now (rows .entry))) (reading (now (table .entry)) (now (unpacked .entry)) n (now (message .entry))) ⌝ }
+    ensures { λ r. ⌜ answerOfRead r ≡ withRoom (length (now (rows .entry))) (reading (now (table .entry)) (now (unpacked .entry)) n (now (message .entry))) ⌝ }
     ensures { λ _. ⌜ now (rows .exit) ≡ written (now (rows .entry)) (reading (now (table .entry)) (now (unpacked .entry)) n (now (message .entry))) ⌝ }
 {
     match count(table, unpacked, n, message, rows) {
@@ -151,7 +151,7 @@ fn read_tokens(
 // The same with cells lent, which are enough for the table's records: number 20 first.
 fn read_with(table: &[u8], unpacked: &mut [u32], message: &[u8], rows: &mut [u32]) -> Verdict
     requires { ⌜ Enough (length (now table)) (length (now unpacked)) ⌝ }
-    ensures { λ r. ⌜ answerOf r ≡ readAnswer (now (table .entry)) (now (message .entry)) (length (now (rows .entry))) ⌝ }
+    ensures { λ r. ⌜ answerOfRead r ≡ readAnswer (now (table .entry)) (now (message .entry)) (length (now (rows .entry))) ⌝ }
     ensures { λ _. ⌜ now (rows .exit) ≡ rowsAfter (now (table .entry)) (now (message .entry)) (now (rows .entry)) ⌝ }
 {
     match table::checked(table, unpacked) {
@@ -164,9 +164,9 @@ fn read_with(table: &[u8], unpacked: &mut [u32], message: &[u8], rows: &mut [u32
 // paper asks: 20 exactly when no definition compiles to the table; accepted exactly when a lawful reading exists and its
 // rows fit, with that reading's rows; never a second reading; 29 with the number of rows that don't fit; else no lawful reading.
 pub fn read(table: &[u8], message: &[u8], rows: &mut [u32]) -> Verdict
-    ensures { λ r. ⌜ answerOf r ≡ readAnswer (now (table .entry)) (now (message .entry)) (length (now (rows .entry))) ⌝ }
+    ensures { λ r. ⌜ answerOfRead r ≡ readAnswer (now (table .entry)) (now (message .entry)) (length (now (rows .entry))) ⌝ }
     ensures { λ _. ⌜ now (rows .exit) ≡ rowsAfter (now (table .entry)) (now (message .entry)) (now (rows .entry)) ⌝ }
-    ensures { λ r. ⌜ ReadPromise (now (table .entry)) (now (message .entry)) (now (rows .entry)) (answerOf r) (now (rows .exit)) ⌝ }
+    ensures { λ r. ⌜ ReadPromise (now (table .entry)) (now (message .entry)) (now (rows .entry)) (answerOfRead r) (now (rows .exit)) ⌝ }
 {
     if table.len() <= 400 {
         let mut few = table::few_cells();

@@ -20,11 +20,11 @@ use Rattle.message_rules.specs.Rows.{rowsOf, cells}
 use Rattle.reading_rules.proofs.Sound.{unknowns-sound}
 use Rattle.reading_rules.proofs.Complete.{leaves-width}
 use Rattle.message_tokens.specs.Cursor.{part, cutAt, lexemesAt, Step}
-use Rattle.message_tokens.specs.Head.{kindAt, HeadAt}
+use Rattle.message_tokens.specs.Head.{tokenKind, HeadAt}
 use Rattle.message_tokens.specs.declared.Head.{Head}
 use Rattle.message_tokens.proofs.Heads.{head-kind, head-not, step-tokens, step-left, step-within}
 use Rattle.message_unknown.specs.Along.{here, tokensAt, Stopped}
-use Rattle.message_unknown.specs.Passing.{leftOf, Ended as Passed, Halted}
+use Rattle.message_unknown.specs.Passing.{leftOf, PassedUpTo, Halted}
 use Rattle.message_unknown.proofs.AlongLaws.{tail-trans, tail-drop, tokens-length, step-tail}
 use Rattle.message_unknown.proofs.Steps.{left-got, left-refused}
 use Rattle.message_lookup.specs.Questions.{schemaAt}
@@ -90,8 +90,8 @@ ends-by i c a x n e = rw e refl
 
 module _ (S : Schema) (Vs : Values) (inside : Bool) where
   -- items: anything but a word
-  items-end : (p fuel : ℕ) (ks : List ℕ) (x : List Token) → (kindAt x ≡ 1 → ⊥) → itemsAt S Vs inside p (suc fuel) ks x ≡ need (eqb (endAt (kindAt x) inside (allIn (requiredOf S (S .tagged p)) ks) 23) 0) (endAt (kindAt x) inside (allIn (requiredOf S (S .tagged p)) ks) 23) x (got noItem) x
-  unfolding itemsAt kindAt endAt need
+  items-end : (p fuel : ℕ) (ks : List ℕ) (x : List Token) → (tokenKind x ≡ 1 → ⊥) → itemsAt S Vs inside p (suc fuel) ks x ≡ need (eqb (endAt (tokenKind x) inside (allIn (requiredOf S (S .tagged p)) ks) 23) 0) (endAt (tokenKind x) inside (allIn (requiredOf S (S .tagged p)) ks) 23) x (got noItem) x
+  unfolding itemsAt tokenKind endAt need
   items-end p fuel ks [] a = ends-by inside (allIn (requiredOf S (S .tagged p)) ks) noItem [] (endNumberAt inside (allIn (requiredOf S (S .tagged p)) ks)) (end-nothing inside (allIn (requiredOf S (S .tagged p)) ks))
   items-end p fuel ks (word w ∷ r) a = absurd (a refl)
   items-end p fuel ks (string w ∷ r) a = refl
@@ -101,8 +101,8 @@ module _ (S : Schema) (Vs : Values) (inside : Bool) where
   items-end p fuel ks (closing ∷ r) a = ends-by inside (allIn (requiredOf S (S .tagged p)) ks) noItem (closing ∷ r) (endNumberAt (not inside) (allIn (requiredOf S (S .tagged p)) ks)) (end-token inside (allIn (requiredOf S (S .tagged p)) ks) closing r)
 
   -- an untagged field's list, or the body's end in its place
-  lists-start : (p q : ℕ) (qs : List ℕ) (x : List Token) → endAt (kindAt x) inside (eqb (S .lo q) 0) 1 ≡ 1 → listsAt S Vs inside p (q ∷ qs) x ≡ listThen S Vs (listsAt S Vs inside p qs) q x
-  unfolding listsAt kindAt endAt
+  lists-start : (p q : ℕ) (qs : List ℕ) (x : List Token) → endAt (tokenKind x) inside (eqb (S .lo q) 0) 1 ≡ 1 → listsAt S Vs inside p (q ∷ qs) x ≡ listThen S Vs (listsAt S Vs inside p qs) q x
+  unfolding listsAt tokenKind endAt
   lists-start p q qs [] a = absurd (not-one inside (eqb (S .lo q) 0) a)
   lists-start p q qs (word w ∷ r) a = refl
   lists-start p q qs (string w ∷ r) a = refl
@@ -111,8 +111,8 @@ module _ (S : Schema) (Vs : Values) (inside : Bool) where
   lists-start p q qs (comma ∷ r) a = refl
   lists-start p q qs (closing ∷ r) a = absurd (not-one (not inside) (eqb (S .lo q) 0) a)
 
-  lists-end : (p q : ℕ) (qs : List ℕ) (x : List Token) (n : ℕ) → endAt (kindAt x) inside (eqb (S .lo q) 0) 1 ≡ n → (n ≡ 1 → ⊥) → listsAt S Vs inside p (q ∷ qs) x ≡ need (eqb n 0) n x (got stopped) x
-  unfolding listsAt kindAt endAt
+  lists-end : (p q : ℕ) (qs : List ℕ) (x : List Token) (n : ℕ) → endAt (tokenKind x) inside (eqb (S .lo q) 0) 1 ≡ n → (n ≡ 1 → ⊥) → listsAt S Vs inside p (q ∷ qs) x ≡ need (eqb n 0) n x (got stopped) x
+  unfolding listsAt tokenKind endAt
   lists-end p q qs [] n a b = ends-by inside (eqb (S .lo q) 0) stopped [] n (end-nothing inside (eqb (S .lo q) 0) ∙ a)
   lists-end p q qs (word w ∷ r) n a b = absurd (b (sym a))
   lists-end p q qs (string w ∷ r) n a b = absurd (b (sym a))
@@ -123,7 +123,7 @@ module _ (S : Schema) (Vs : Values) (inside : Bool) where
 
 -- the head of an untagged field's place; number is the code's
 module _ (S : Schema) (s : List ℕ) (f : Frame) (inside : Bool) (h : Head) (g : HeadAt (f .base) s (f .at) h) (complete : Bool) (number : ℕ) (c : complete ≡ eqb (S .lo (f .parameter)) 0) (m : number ≡ endAt (h .kind) inside complete 1) where
-  same-number : endAt (kindAt (tokensAt (f .base) s (f .at))) inside (eqb (S .lo (f .parameter)) 0) 1 ≡ number
+  same-number : endAt (tokenKind (tokensAt (f .base) s (f .at))) inside (eqb (S .lo (f .parameter)) 0) 1 ≡ number
   same-number = rw (head-kind (f .base) s (f .at) h g, ← c) (sym m)
 
   pub field-starts : number ≡ 1 → (Vs : Values) (p : ℕ) (qs : List ℕ) → listsAt S Vs inside p (f .parameter ∷ qs) (tokensAt (f .base) s (f .at)) ≡ listThen S Vs (listsAt S Vs inside p qs) (f .parameter) (tokensAt (f .base) s (f .at))
@@ -141,7 +141,7 @@ module _ (S : Schema) (s : List ℕ) (f : Frame) (inside : Bool) (h : Head) (g :
 module _ (S : Schema) (s : List ℕ) (f : Frame) (inside : Bool) (ks : List ℕ) (h : Head) (g : HeadAt (f .base) s (f .at) h) (complete : Bool) (number : ℕ) (c : complete ≡ allIn (requiredOf S (S .tagged (f .parameter))) ks) (m : number ≡ endAt (h .kind) inside complete 23) (n : h .kind ≡ 1 → ⊥) where
   items-number : (Vs : Values) (fuel : ℕ) → itemsAt S Vs inside (f .parameter) (suc fuel) ks (tokensAt (f .base) s (f .at)) ≡ need (eqb number 0) number (tokensAt (f .base) s (f .at)) (got noItem) (tokensAt (f .base) s (f .at))
   items-number Vs fuel =
-      let e : endAt (kindAt (tokensAt (f .base) s (f .at))) inside (allIn (requiredOf S (S .tagged (f .parameter))) ks) 23 ≡ number = rw (head-kind (f .base) s (f .at) h g, ← c) (sym m) in
+      let e : endAt (tokenKind (tokensAt (f .base) s (f .at))) inside (allIn (requiredOf S (S .tagged (f .parameter))) ks) 23 ≡ number = rw (head-kind (f .base) s (f .at) h g, ← c) (sym m) in
       items-end S Vs inside (f .parameter) fuel ks (tokensAt (f .base) s (f .at)) (head-not (f .base) s (f .at) h g 1 n) ∙ rw e refl
 
   pub items-done : number ≡ 0 → (Vs : Values) (fuel : ℕ) → itemsAt S Vs inside (f .parameter) (suc fuel) ks (tokensAt (f .base) s (f .at)) ≡ got noItem (tokensAt (f .base) s (f .at))
@@ -153,8 +153,8 @@ module _ (S : Schema) (s : List ℕ) (f : Frame) (inside : Bool) (ks : List ℕ)
   items-stopped e Vs fuel = stop-here (itemsAt S Vs inside (f .parameter) (suc fuel) ks (tokensAt (f .base) s (f .at))) (f .base) s (f .at) h number g (items-number Vs fuel ∙ rw (ne-eqb number 0 e) refl)
 
 -- an unknown item
-alone : (next : List Token → Result (Tree items)) (w : List ℕ) (x : List Token) → (kindAt x ≡ 3 → ⊥) → unknownAfter next w x ≡ then (next x) (λ i z. got (unknownItem w i) z)
-unfolding unknownAfter kindAt
+alone : (next : List Token → Result (Tree items)) (w : List ℕ) (x : List Token) → (tokenKind x ≡ 3 → ⊥) → unknownAfter next w x ≡ then (next x) (λ i z. got (unknownItem w i) z)
+unfolding unknownAfter tokenKind
 alone next w [] a = refl
 alone next w (word v ∷ r) a = refl
 alone next w (string v ∷ r) a = refl
@@ -182,7 +182,7 @@ module _ (base : ℕ) (s : List ℕ) (e : ℕ) (h : Head) (g : HeadAt base s e h
   listed-after next w q = rw (step-tokens base s e equals (h .start) (h .past .at) (step-of-equals base s e h g q)) refl
 
   module _ (S : Schema) (q : h .kind ≡ 3) where
-    pub skip-list : (at : ℕ) → Passed (leftOf (unknownsAt (suc (length (tokensAt base s (h .past .at)))) (tokensAt base s (h .past .at)))) base s (h .past .at) at → Skips s base e at
+    pub skip-list : (at : ℕ) → PassedUpTo (leftOf (unknownsAt (suc (length (tokensAt base s (h .past .at)))) (tokensAt base s (h .past .at)))) base s (h .past .at) at → Skips s base e at
     unfolding width rowsOf then
     skip-list at p =
         let k = step-of-equals base s e h g q in

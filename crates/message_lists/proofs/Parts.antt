@@ -10,15 +10,15 @@ use Rattle.reading_rules.specs.Schema.{Schema}
 use Rattle.reading_rules.specs.Reading.{value, list, Tree, last}
 use Rattle.reading_rules.specs.Parse.{Result, got, need, mayGrow, listEnds, afterValue}
 use Rattle.message_tokens.specs.Cursor.{lexemesAt}
-use Rattle.message_tokens.specs.Head.{kindAt, HeadAt, LacksComma}
+use Rattle.message_tokens.specs.Head.{tokenKind, HeadAt, LacksComma}
 use Rattle.message_tokens.specs.declared.Head.{Head}
 use Rattle.message_tokens.proofs.Heads.{head-not, step-tokens}
 use Rattle.message_unknown.specs.Along.{tokensAt, Stopped}
 use Rattle.message_lists.specs.Lists.{Grows}
 use Rattle.message_values.proofs.Parts.{stop-here, stop-at, step-of-comma}
 
-value-ends : (S : Schema) (q c : ℕ) (next : List Token → Result (Tree list)) (v : Tree value) (x : List Token) → (kindAt x ≡ 4 → ⊥) → afterValue S q c next v x ≡ listEnds S q c v x
-unfolding afterValue kindAt
+value-ends : (S : Schema) (q c : ℕ) (next : List Token → Result (Tree list)) (v : Tree value) (x : List Token) → (tokenKind x ≡ 4 → ⊥) → afterValue S q c next v x ≡ listEnds S q c v x
+unfolding afterValue tokenKind
 value-ends S q c next v [] a = refl
 value-ends S q c next v (word w ∷ r) a = refl
 value-ends S q c next v (string w ∷ r) a = refl

@@ -11,7 +11,7 @@ use Rattle.reading_rules.specs.Record.{Record}
 use Rattle.reading_rules.specs.Schema.{nowhere, found, schemaOf, first, numbersWhere, isUntaggedOf, kindOf}
 use Rattle.table_records.specs.Stored.{recordsAt}
 use Rattle.table_records.proofs.Laws.{length-records}
-use Rattle.table_tags.specs.Lists.{keyOf, Linked}
+use Rattle.table_tags.specs.Lists.{listKey, Linked}
 use Rattle.table_tags.proofs.Searching.{search-below, search-first}
 use Rattle.message_lookup.specs.Questions.{withFind, schemaAt, nth, untaggedFrom}
 use Rattle.message_lookup.proofs.Steps.{where-true, where-false}
@@ -96,7 +96,7 @@ untagged-none t unpacked n p i e = none-in (isUntaggedOf p) i (drop i (recordsAt
 
 pub find-below : (t unpacked : List ℕ) (n p : ℕ) (w : List ℕ) (q : ℕ) → schemaAt t unpacked n .find p w ≡ found q → q < n
 unfolding withFind
-find-below t unpacked n p w q e = search-below t unpacked n p w n (getD unpacked (keyOf p w) 0) q e
+find-below t unpacked n p w q e = search-below t unpacked n p w n (getD unpacked (listKey p w) 0) q e
 
 -- where the lists are made, the answers are the records'
 pub schema-is : (t unpacked : List ℕ) (n : ℕ) → Linked t unpacked n 0 → schemaAt t unpacked n ≡ schemaOf (recordsAt t unpacked n)

@@ -12,7 +12,7 @@ use Rattle.numbers.specs.Limits.{rowWidth}
 use Rattle.reading_rules.specs.Token.{Token, word, equals, comma, opening, closing}
 use Rattle.reading_rules.specs.Schema.{Schema}
 use Rattle.reading_rules.specs.Schema as schema
-use Rattle.reading_rules.specs.Reading.{Sort, value, list, body, items, Tree, braced, last, more, listed, stopped, itemized, noItem, voidItem, listItem}
+use Rattle.reading_rules.specs.Reading.{TreeSort, value, list, body, items, Tree, braced, last, more, listed, stopped, itemized, noItem, voidItem, listItem}
 use Rattle.message_rules.specs.Scan.{lexeme, tokensOf}
 use Rattle.message_rules.specs.Scan.{Lexeme as Lex}
 use Rattle.reading_rules.specs.Parse.{Result, refused, got, then, need, shut, structAt, unionAt, noneAt, simpleAt, byKind, valueAt, mayGrow, afterValue, listAt, wholeList, itemsAt, listThen, listsAt, bodyAt}
@@ -77,13 +77,13 @@ value-same s f before after (Done u m) e h = record { ended = record { read = re
 value-same s f before after (Refused n q) e h = stopped-same e h
 
 -- ---- loops: the answer at the start, and the answer now
-pub line-start : {k : Sort} (o : Result (Tree k)) (s : List ℕ) (f : Frame) (before : List ℕ) → f .at ≤ length s → Line o o s f before before (f .at) (f .row)
+pub line-start : {k : TreeSort} (o : Result (Tree k)) (s : List ℕ) (f : Frame) (before : List ℕ) → f .at ≤ length s → Line o o s f before before (f .at) (f .row)
 line-start o s f before h = record {
   going = going-start o (lexemesAt (f .base) s (f .at)) before (f .row) (f .parameter) (f .parent);
   moved = record { far = omega arith; within = h; counted = omega arith };
 }
 
-module _ {k k′ : Sort} {o : Result (Tree k)} {o′ : Result (Tree k′)} {s : List ℕ} {f : Frame} {before after : List ℕ} {at row : ℕ} (l : Line o o′ s f before after at row) where
+module _ {k k′ : TreeSort} {o : Result (Tree k)} {o′ : Result (Tree k′)} {s : List ℕ} {f : Frame} {before after : List ℕ} {at row : ℕ} (l : Line o o′ s f before after at row) where
   moved-on : {len least e m : ℕ} → Moved len at least row e m → Moved len (f .at) least (f .row) e m
   moved-on w = record { far = omega (arith, l .moved .far, w .far); within = w .within; counted = omega (arith, l .moved .counted, w .counted) }
 
@@ -95,14 +95,14 @@ module _ {k k′ : Sort} {o : Result (Tree k)} {o′ : Result (Tree k′)} {s : 
   line-out mid least (Refused n q) w = going-stopped (l .going) w
 
 -- with fuel
-pub loop-start : {k : Sort} (now : ℕ → Result (Tree k)) (s : List ℕ) (f : Frame) (before : List ℕ) → f .at ≤ length s → Loop (now (suc (length (tokensAt (f .base) s (f .at))))) now s f before before (f .at) (f .row)
+pub loop-start : {k : TreeSort} (now : ℕ → Result (Tree k)) (s : List ℕ) (f : Frame) (before : List ℕ) → f .at ≤ length s → Loop (now (suc (length (tokensAt (f .base) s (f .at))))) now s f before before (f .at) (f .row)
 loop-start now s f before h = record {
   fuel = suc (length (tokensAt (f .base) s (f .at)));
   enough = omega arith;
   line = line-start (now (suc (length (tokensAt (f .base) s (f .at))))) s f before h;
 }
 
-module _ {k k′ : Sort} {o : Result (Tree k)} {now : ℕ → Result (Tree k′)} {s : List ℕ} {f : Frame} {before after : List ℕ} {at row : ℕ} (l : Loop o now s f before after at row) where
+module _ {k k′ : TreeSort} {o : Result (Tree k)} {now : ℕ → Result (Tree k′)} {s : List ℕ} {f : Frame} {before after : List ℕ} {at row : ℕ} (l : Loop o now s f before after at row) where
   pub loop-on : {next : ℕ → Result (Tree k′)} {mid : List ℕ} {e m : ℕ} → Fewer s (movedOf f at row) e → ((fuel : ℕ) → Turned (now (suc fuel)) (next fuel) s (movedOf f at row) after mid e m) → Loop o next s f before mid e m
   loop-on {next} {mid} {e} {m} w t = go (l .fuel) (l .enough) (l .line)
     where
@@ -184,7 +184,7 @@ element-refused S s f c n p h fuel = stopped-before (lexemesAt (f .base) s (f .a
 -- ---- bodies
 module _ (S : Schema) (s : List ℕ) (f : Frame) (inside : Bool) (before : List ℕ) where
   -- what is empty
-  read-none : {k : Sort} (o : Result (Tree k)) (t : Tree k) → o ≡ got t (here s f) → width t ≡ 0 → rowsOf (lexemesAt (f .base) s (f .at)) t 0 (f .row) (f .parameter) (f .parent) ≡ [] → f .at ≤ length s → Ended o s f before before 0 (f .at) (f .row)
+  read-none : {k : TreeSort} (o : Result (Tree k)) (t : Tree k) → o ≡ got t (here s f) → width t ≡ 0 → rowsOf (lexemesAt (f .base) s (f .at)) t 0 (f .row) (f .parameter) (f .parent) ≡ [] → f .at ≤ length s → Ended o s f before before 0 (f .at) (f .row)
   unfolding cells
   read-none o t e w r l =
       record {

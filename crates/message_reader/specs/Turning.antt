@@ -10,7 +10,7 @@ use Rattle.message_rules.specs.Rows.{cells}
 use Rattle.reading_rules.specs.Token.{Token}
 use Rattle.reading_rules.specs.Schema.{Schema}
 use Rattle.reading_rules.specs.Schema as schema
-use Rattle.reading_rules.specs.Reading.{Sort, value, list, body, items, Tree}
+use Rattle.reading_rules.specs.Reading.{TreeSort, value, list, body, items, Tree}
 use Rattle.reading_rules.specs.Parse.{Result, valueAt, wholeValue, listAt, wholeList, itemsAt, listsAt, bodyAt}
 use Rattle.message_tokens.specs.Cursor.{lexemesAt}
 use Rattle.message_unknown.specs.Along.{tokensAt, Stopped}
@@ -40,17 +40,17 @@ abbrev pub Fewer : List ℕ → Frame → ℕ → Type 0
 Fewer s f at = length (tokensAt (f .base) s at) < length (tokensAt (f .base) s (f .at))
 
 -- one turn: the answer o is o′ from at on, with what was read in front
-pub record Turned {k : Sort} (o o′ : Result (Tree k)) (s : List ℕ) (f : Frame) (before after : List ℕ) (at next : ℕ) : Type 0 where
+pub record Turned {k : TreeSort} (o o′ : Result (Tree k)) (s : List ℕ) (f : Frame) (before after : List ℕ) (at next : ℕ) : Type 0 where
   pub going : Going o o′ (lexemesAt (f .base) s (f .at)) (lexemesAt (f .base) s at) before after (f .row) (f .parameter) (f .parent) next
   pub moved : Moved (length s) (f .at) 1 (f .row) at next
 
 -- loops: the answer at the start, and the answer now
-pub record Line {k k′ : Sort} (o : Result (Tree k)) (o′ : Result (Tree k′)) (s : List ℕ) (f : Frame) (before after : List ℕ) (at row : ℕ) : Type 0 where
+pub record Line {k k′ : TreeSort} (o : Result (Tree k)) (o′ : Result (Tree k′)) (s : List ℕ) (f : Frame) (before after : List ℕ) (at row : ℕ) : Type 0 where
   pub going : Going o o′ (lexemesAt (f .base) s (f .at)) (lexemesAt (f .base) s at) before after (f .row) (f .parameter) (f .parent) row
   pub moved : Moved (length s) (f .at) 0 (f .row) at row
 
 -- with fuel
-pub record Loop {k k′ : Sort} (o : Result (Tree k)) (now : ℕ → Result (Tree k′)) (s : List ℕ) (f : Frame) (before after : List ℕ) (at row : ℕ) : Type 0 where
+pub record Loop {k k′ : TreeSort} (o : Result (Tree k)) (now : ℕ → Result (Tree k′)) (s : List ℕ) (f : Frame) (before after : List ℕ) (at row : ℕ) : Type 0 where
   pub fuel : ℕ
   pub enough : length (tokensAt (f .base) s at) < fuel
   pub line : Line o (now fuel) s f before after at row
@@ -132,7 +132,7 @@ pub record Marked (seen : List Bool) : Type 0 where
   pub marks : Marks seen ks
 
 -- what is left of a body: lists of the untagged fields qs and then items, or items of which the fields ks were seen
-abbrev pub leftSort : List ℕ → Sort
+abbrev pub leftSort : List ℕ → TreeSort
 leftSort [] = items
 leftSort (q ∷ qs) = body
 

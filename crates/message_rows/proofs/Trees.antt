@@ -6,7 +6,7 @@ use native.Mathlib.Omega.{arith}
 use lib.ListN.{length, drop, getD}
 use lib.Seq.{getD-drop}
 use Rattle.reading_rules.specs.Token.{equals}
-use Rattle.reading_rules.specs.Reading.{Sort, unknownValue, unknownList, value, list, body, items, Tree, unknownWord, unknownString, unknownBraces, unknownPair, unknownLast, unknownMore, leaf, braced, chosenVoid, chosen, chosenInt, last, more, listed, stopped, itemized, noItem, voidItem, listItem, unknownItem, unknownListItem}
+use Rattle.reading_rules.specs.Reading.{TreeSort, unknownValue, unknownList, value, list, body, items, Tree, unknownWord, unknownString, unknownBraces, unknownPair, unknownLast, unknownMore, leaf, braced, chosenVoid, chosen, chosenInt, last, more, listed, stopped, itemized, noItem, voidItem, listItem, unknownItem, unknownListItem}
 use Rattle.message_rules.specs.Scan.{Lexeme, lexeme}
 use Rattle.message_rules.specs.Rows.{Row, rowCount, lexemeAt, rowOver, rowsOf}
 use Rattle.reading_rules.specs.Reading.{width}
@@ -22,7 +22,7 @@ over-at i ls j k n p up h o =
     let b : lexemeAt (drop i ls) (j + n - 1) ≡ lexemeAt ls (k + n - 1) = place-at i ls (j + n - 1) (k + n - 1) (omega (arith, h, o)) in
     rw (a, b) refl
 
-pub rows-at : {s : Sort} (i : ℕ) (ls : List Lexeme) (t : Tree s) (j k n p up : ℕ) → k ≡ i + j → rowsOf (drop i ls) t j n p up ≡ rowsOf ls t k n p up
+pub rows-at : {s : TreeSort} (i : ℕ) (ls : List Lexeme) (t : Tree s) (j k n p up : ℕ) → k ≡ i + j → rowsOf (drop i ls) t j n p up ≡ rowsOf ls t k n p up
 unfolding rowsOf
 rows-at i ls (unknownWord w) j k n p up h = refl
 rows-at i ls (unknownString w) j k n p up h = refl

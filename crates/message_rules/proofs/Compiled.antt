@@ -20,7 +20,7 @@ use Rattle.table_rules.proofs.Theorems.{rules-iff, no-text-iff, bytes-records}
 use Rattle.table_rules.proofs.Facts.{rules-formed, reading-rules}
 use Rattle.message_rules.specs.Scan.{Lexeme, Spelled, cut, scanFault}
 use Rattle.message_rules.specs.Rows.{Row, messageRows, cells}
-use Rattle.message_rules.specs.Verdict.{LawfulReading, Within, Answer, accepted, refusal, orEmpty, recordsIn, readWith, rowsWith, readAnswer, rowsAfter}
+use Rattle.message_rules.specs.Verdict.{LawfulReading, Within, MessageAnswer, accepted, refusal, orEmpty, recordsIn, readWith, rowsWith, readAnswer, rowsAfter}
 use Rattle.message_rules.specs.Promise.{Reading, ReadPromise}
 use Rattle.message_rules.proofs.Spelling.{spelled-once}
 use Rattle.message_rules.proofs.Promises.{one-reading, lawful-accepted, lawful-29, accepted-lawful, refused-29, refused-unlawful, refusal-number, accepted-written, refused-unchanged, refused-21, refused-22, spelled-clean}
@@ -59,10 +59,10 @@ module _ (table message lent : List ℕ) (ok : tableRules parameterLimit table �
   abbrev room : ℕ
   room = length lent
 
-  answer-is : (a : Answer) → readAnswer table message room ≡ a → readWith records message room ≡ a
+  answer-is : (a : MessageAnswer) → readAnswer table message room ≡ a → readWith records message room ≡ a
   answer-is a e = sym (good-answer table message room ok) ∙ e
 
-  is-answer : (a : Answer) → readWith records message room ≡ a → readAnswer table message room ≡ a
+  is-answer : (a : MessageAnswer) → readWith records message room ≡ a → readAnswer table message room ≡ a
   is-answer a e = good-answer table message room ok ∙ e
 
   never-20 : readAnswer table message room ≡ refusal 20 0 → ⊥
@@ -138,7 +138,7 @@ module _ (table message lent : List ℕ) (ok : tableRules parameterLimit table �
           at-most : (n ≡ 29 → ⊥) → n ≤ 29 → n ≤ 28
           at-most a h = omega (arith, a)
 
-      back : (f : (t : Tree body) → LawfulReading records message ls t → ⊥) (a : Answer) → readWith records message room ≡ a → Unlawful
+      back : (f : (t : Tree body) → LawfulReading records message ls t → ⊥) (a : MessageAnswer) → readWith records message room ≡ a → Unlawful
       back f (accepted k) e = let g = accepted-lawful records R message room k e in absurd (f (g .1) (same (g .0) (g .1) (g .2)))
       back f (refusal n place) e = let g = number f n place e in (n, place, is-answer (refusal n place) e, g .0, g .1)
 

@@ -7,7 +7,7 @@ use lib.ListN.{length, drop, length-append}
 use lib.Seq.{drop-append-seam, drop-drop}
 use Rattle.reading_rules.specs.Token.{Token, word, string, equals, comma, opening, closing}
 use Rattle.reading_rules.specs.Schema.{Found, nowhere, found}
-use Rattle.message_rules.specs.Scan.{Lexeme, Cut, cutFrom, cut, spelledThen, spelledLength, Spelled, Faulty}
+use Rattle.message_rules.specs.Scan.{Lexeme, CutResult, cutFrom, cut, spelledThen, spelledLength, Spelled, Faulty}
 use Rattle.message_rules.proofs.Spelling.{spelled-cut, cut-spelled, faulty-cut, cut-faulty}
 
 -- any fuel that is not less than the bytes gives the same cut

@@ -9,7 +9,7 @@ use borrow.Author.Tests.{leb-false, not-true, eqb-true, lt-leb}
 use Rattle.reading_rules.specs.Token.{Token, word, string, equals, comma, opening, closing, isText}
 use Rattle.reading_rules.specs.Schema.{Schema, WellFormed}
 use Rattle.reading_rules.proofs.CountLaws.{clash-bool, and-both}
-use Rattle.reading_rules.specs.Reading.{Sort, unknownValue, unknownList, value, list, body, items, Tree, unknownWord, unknownString, unknownBraces, unknownPair, unknownLast, unknownMore, leaf, braced, chosenVoid, chosen, chosenInt, last, more, listed, stopped, itemized, noItem, voidItem, listItem, unknownItem, unknownListItem, leavesThen, balancedFrom, count, fieldsOf, InRange, Full, For, Law}
+use Rattle.reading_rules.specs.Reading.{TreeSort, unknownValue, unknownList, value, list, body, items, Tree, unknownWord, unknownString, unknownBraces, unknownPair, unknownLast, unknownMore, leaf, braced, chosenVoid, chosen, chosenInt, last, more, listed, stopped, itemized, noItem, voidItem, listItem, unknownItem, unknownListItem, leavesThen, balancedFrom, count, fieldsOf, InRange, Full, For, Law}
 use Rattle.message_rules.specs.Scan.{openAfter, isOpening, shallow}
 use Rattle.reading_rules.proofs.Complete.{deep}
 
@@ -69,7 +69,7 @@ text-shallow limit n opening r e h = clash-bool e
 text-shallow limit n closing r e h = clash-bool e
 
 -- a lawful tree is no deeper than its leaves' braces, and after it as many are open as before
-pub tree-shallow : {s : Sort} (S : Schema) → WellFormed S → (limit n : ℕ) (c : For s) (t : Tree s) (r : List Token) → Law S c t → Shallow limit n (leavesThen t r) → (deep t ≤ limit - n) × Shallow limit n r
+pub tree-shallow : {s : TreeSort} (S : Schema) → WellFormed S → (limit n : ℕ) (c : For s) (t : Tree s) (r : List Token) → Law S c t → Shallow limit n (leavesThen t r) → (deep t ≤ limit - n) × Shallow limit n r
 unfolding leavesThen Law deep
 tree-shallow S W m n c (unknownWord w) r l h = (omega arith, shallow-word m n w r h)
 tree-shallow S W m n c (unknownString w) r l h = (omega arith, shallow-string m n w r h)

@@ -4,7 +4,7 @@ use mathlib.Core.List.{List, [], _∷_, _++_}
 use Prim.Native.Nat.{ℕ, zero, suc, _+_, _-_, _≤_, _<_}
 use native.Mathlib.Omega.{arith}
 use lib.ListN.{length, getD}
-use Rattle.reading_rules.specs.Reading.{Sort, body, Tree, unknownWord, unknownString, unknownBraces, unknownPair, unknownLast, unknownMore, leaf, braced, chosenVoid, chosen, chosenInt, last, more, listed, stopped, itemized, noItem, voidItem, listItem, unknownItem, unknownListItem, leavesThen, leaves}
+use Rattle.reading_rules.specs.Reading.{TreeSort, body, Tree, unknownWord, unknownString, unknownBraces, unknownPair, unknownLast, unknownMore, leaf, braced, chosenVoid, chosen, chosenInt, last, more, listed, stopped, itemized, noItem, voidItem, listItem, unknownItem, unknownListItem, leavesThen, leaves}
 use Rattle.message_rules.specs.Scan.{Lexeme, Spelled, tokensOf}
 use Rattle.message_rules.specs.Rows.{Row, rowCount, lexemeAt, rowOver, rowsOf, messageRows}
 use Rattle.reading_rules.specs.Reading.{width}
@@ -90,7 +90,7 @@ module _ (ls : List Lexeme) (at end : ℕ) (o : Ordered at ls end) (all : List R
   below : (i m p up n k w : ℕ) → getD all n noSpan ≡ rowOver ls i m p up → i + m ≤ length ls → 1 ≤ m → i ≤ k → k + w ≤ i + m → Under n k w
   below i m p up n k w e there one a b = rw e (own i m p up k w there one a b)
 
-  rows-nested : {z : Sort} (t : Tree z) (i n p up : ℕ) → Under up i (width t) → Holds all n (rowsOf ls t i n p up) → Nested all (rowsOf ls t i n p up)
+  rows-nested : {z : TreeSort} (t : Tree z) (i n p up : ℕ) → Under up i (width t) → Holds all n (rowsOf ls t i n p up) → Nested all (rowsOf ls t i n p up)
   unfolding rowsOf width rowCount Nested Holds
   rows-nested (unknownWord w) i n p up c h = tt
   rows-nested (unknownString w) i n p up c h = tt

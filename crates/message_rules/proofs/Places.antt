@@ -12,7 +12,7 @@ use Rattle.reading_rules.specs.Token.{Token, word, string, equals, comma, openi
 use Rattle.reading_rules.specs.Schema.{Kind, void, simple, struct, union, reference, isVoid, Found, nowhere, found, Schema, WellFormed}
 use Rattle.reading_rules.specs.Count.{Once, has, allIn}
 use Rattle.reading_rules.proofs.CountLaws.{hasnt-in, once-more, once-nil}
-use Rattle.reading_rules.specs.Reading.{Sort, unknownValue, unknownList, value, list, body, items, Tree, unknownWord, unknownString, unknownBraces, unknownPair, unknownLast, unknownMore, leaf, braced, chosenVoid, chosen, chosenInt, last, more, listed, stopped, itemized, noItem, voidItem, listItem, unknownItem, unknownListItem, leavesThen, balancedFrom, count, fieldsOf, InRange, Full, For, Law}
+use Rattle.reading_rules.specs.Reading.{TreeSort, unknownValue, unknownList, value, list, body, items, Tree, unknownWord, unknownString, unknownBraces, unknownPair, unknownLast, unknownMore, leaf, braced, chosenVoid, chosen, chosenInt, last, more, listed, stopped, itemized, noItem, voidItem, listItem, unknownItem, unknownListItem, leavesThen, balancedFrom, count, fieldsOf, InRange, Full, For, Law}
 use Rattle.reading_rules.specs.Parse.{Result, refused, got, then, need, whether, onEquals, afterToken, pairWith, bracesAt, unknownAt, afterUnknown, unknownsAt, judged, simpleAt, shut, structAt, alternative, bareFor, choose, unionAt, noneAt, byKind, valueAt, mayGrow, listEnds, afterValue, listAt, wholeList, requiredOf, endNumber, bodyEnds, unknownAfter, itemAt, itemsAt, listThen, listsAt, wholeValue, bodyAt, parse}
 use Rattle.message_rules.specs.Scan.{Lexeme, tokensOf}
 use Rattle.reading_rules.proofs.Sound.{braces-sound, unknown-sound, unknowns-sound, ValueSound, value-sound, whole-sound, body-sound}
@@ -34,7 +34,7 @@ after-braces [] r = later all
 after-braces (t ∷ ts) r = later (after-braces ts r)
 
 -- what follows a tree is an end part
-pub after-tree : {s : Sort} (t : Tree s) (r : List Token) → EndPart r (leavesThen t r)
+pub after-tree : {s : TreeSort} (t : Tree s) (r : List Token) → EndPart r (leavesThen t r)
 unfolding leavesThen
 after-tree (unknownWord w) r = later all
 after-tree (unknownString w) r = later all

@@ -13,11 +13,11 @@ use Rattle.reading_rules.specs.Record.{Record}
 use Rattle.reading_rules.specs.Schema.{Schema, schemaOf, Found, nowhere, found, WellFormed}
 use Rattle.reading_rules.proofs.CountLaws.{clash-bool, and-both}
 use Rattle.reading_rules.proofs.Rules.{ReadingRules, well-formed}
-use Rattle.reading_rules.specs.Reading.{Sort, body, Tree, Lawful, leaves}
-use Rattle.message_rules.specs.Scan.{Lexeme, Spelled, Cut, cut, tokensOf, openAfter, isOpening, tooDeep, shallow, either, scanFault}
+use Rattle.reading_rules.specs.Reading.{TreeSort, body, Tree, Lawful, leaves}
+use Rattle.message_rules.specs.Scan.{Lexeme, Spelled, CutResult, cut, tokensOf, openAfter, isOpening, tooDeep, shallow, either, scanFault}
 use Rattle.message_rules.specs.Rows.{Row, messageRows, cells}
 use Rattle.reading_rules.specs.Parse.{Result, refused, got, parse}
-use Rattle.message_rules.specs.Verdict.{LawfulReading, Within, RoomFree, fault, rows, placeAt, outcome, afterScan, roomFree, Answer, accepted, refusal, withRoom, written, readWith, rowsWith}
+use Rattle.message_rules.specs.Verdict.{LawfulReading, Within, RoomFree, fault, rows, placeOfLeft, outcome, afterScan, roomFree, MessageAnswer, accepted, refusal, withRoom, written, readWith, rowsWith}
 use Rattle.reading_rules.proofs.Readings.{parse-sound, parse-complete, unique}
 use Rattle.reading_rules.proofs.Complete.{deep}
 use Rattle.message_rules.proofs.Depth.{tree-shallow}
@@ -264,7 +264,7 @@ module _ (table : List Record) (R : ReadingRules table) where
   fault-cases : {X : Type 0} (message : List ℕ) (n place : ℕ) → roomFree table message ≡ fault n place
       → (messageLimit < length message → n ≡ 21 → place ≡ messageLimit → X)
       → (length message ≤ messageLimit → scanFault (cut message) ≡ found place → n ≡ 22 → X)
-      → (length message ≤ messageLimit → scanFault (cut message) ≡ nowhere → (left : List Token) → parse (schemaOf table) openLimit (tokensOf (cut message .lexemes)) ≡ refused n left → place ≡ placeAt message (cut message .lexemes) left → X)
+      → (length message ≤ messageLimit → scanFault (cut message) ≡ nowhere → (left : List Token) → parse (schemaOf table) openLimit (tokensOf (cut message .lexemes)) ≡ refused n left → place ≡ placeOfLeft message (cut message .lexemes) left → X)
       → X
   unfolding roomFree afterScan outcome
   fault-cases {X} message n place e long scan parser = go (leb (length message) messageLimit) refl e
@@ -272,7 +272,7 @@ module _ (table : List Record) (R : ReadingRules table) where
       parsed : length message ≤ messageLimit → scanFault (cut message) ≡ nowhere → (r : Result (Tree body)) → parse (schemaOf table) openLimit (tokensOf (cut message .lexemes)) ≡ r → outcome message (cut message .lexemes) r ≡ fault n place → X
       parsed m f (refused k left) a o =
           let q : k ≡ n = cc in
-          let w : placeAt message (cut message .lexemes) left ≡ place = cc in
+          let w : placeOfLeft message (cut message .lexemes) left ≡ place = cc in
           parser m f left (a ∙ ap (λ j. refused j left) q) (sym w)
       parsed m f (got t left) a o = let z : _≡_ {A = ℕ} 0 1 = cc in absurd (omega arith)
 
@@ -315,7 +315,7 @@ module _ (table : List Record) (R : ReadingRules table) where
       (λ rs f q c k. absurd (omega arith))
 
   -- 23 to 28 exactly where the parser refuses, at the first token that it leaves
-  pub refused-parse : (message : List ℕ) (room n place : ℕ) → 23 ≤ n → n ≤ 28 → readWith table message room ≡ refusal n place → (length message ≤ messageLimit) × (scanFault (cut message) ≡ nowhere) × ((left : List Token) × (parse (schemaOf table) openLimit (tokensOf (cut message .lexemes)) ≡ refused n left) × (place ≡ placeAt message (cut message .lexemes) left))
+  pub refused-parse : (message : List ℕ) (room n place : ℕ) → 23 ≤ n → n ≤ 28 → readWith table message room ≡ refusal n place → (length message ≤ messageLimit) × (scanFault (cut message) ≡ nowhere) × ((left : List Token) × (parse (schemaOf table) openLimit (tokensOf (cut message .lexemes)) ≡ refused n left) × (place ≡ placeOfLeft message (cut message .lexemes) left))
   unfolding readWith
   refused-parse message room n place l h e = room-refuses room n place (roomFree table message) e
       (λ f. fault-cases message n place f
@@ -324,10 +324,10 @@ module _ (table : List Record) (R : ReadingRules table) where
       (λ m a left b c. (m, a, (left, b, c))))
       (λ rs f q c k. absurd (omega arith))
 
-  pub parse-refused : (message : List ℕ) (room n place : ℕ) → length message ≤ messageLimit → scanFault (cut message) ≡ nowhere → (left : List Token) → parse (schemaOf table) openLimit (tokensOf (cut message .lexemes)) ≡ refused n left → place ≡ placeAt message (cut message .lexemes) left → readWith table message room ≡ refusal n place
+  pub parse-refused : (message : List ℕ) (room n place : ℕ) → length message ≤ messageLimit → scanFault (cut message) ≡ nowhere → (left : List Token) → parse (schemaOf table) openLimit (tokensOf (cut message .lexemes)) ≡ refused n left → place ≡ placeOfLeft message (cut message .lexemes) left → readWith table message room ≡ refusal n place
   unfolding readWith
   parse-refused message room n place m f left e p =
-      ap (withRoom room) (short-scans message m ∙ (ap (afterScan (schemaOf table) message (cut message .lexemes)) f ∙ parse-fault message n left e)) ∙ (fault-shown room n (placeAt message (cut message .lexemes) left) ∙ ap (refusal n) (sym p))
+      ap (withRoom room) (short-scans message m ∙ (ap (afterScan (schemaOf table) message (cut message .lexemes)) f ∙ parse-fault message n left e)) ∙ (fault-shown room n (placeOfLeft message (cut message .lexemes) left) ∙ ap (refusal n) (sym p))
     where
-      parse-fault : (message : List ℕ) (n : ℕ) (left : List Token) → parse (schemaOf table) openLimit (tokensOf (cut message .lexemes)) ≡ refused n left → afterScan (schemaOf table) message (cut message .lexemes) nowhere ≡ fault n (placeAt message (cut message .lexemes) left)
+      parse-fault : (message : List ℕ) (n : ℕ) (left : List Token) → parse (schemaOf table) openLimit (tokensOf (cut message .lexemes)) ≡ refused n left → afterScan (schemaOf table) message (cut message .lexemes) nowhere ≡ fault n (placeOfLeft message (cut message .lexemes) left)
       parse-fault message n left e = unfold afterScan outcome in (ap (outcome message (cut message .lexemes)) e)

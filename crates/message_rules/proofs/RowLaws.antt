@@ -6,13 +6,13 @@ use native.Mathlib.Omega.{arith}
 use lib.ListN.{length, length-append}
 use Rattle.numbers.specs.Limits.{noRow, rowWidth}
 use Rattle.reading_rules.specs.Token.{Token}
-use Rattle.reading_rules.specs.Reading.{Sort, unknownValue, unknownList, value, list, body, items, Tree, unknownWord, unknownString, unknownBraces, unknownPair, unknownLast, unknownMore, leaf, braced, chosenVoid, chosen, chosenInt, last, more, listed, stopped, itemized, noItem, voidItem, listItem, unknownItem, unknownListItem, leavesThen, balancedFrom, count, fieldsOf, InRange, Full, For, Law}
+use Rattle.reading_rules.specs.Reading.{TreeSort, unknownValue, unknownList, value, list, body, items, Tree, unknownWord, unknownString, unknownBraces, unknownPair, unknownLast, unknownMore, leaf, braced, chosenVoid, chosen, chosenInt, last, more, listed, stopped, itemized, noItem, voidItem, listItem, unknownItem, unknownListItem, leavesThen, balancedFrom, count, fieldsOf, InRange, Full, For, Law}
 use Rattle.message_rules.specs.Scan.{Lexeme}
 use Rattle.message_rules.specs.Rows.{Row, rowCount, lexemeAt, rowOver, rowsOf, messageRows, cells}
 use Rattle.reading_rules.specs.Reading.{width}
 
 -- a tree has as many rows as are counted
-pub rows-counted : {s : Sort} (ls : List Lexeme) (t : Tree s) (i n p up : ℕ) → length (rowsOf ls t i n p up) ≡ rowCount t
+pub rows-counted : {s : TreeSort} (ls : List Lexeme) (t : Tree s) (i n p up : ℕ) → length (rowsOf ls t i n p up) ≡ rowCount t
 unfolding rowsOf rowCount
 rows-counted ls (unknownWord w) i n p up = refl
 rows-counted ls (unknownString w) i n p up = refl
@@ -56,7 +56,7 @@ unfolding ParentsFirst
 parents-append n [] b h k = let e : n + 0 ≡ n = omega arith in rw e at k
 parents-append n (r ∷ a) b h k = let e : n + suc (length a) ≡ suc n + length a = omega arith in (h .0, parents-append (suc n) a b (h .1) (rw e at k))
 
-pub parents-first : {s : Sort} (ls : List Lexeme) (t : Tree s) (i n p up : ℕ) → up < n → ParentsFirst n (rowsOf ls t i n p up)
+pub parents-first : {s : TreeSort} (ls : List Lexeme) (t : Tree s) (i n p up : ℕ) → up < n → ParentsFirst n (rowsOf ls t i n p up)
 unfolding rowsOf ParentsFirst rowOver
 parents-first ls (unknownWord w) i n p up h = tt
 parents-first ls (unknownString w) i n p up h = tt

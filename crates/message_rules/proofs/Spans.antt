@@ -6,7 +6,7 @@ use native.Mathlib.Omega.{arith}
 use lib.ListN.{length, length-append, getD}
 use Rattle.numbers.specs.Limits.{noRow}
 use Rattle.reading_rules.specs.Token.{Token, word, string, equals, comma, opening, closing}
-use Rattle.reading_rules.specs.Reading.{Sort, unknownValue, unknownList, value, list, body, items, Tree, unknownWord, unknownString, unknownBraces, unknownPair, unknownLast, unknownMore, leaf, braced, chosenVoid, chosen, chosenInt, last, more, listed, stopped, itemized, noItem, voidItem, listItem, unknownItem, unknownListItem, leavesThen, balancedFrom, count, fieldsOf, InRange, Full, For, Law}
+use Rattle.reading_rules.specs.Reading.{TreeSort, unknownValue, unknownList, value, list, body, items, Tree, unknownWord, unknownString, unknownBraces, unknownPair, unknownLast, unknownMore, leaf, braced, chosenVoid, chosen, chosenInt, last, more, listed, stopped, itemized, noItem, voidItem, listItem, unknownItem, unknownListItem, leavesThen, balancedFrom, count, fieldsOf, InRange, Full, For, Law}
 use Rattle.message_rules.specs.Scan.{Lexeme, lexeme, spelledThen, spelledLength, Spelled, tokensOf}
 use Rattle.message_rules.specs.Rows.{Row, rowCount, lexemeAt, rowOver, rowsOf, messageRows}
 use Rattle.reading_rules.specs.Reading.{width}
@@ -86,7 +86,7 @@ module _ (ls : List Lexeme) (at end : ℕ) (o : Ordered at ls end) (s e : ℕ) w
   unfolding Inside
   one-row i n p up rs m c h = let g = row-inside i n p up m c in (g .0, g .1, g .2, h)
 
-  pub rows-inside : {z : Sort} (t : Tree z) (i n p up : ℕ) → Covers i (width t) → Inside s e (rowsOf ls t i n p up)
+  pub rows-inside : {z : TreeSort} (t : Tree z) (i n p up : ℕ) → Covers i (width t) → Inside s e (rowsOf ls t i n p up)
   unfolding rowsOf width Inside
   rows-inside (unknownWord w) i n p up c = tt
   rows-inside (unknownString w) i n p up c = tt
@@ -139,7 +139,7 @@ message-inside message ls t h all =
     )
 
 -- the rows under a struct's or a union's value lie in its span: those of the tokens i to i + n - 1, all of which are there
-pub part-inside : {z : Sort} (message : List ℕ) (ls : List Lexeme) → Spelled 0 message ls → (t : Tree z) (i n p up a m : ℕ) → i ≤ a → a + width t ≤ i + n → i + n ≤ length ls → 1 ≤ n → Inside (lexemeAt ls i .start) (lexemeAt ls (i + n - 1) .end) (rowsOf ls t a m p up)
+pub part-inside : {z : TreeSort} (message : List ℕ) (ls : List Lexeme) → Spelled 0 message ls → (t : Tree z) (i n p up a m : ℕ) → i ≤ a → a + width t ≤ i + n → i + n ≤ length ls → 1 ≤ n → Inside (lexemeAt ls i .start) (lexemeAt ls (i + n - 1) .end) (rowsOf ls t a m p up)
 part-inside message ls h t i n p up a m x y there pos =
     let o = spelled-ordered 0 message ls h in
     let end = 0 + length message in

@@ -13,7 +13,7 @@ use Rattle.classes.specs.Lists.{every, runOf}
 use Rattle.reading_rules.specs.Token.{Token, word, string, equals, comma, opening, closing, isToken}
 use Rattle.reading_rules.specs.Schema.{Found, nowhere, found}
 use Rattle.reading_rules.proofs.CountLaws.{clash-bool, and-both}
-use Rattle.message_rules.specs.Scan.{Lexeme, Cut, clean, badAt, putFirst, lexeme, Begins, plain, quoted, nothing, mark, beginsOf, cutToken, cutRest, cutFrom, cut, spelledThen, spelledLength, noWordByte, endsThere, Spelled, noneBegun, beginsNone, Faulty}
+use Rattle.message_rules.specs.Scan.{Lexeme, CutResult, clean, badAt, putFirst, lexeme, Begins, plain, quoted, nothing, mark, beginsOf, cutToken, cutRest, cutFrom, cut, spelledThen, spelledLength, noWordByte, endsThere, Spelled, noneBegun, beginsNone, Faulty}
 
 -- runs
 run-all : (f : ℕ → Bool) (l : List ℕ) → every f l ≡ true → runOf f l ≡ length l
@@ -59,7 +59,7 @@ unfolding noWordByte stopsAt
 no-word-stops [] e = refl
 no-word-stops (b ∷ r) e = e
 
-word-cut : (next : ℕ → List ℕ → Cut) (at b : ℕ) (w rest : List ℕ) → every isWordByte (b ∷ w) ≡ true → noWordByte rest ≡ true → cutToken next at b (w ++ rest) plain ≡ putFirst (lexeme (word (b ∷ w)) at (at + suc (length w))) (next (at + suc (length w)) rest)
+word-cut : (next : ℕ → List ℕ → CutResult) (at b : ℕ) (w rest : List ℕ) → every isWordByte (b ∷ w) ≡ true → noWordByte rest ≡ true → cutToken next at b (w ++ rest) plain ≡ putFirst (lexeme (word (b ∷ w)) at (at + suc (length w))) (next (at + suc (length w)) rest)
 unfolding cutToken
 word-cut next at b w rest e s = go (runOf isWordByte (b ∷ (w ++ rest))) (run-to isWordByte (b ∷ w) rest e (no-word-stops rest s))
   where
@@ -74,11 +74,11 @@ quote-stops : (rest : List ℕ) → stopsAt isStringByte (34 ∷ rest) ≡ true
 unfolding stopsAt isStringByte
 quote-stops rest = refl
 
-string-cut : (next : ℕ → List ℕ → Cut) (at b : ℕ) (w rest : List ℕ) → every isStringByte w ≡ true → cutToken next at b (w ++ 34 ∷ rest) quoted ≡ putFirst (lexeme (string w) at (at + (length w + 2))) (next (at + (length w + 2)) rest)
+string-cut : (next : ℕ → List ℕ → CutResult) (at b : ℕ) (w rest : List ℕ) → every isStringByte w ≡ true → cutToken next at b (w ++ 34 ∷ rest) quoted ≡ putFirst (lexeme (string w) at (at + (length w + 2))) (next (at + (length w + 2)) rest)
 unfolding cutToken
 string-cut next at b w rest e = go (runOf isStringByte (w ++ 34 ∷ rest)) (run-to isStringByte w (34 ∷ rest) e (quote-stops rest)) (isQuote (getD (w ++ 34 ∷ rest) (runOf isStringByte (w ++ 34 ∷ rest)) 0)) refl
   where
-    go : (n : ℕ) → n ≡ length w → (q : Bool) → isQuote (getD (w ++ 34 ∷ rest) n 0) ≡ q → _≡_ {A = Cut} (elim q [ true ↦ putFirst (lexeme (string (take n (w ++ 34 ∷ rest))) at (at + n + 2)) (next (at + n + 2) (drop (suc n) (w ++ 34 ∷ rest))) | false ↦ badAt at ]) (putFirst (lexeme (string w) at (at + (length w + 2))) (next (at + (length w + 2)) rest))
+    go : (n : ℕ) → n ≡ length w → (q : Bool) → isQuote (getD (w ++ 34 ∷ rest) n 0) ≡ q → _≡_ {A = CutResult} (elim q [ true ↦ putFirst (lexeme (string (take n (w ++ 34 ∷ rest))) at (at + n + 2)) (next (at + n + 2) (drop (suc n) (w ++ 34 ∷ rest))) | false ↦ badAt at ]) (putFirst (lexeme (string w) at (at + (length w + 2))) (next (at + (length w + 2)) rest))
     go n a true q = let m : at + length w + 2 ≡ at + (length w + 2) = omega arith in rw a (rw (take-append-seam w (34 ∷ rest), drop-past w 34 rest, m))
     go n a false q =
         let c : isQuote (getD (w ++ 34 ∷ rest) (length w) 0) ≡ true = rw (getD-append-seam w 34 rest 0) in
@@ -86,7 +86,7 @@ string-cut next at b w rest e = go (runOf isStringByte (w ++ 34 ∷ rest)) (run-
         clash-bool (sym q ∙ d)
 
 -- one token is cut as it is spelled
-token-cut : (next : ℕ → List ℕ → Cut) (at : ℕ) (t : Token) (rest : List ℕ) → isToken t ≡ true → endsThere t rest ≡ true → cutRest next at (spelledThen t rest) ≡ putFirst (lexeme t at (at + spelledLength t)) (next (at + spelledLength t) rest)
+token-cut : (next : ℕ → List ℕ → CutResult) (at : ℕ) (t : Token) (rest : List ℕ) → isToken t ≡ true → endsThere t rest ≡ true → cutRest next at (spelledThen t rest) ≡ putFirst (lexeme t at (at + spelledLength t)) (next (at + spelledLength t) rest)
 unfolding isToken endsThere spelledThen spelledLength cutRest cutToken beginsOf isWordByte every
 token-cut next at (word []) rest e s = clash-bool e
 token-cut next at (word (b ∷ w)) rest e s = and-both (isWordByte b) (every isWordByte w) e (λ a c. ap (cutToken next at b (w ++ rest)) (word-begins b a) ∙ word-cut next at b w rest e s)
@@ -239,8 +239,8 @@ module _ (fuel : ℕ) (ih : (at : ℕ) (y : List ℕ) → length y ≤ fuel → 
   string-spelled l m bad = go (isQuote (getD l (runOf isStringByte l) 0)) refl bad
     where
       go : (q : Bool) → isQuote (getD l (runOf isStringByte l) 0) ≡ q
-          → (let c : Cut = elim q [ true ↦ putFirst (lexeme (string (take (runOf isStringByte l) l)) (at + length gap) (at + length gap + runOf isStringByte l + 2)) (cutFrom fuel (at + length gap + runOf isStringByte l + 2) (drop (suc (runOf isStringByte l)) l)) | false ↦ badAt (at + length gap) ] in c .bad ≡ nowhere)
-          → (let c : Cut = elim q [ true ↦ putFirst (lexeme (string (take (runOf isStringByte l) l)) (at + length gap) (at + length gap + runOf isStringByte l + 2)) (cutFrom fuel (at + length gap + runOf isStringByte l + 2) (drop (suc (runOf isStringByte l)) l)) | false ↦ badAt (at + length gap) ] in Spelled at (gap ++ (34 ∷ l)) (c .lexemes))
+          → (let c : CutResult = elim q [ true ↦ putFirst (lexeme (string (take (runOf isStringByte l) l)) (at + length gap) (at + length gap + runOf isStringByte l + 2)) (cutFrom fuel (at + length gap + runOf isStringByte l + 2) (drop (suc (runOf isStringByte l)) l)) | false ↦ badAt (at + length gap) ] in c .bad ≡ nowhere)
+          → (let c : CutResult = elim q [ true ↦ putFirst (lexeme (string (take (runOf isStringByte l) l)) (at + length gap) (at + length gap + runOf isStringByte l + 2)) (cutFrom fuel (at + length gap + runOf isStringByte l + 2) (drop (suc (runOf isStringByte l)) l)) | false ↦ badAt (at + length gap) ] in Spelled at (gap ++ (34 ∷ l)) (c .lexemes))
       go true q b =
           let n = runOf isStringByte l in
           let inside = quote-inside l n q in
@@ -309,18 +309,18 @@ bad-unspelled message place e ls p =
     omega arith
 
 -- where no token begins, the cut is bad
-none-cut : (next : ℕ → List ℕ → Cut) (at b : ℕ) (l : List ℕ) (k : Begins) → noneBegun l k ≡ true → cutToken next at b l k ≡ badAt at
+none-cut : (next : ℕ → List ℕ → CutResult) (at b : ℕ) (l : List ℕ) (k : Begins) → noneBegun l k ≡ true → cutToken next at b l k ≡ badAt at
 unfolding cutToken noneBegun
 none-cut next at b l plain e = clash-bool e
 none-cut next at b l quoted e = go (isQuote (getD l (runOf isStringByte l) 0)) e
   where
-    go : (q : Bool) → not q ≡ true → _≡_ {A = Cut} (elim q [ true ↦ putFirst (lexeme (string (take (runOf isStringByte l) l)) at (at + runOf isStringByte l + 2)) (next (at + runOf isStringByte l + 2) (drop (suc (runOf isStringByte l)) l)) | false ↦ badAt at ]) (badAt at)
+    go : (q : Bool) → not q ≡ true → _≡_ {A = CutResult} (elim q [ true ↦ putFirst (lexeme (string (take (runOf isStringByte l) l)) at (at + runOf isStringByte l + 2)) (next (at + runOf isStringByte l + 2) (drop (suc (runOf isStringByte l)) l)) | false ↦ badAt at ]) (badAt at)
     go true a = clash-bool a
     go false a = refl
 none-cut next at b l nothing e = refl
 none-cut next at b l (mark t) e = clash-bool e
 
-none-rest : (next : ℕ → List ℕ → Cut) (at : ℕ) (r : List ℕ) → beginsNone r ≡ true → cutRest next at r ≡ badAt at
+none-rest : (next : ℕ → List ℕ → CutResult) (at : ℕ) (r : List ℕ) → beginsNone r ≡ true → cutRest next at r ≡ badAt at
 unfolding cutRest beginsNone
 none-rest next at [] e = clash-bool e
 none-rest next at (b ∷ l) e = and-both (not (isBlank b)) (noneBegun l (beginsOf b)) e (λ a c. none-cut next at b l (beginsOf b) c)
@@ -391,8 +391,8 @@ module _ (fuel bad : ℕ) (ih : (at : ℕ) (y : List ℕ) → length y ≤ fuel 
   string-faulty l m kind f = go (isQuote (getD l (runOf isStringByte l) 0)) refl f
     where
       go : (q : Bool) → isQuote (getD l (runOf isStringByte l) 0) ≡ q
-          → (let c : Cut = elim q [ true ↦ putFirst (lexeme (string (take (runOf isStringByte l) l)) (at + length gap) (at + length gap + runOf isStringByte l + 2)) (cutFrom fuel (at + length gap + runOf isStringByte l + 2) (drop (suc (runOf isStringByte l)) l)) | false ↦ badAt (at + length gap) ] in c .bad ≡ found bad)
-          → (let c : Cut = elim q [ true ↦ putFirst (lexeme (string (take (runOf isStringByte l) l)) (at + length gap) (at + length gap + runOf isStringByte l + 2)) (cutFrom fuel (at + length gap + runOf isStringByte l + 2) (drop (suc (runOf isStringByte l)) l)) | false ↦ badAt (at + length gap) ] in Faulty at (gap ++ (34 ∷ l)) (c .lexemes) bad)
+          → (let c : CutResult = elim q [ true ↦ putFirst (lexeme (string (take (runOf isStringByte l) l)) (at + length gap) (at + length gap + runOf isStringByte l + 2)) (cutFrom fuel (at + length gap + runOf isStringByte l + 2) (drop (suc (runOf isStringByte l)) l)) | false ↦ badAt (at + length gap) ] in c .bad ≡ found bad)
+          → (let c : CutResult = elim q [ true ↦ putFirst (lexeme (string (take (runOf isStringByte l) l)) (at + length gap) (at + length gap + runOf isStringByte l + 2)) (cutFrom fuel (at + length gap + runOf isStringByte l + 2) (drop (suc (runOf isStringByte l)) l)) | false ↦ badAt (at + length gap) ] in Faulty at (gap ++ (34 ∷ l)) (c .lexemes) bad)
       go true q b =
           let n = runOf isStringByte l in
           let inside = quote-inside l n q in

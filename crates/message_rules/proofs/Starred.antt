@@ -18,20 +18,20 @@ use Rattle.reading_rules.specs.Value.{isBool, wordForm, wordWithin, formThenRan
 use Rattle.reading_rules.specs.Schema.{isVoid, kindOf as kindFor, coreOf, isUnder, numbersWhere, first, firstWhere, schemaOf}
 use Rattle.reading_rules.specs.Count.{same, times, has, allIn}
 use Rattle.definition_rules.specs.Words.{classOf, numberIf, numberIn, kindOfRun, kindTakesRange, kindIsCompound, takesRange, isCompound, isReference, isKeyword, startsWithLetter, nameForm, tagForm, hasDot}
-use Rattle.definition_rules.specs.Scan.{joinRun, startsWith, scan, tokensOf, placesOf, badPlaces, openAfter, tooDeep, placeIf, deepPlaces}
+use Rattle.definition_rules.specs.Scan.{joinRun, startsWith, scan, textTokensOf, placesOf, badPlaces, bracesAfter, isDeepBrace, placeIf, deepPlaces}
 use Rattle.definition_rules.specs.Forms.{typeRun}
-use Rattle.definition_rules.specs.Declarations.{allow, withCard, withTag, withPlugin, takesField, takesClose, takesGroupEnd, isExtension, afterField, fieldDone, parentOf, extensionOf, isInBody, startRun, startMark, headingEnd, headingRun, headingMark, step, mapOutcome, endIf, atEnd, parse, declarationsOf}
-use Rattle.definition_rules.specs.Records.{kindLeast, kindMost, rangeOf, countOf, topName, topNames, isNamed, findTop, orNone, targetOf, isTagless, labelOf, recordFor, recordsFor, recordsOf}
+use Rattle.definition_rules.specs.Declarations.{allow, withCard, withTag, withPlugin, takesField, takesClose, takesGroupEnd, isExtension, afterField, fieldDone, parentOf, isUnderExtension, isInBody, startRun, startMark, headingEnd, headingRun, headingMark, step, mapOutcome, endIf, atEnd, parseForms, declarationsOf}
+use Rattle.definition_rules.specs.Records.{kindLeast, kindMost, limitsOf, countRangeOf, topName, topNames, isNamed, findTop, orNone, targetOf, isTagless, labelOf, recordFor, recordsFor, recordsOf}
 use Rattle.definition_rules.specs.Table.{upNumber, numberUp, bit, flagsNumber, flag1, flag2, flag4, encodeRecord, encode, get16, get32, getBytes, want, decodeRecord, mapMaybe, decodeUpTo, decode}
 use Rattle.definition_rules.specs.Finite.{canDoWithout, endsNeeds, structStep, unionStep, finiteStep, round, rounds, finites, isEndless}
-use Rattle.definition_rules.specs.Faults.{spotsWhere, recordSpots, nameSpots, nameBroken, referenceBroken, tagBrokenIn, tagBroken, withinKind, countFine, rangeBroken, countBroken, kindOf, kindsOf, isUnionAt, isAlternative, isGiven, countOnAlternative, voidMany, anyOf, anyBefore, parentKind, misplacedField, misplacedAlternative, misplacedUntagged, numberTag, voidTop, pluginUndotted, rule7Broken, sameKey, isNew, nameKey, repeatedNames, hasWireTag, tagRepeated, rootNoStruct, dangling}
-use Rattle.definition_rules.specs.Compile.{Answer, compiled, refusal, leastOf, findingOf, firstFault, placeAt, placesAt, faults1, faults2, faults3, notedOf, checksOf, checksAfter, checksFrom, checks, verdictOf, verdict, answerOf, compileAnswer, lentAfter, tableAfter}
+use Rattle.definition_rules.specs.Faults.{spotsWhere, recordSpots, nameSpots, nameBroken, referenceBroken, tagBrokenIn, tagBroken, withinKind, countFine, rangeBroken, countBroken, kindOfDeclaration, kindsOf, isUnionAt, isAlternative, isGiven, countOnAlternative, voidMany, anyOf, anyBefore, parentKind, misplacedField, misplacedAlternative, misplacedUntagged, numberTag, voidTop, pluginUndotted, rule7Broken, sameKey, isNewKey, nameKey, repeatedNames, hasWireTag, tagRepeated, rootNoStruct, dangling}
+use Rattle.definition_rules.specs.Compile.{CompileAnswer, compiled, refusal, leastOf, findingOf, firstFault, tokenPlace, tokenPlaces, faults1, faults2, faults3, notedOf, checksOf, checksAfter, checksFrom, checks, verdictOf, verdict, answerWithRoom, compileAnswer, lentAfter, tableAfter}
 use Rattle.table_rules.specs.RecordRules.{isOpen, closedTo, inExtension, pushIf, mayStand, standsIn, ordered, kindsOfRecords, isSingleValue, countsFine, rangeFine, isTopAt, targetFine, showsName, labelFine, topFine, recordFine, everyRecord, noneBroken, keyIf, shownNames, allNew, recordChecks, recordRules, rulesOf, tableRules}
 use Rattle.message_rules.specs.Scan.{beginsOf, cutToken, cutRest, cutFrom, tokensOf as lexemeTokens, openAfter as openAfterToken, isOpening, tooDeep as braceTooDeep, either, scanFault}
 use Rattle.reading_rules.specs.Reading.{width}
 use Rattle.message_rules.specs.Rows.{rowCount, lexemeAt, rowOver, rowsOf, messageRows, cells}
 use Rattle.reading_rules.specs.Parse.{then, need, whether, onEquals, afterToken, bracesAt, pairWith, unknownAt, afterUnknown, unknownsAt, judged, simpleAt, shut, structAt, alternative, bareFor, choose, unionAt, noneAt, byKind, valueAt, mayGrow, listEnds, afterValue, listAt, requiredOf, endNumber, bodyEnds, unknownAfter, itemAt, itemsAt, listThen, listsAt, bodyAt}
-use Rattle.message_rules.specs.Verdict.{Answer as ReadAnswer, accepted, refusal as refusedAt, startOr, placeAt as placeIn, outcome, afterScan, roomFree, withRoom, written, readWith, rowsWith, orEmpty as noRecords, recordsIn, readAnswer, rowsAfter}
+use Rattle.message_rules.specs.Verdict.{MessageAnswer, accepted, refusal as refusedAt, startOr, placeOfLeft, outcome, afterScan, roomFree, withRoom, written, readWith, rowsWith, orEmpty as noRecords, recordsIn, readAnswer, rowsAfter}
 
 -- the bytes of an ASCII text
 unfoldable pub bytesOf : String → List ℕ
@@ -60,12 +60,12 @@ abbrev pub lentNumbers : List ℕ
 lentNumbers = replicate 30 7
 
 -- the text is refused so, and the lent bytes stay
-unfoldable pub textRefusedAs : Answer → List ℕ → ℕ → ℕ → Bool
+unfoldable pub textRefusedAs : CompileAnswer → List ℕ → ℕ → ℕ → Bool
 textRefusedAs (compiled k) after n p = false
 textRefusedAs (refusal m q) after n p = eqb m n && eqb q p && sameBytes after lentBytes
 
 -- the table that the text compiles to; none where it is refused
-unfoldable pub tableFrom : Answer → List ℕ → List ℕ
+unfoldable pub tableFrom : CompileAnswer → List ℕ → List ℕ
 tableFrom (compiled k) after = take k after
 tableFrom (refusal m q) after = []
 
@@ -82,23 +82,23 @@ numbersOf [] = []
 numbersOf (row p u s e ∷ rs) = p ∷ u ∷ s ∷ e ∷ numbersOf rs
 
 -- the message is accepted with these rows, and the lent numbers beyond them stay
-unfoldable pub acceptedAs : ReadAnswer → List ℕ → List CaseRow → Bool
+unfoldable pub acceptedAs : MessageAnswer → List ℕ → List CaseRow → Bool
 acceptedAs (accepted k) after rs = eqb k (length rs) && sameBytes after (numbersOf rs ++ drop (4 * length rs) lentNumbers)
 acceptedAs (refusedAt m q) after rs = false
 
 -- the message is refused so, and the lent numbers stay
-unfoldable pub messageRefusedAs : ReadAnswer → List ℕ → ℕ → ℕ → Bool
+unfoldable pub messageRefusedAs : MessageAnswer → List ℕ → ℕ → ℕ → Bool
 messageRefusedAs (accepted k) after n p = false
 messageRefusedAs (refusedAt m q) after n p = eqb m n && eqb q p && sameBytes after lentNumbers
 
 -- ---- text, table, rows
 
 unfoldable pub tableOfText : String → List ℕ
-unfolding bytesOf tableFrom pick every some notEmpty sameBytes isBlank isDigit isLetter isRunByte isMark isNameByte isTagByte readDigits isDigits isNatural isIntLike isInt intWithin biasedInt numberWhen readInt readCount readUpper beforeSides secondDot cutRange onSides lowOf highOf bothRead readIntRange readCountRange put16 put32 signed isTop sameUp blank recordAt isUnder classOf numberIf numberIn kindOfRun kindTakesRange kindIsCompound takesRange isCompound isReference isKeyword startsWithLetter nameForm tagForm hasDot joinRun startsWith scan tokensOf placesOf badPlaces openAfter tooDeep placeIf deepPlaces typeRun allow withCard withTag withPlugin takesField takesClose takesGroupEnd isExtension afterField fieldDone parentOf extensionOf isInBody startRun startMark headingEnd headingRun headingMark step mapOutcome endIf atEnd parse declarationsOf kindLeast kindMost rangeOf countOf topName topNames isNamed findTop orNone targetOf isTagless labelOf recordFor recordsFor recordsOf upNumber bit flagsNumber encodeRecord encode canDoWithout endsNeeds structStep unionStep finiteStep round rounds finites isEndless spotsWhere recordSpots nameSpots nameBroken referenceBroken tagBrokenIn tagBroken withinKind countFine rangeBroken countBroken kindOf kindsOf isUnionAt isAlternative isGiven countOnAlternative voidMany anyOf anyBefore parentKind misplacedField misplacedAlternative misplacedUntagged numberTag voidTop pluginUndotted rule7Broken sameKey isNew nameKey repeatedNames hasWireTag tagRepeated rootNoStruct dangling leastOf findingOf firstFault placeAt placesAt faults1 faults2 faults3 notedOf checksOf checksAfter checksFrom checks verdictOf verdict answerOf compileAnswer lentAfter tableAfter
+unfolding bytesOf tableFrom pick every some notEmpty sameBytes isBlank isDigit isLetter isRunByte isMark isNameByte isTagByte readDigits isDigits isNatural isIntLike isInt intWithin biasedInt numberWhen readInt readCount readUpper beforeSides secondDot cutRange onSides lowOf highOf bothRead readIntRange readCountRange put16 put32 signed isTop sameUp blank recordAt isUnder classOf numberIf numberIn kindOfRun kindTakesRange kindIsCompound takesRange isCompound isReference isKeyword startsWithLetter nameForm tagForm hasDot joinRun startsWith scan textTokensOf placesOf badPlaces bracesAfter isDeepBrace placeIf deepPlaces typeRun allow withCard withTag withPlugin takesField takesClose takesGroupEnd isExtension afterField fieldDone parentOf isUnderExtension isInBody startRun startMark headingEnd headingRun headingMark step mapOutcome endIf atEnd parseForms declarationsOf kindLeast kindMost limitsOf countRangeOf topName topNames isNamed findTop orNone targetOf isTagless labelOf recordFor recordsFor recordsOf upNumber bit flagsNumber encodeRecord encode canDoWithout endsNeeds structStep unionStep finiteStep round rounds finites isEndless spotsWhere recordSpots nameSpots nameBroken referenceBroken tagBrokenIn tagBroken withinKind countFine rangeBroken countBroken kindOfDeclaration kindsOf isUnionAt isAlternative isGiven countOnAlternative voidMany anyOf anyBefore parentKind misplacedField misplacedAlternative misplacedUntagged numberTag voidTop pluginUndotted rule7Broken sameKey isNewKey nameKey repeatedNames hasWireTag tagRepeated rootNoStruct dangling leastOf findingOf firstFault tokenPlace tokenPlaces faults1 faults2 faults3 notedOf checksOf checksAfter checksFrom checks verdictOf verdict answerWithRoom compileAnswer lentAfter tableAfter
 tableOfText text = tableFrom (compileAnswer (bytesOf text) 200) (tableAfter (bytesOf text) lentBytes)
 
 unfoldable pub agrees : Case → Bool
-unfolding tableOfText textRefusedAs nthRecord numbersOf acceptedAs messageRefusedAs runOf isWordByte isStringByte leap daysOf isDate isTime isBool wordForm wordWithin formThenRange valueNumber isVoid kindFor coreOf numbersWhere first firstWhere schemaOf same times has allIn numberUp flag1 flag2 flag4 get16 get32 getBytes want decodeRecord mapMaybe decodeUpTo decode isOpen closedTo inExtension pushIf mayStand standsIn ordered kindsOfRecords isSingleValue countsFine rangeFine isTopAt targetFine showsName labelFine topFine recordFine everyRecord noneBroken keyIf shownNames allNew recordChecks recordRules rulesOf tableRules beginsOf cutToken cutRest cutFrom lexemeTokens openAfterToken isOpening braceTooDeep either scanFault width rowCount lexemeAt rowOver rowsOf messageRows cells then need whether onEquals afterToken bracesAt pairWith unknownAt afterUnknown unknownsAt judged simpleAt shut structAt alternative bareFor choose unionAt noneAt byKind valueAt mayGrow listEnds afterValue listAt requiredOf endNumber bodyEnds unknownAfter itemAt itemsAt listThen listsAt bodyAt startOr placeIn outcome afterScan roomFree withRoom written readWith rowsWith noRecords recordsIn readAnswer rowsAfter
+unfolding tableOfText textRefusedAs nthRecord numbersOf acceptedAs messageRefusedAs runOf isWordByte isStringByte leap daysOf isDate isTime isBool wordForm wordWithin formThenRange valueNumber isVoid kindFor coreOf numbersWhere first firstWhere schemaOf same times has allIn numberUp flag1 flag2 flag4 get16 get32 getBytes want decodeRecord mapMaybe decodeUpTo decode isOpen closedTo inExtension pushIf mayStand standsIn ordered kindsOfRecords isSingleValue countsFine rangeFine isTopAt targetFine showsName labelFine topFine recordFine everyRecord noneBroken keyIf shownNames allNew recordChecks recordRules rulesOf tableRules beginsOf cutToken cutRest cutFrom lexemeTokens openAfterToken isOpening braceTooDeep either scanFault width rowCount lexemeAt rowOver rowsOf messageRows cells then need whether onEquals afterToken bracesAt pairWith unknownAt afterUnknown unknownsAt judged simpleAt shut structAt alternative bareFor choose unionAt noneAt byKind valueAt mayGrow listEnds afterValue listAt requiredOf endNumber bodyEnds unknownAfter itemAt itemsAt listThen listsAt bodyAt startOr placeOfLeft outcome afterScan roomFree withRoom written readWith rowsWith noRecords recordsIn readAnswer rowsAfter
 agrees (refusedText text n p) = textRefusedAs (compileAnswer (bytesOf text) 200) (tableAfter (bytesOf text) lentBytes) n p
 agrees (tabled text k n i bytes) = eqb (length (recordsIn (tableOfText text))) k && eqb (length (tableOfText text)) n && sameBytes (nthRecord i (tableOfText text)) bytes
 agrees (read text message rs) = acceptedAs (readAnswer (tableOfText text) (bytesOf message) 30) (rowsAfter (tableOfText text) (bytesOf message) lentNumbers) rs

@@ -16,11 +16,11 @@ use Rattle.reading_rules.specs.Reading.{Tree, body, leaves}
 use Rattle.reading_rules.proofs.CountLaws.{clash-bool, and-both}
 use Rattle.table_rules.specs.Compilable.{Compilable}
 use Rattle.table_rules.proofs.Theorems.{rules-iff}
-use Rattle.message_rules.specs.Scan.{Lexeme, Spelled, Faulty, Cut, cut, tokensOf, scanFault}
+use Rattle.message_rules.specs.Scan.{Lexeme, Spelled, Faulty, CutResult, cut, tokensOf, scanFault}
 use Rattle.message_rules.specs.Rows.{Row, messageRows, rowsOf}
 use Rattle.message_rules.specs.RowBytes.{rowBytes}
 use Rattle.reading_rules.specs.Parse.{refused, parse}
-use Rattle.message_rules.specs.Verdict.{LawfulReading, placeAt, refusal, recordsIn, readWith, readAnswer}
+use Rattle.message_rules.specs.Verdict.{LawfulReading, placeOfLeft, refusal, recordsIn, readWith, readAnswer}
 use Rattle.message_rules.proofs.Spelling.{message-spelled, spelled-once, message-bad, message-faulty, bad-unspelled}
 use Rattle.message_rules.proofs.RowLaws.{ParentsFirst, parents-first}
 use Rattle.message_rules.proofs.Spans.{Inside, message-inside}
@@ -39,7 +39,7 @@ pub data Cutting (message : List ℕ) : Type 0 where
 pub cutting : (message : List ℕ) → Cutting message
 cutting message = by (cut message .bad) refl
   where
-    same : (ls ms : List Lexeme) (a b : ℕ) → _≡_ {A = Cut} (record { lexemes = ls; bad = found a }) (record { lexemes = ms; bad = found b }) → (ls ≡ ms) × (a ≡ b)
+    same : (ls ms : List Lexeme) (a b : ℕ) → _≡_ {A = CutResult} (record { lexemes = ls; bad = found a }) (record { lexemes = ms; bad = found b }) → (ls ≡ ms) × (a ≡ b)
     same ls ms a b e =
         let x : ls ≡ ms = ap (λ c. c .lexemes) e in
         let y : found a ≡ found b = ap (λ c. c .bad) e in
@@ -73,7 +73,7 @@ module _ (table message : List ℕ) (room : ℕ) (bytes : IsBytes table) (some :
       )
 
   -- 23 to 28: the one that the rows of the decision table give, at the first token that is left, or the length
-  pub is-leftmost : (n place : ℕ) → 23 ≤ n → n ≤ 28 → (readAnswer table message room ≡ refusal n place) ↔ ((length message ≤ messageLimit) × (scanFault (cut message) ≡ nowhere) × ((left : List Token) × (parse (schemaOf (recordsIn table)) openLimit (tokensOf (cut message .lexemes)) ≡ refused n left) × (place ≡ placeAt message (cut message .lexemes) left)))
+  pub is-leftmost : (n place : ℕ) → 23 ≤ n → n ≤ 28 → (readAnswer table message room ≡ refusal n place) ↔ ((length message ≤ messageLimit) × (scanFault (cut message) ≡ nowhere) × ((left : List Token) × (parse (schemaOf (recordsIn table)) openLimit (tokensOf (cut message .lexemes)) ≡ refused n left) × (place ≡ placeOfLeft message (cut message .lexemes) left)))
   is-leftmost n place l h =
       let R = table-reading table (rules-iff table bytes .1 some) in (
         (λ e. refused-parse (recordsIn table) R message room n place l h (sym ok-answer ∙ e)),

@@ -9,7 +9,7 @@ use Rattle.reading_rules.specs.Reading.{Tree, body}
 use Rattle.table_rules.specs.Compilable.{Compilable}
 use Rattle.message_rules.specs.Scan.{Lexeme, Spelled}
 use Rattle.message_rules.specs.Rows.{Row, messageRows, cells}
-use Rattle.message_rules.specs.Verdict.{LawfulReading, Within, Answer, accepted, refusal, recordsIn}
+use Rattle.message_rules.specs.Verdict.{LawfulReading, Within, MessageAnswer, accepted, refusal, recordsIn}
 
 -- a lawful reading of the message, within the limits, and its rows
 pub record Reading (table message : List ℕ) (rs : List Row) : Type 0 where
@@ -20,7 +20,7 @@ pub record Reading (table message : List ℕ) (rs : List Row) : Type 0 where
   pub rows : rs ≡ messageRows message tokens tree
 
 -- a table, a message and the lent numbers; the answer, and the lent numbers after
-pub record ReadPromise (table message lent : List ℕ) (answer : Answer) (after : List ℕ) : Type 0 where
+pub record ReadPromise (table message lent : List ℕ) (answer : MessageAnswer) (after : List ℕ) : Type 0 where
   -- "20: no definition compiles to this table"
   pub wrongTable : (answer ≡ refusal 20 0) ↔ (Compilable table → ⊥)
   -- the reader accepts exactly when a lawful reading exists and its rows fit; the rows are that reading's

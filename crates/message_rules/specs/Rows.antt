@@ -4,7 +4,7 @@ use Prim.Native.Nat.{ℕ, zero, suc, _+_, _-_}
 use lib.ListN.{length, getD}
 use Rattle.numbers.specs.Limits.{noRow}
 use Rattle.reading_rules.specs.Token.{Token, word, string, equals, comma, opening, closing}
-use Rattle.reading_rules.specs.Reading.{width, Sort, unknownValue, unknownList, value, list, body, items, Tree, unknownWord, unknownString, unknownBraces, unknownPair, unknownLast, unknownMore, leaf, braced, chosenVoid, chosen, chosenInt, last, more, listed, stopped, itemized, noItem, voidItem, listItem, unknownItem, unknownListItem}
+use Rattle.reading_rules.specs.Reading.{width, TreeSort, unknownValue, unknownList, value, list, body, items, Tree, unknownWord, unknownString, unknownBraces, unknownPair, unknownLast, unknownMore, leaf, braced, chosenVoid, chosen, chosenInt, last, more, listed, stopped, itemized, noItem, voidItem, listItem, unknownItem, unknownListItem}
 use Rattle.message_rules.specs.Scan.{Lexeme, lexeme}
 
 -- "Rows, four u32 each ..: parameter, parent row, start, end (end not included)."
@@ -15,7 +15,7 @@ pub record Row : Type 0 where
   pub end : ℕ
 
 -- how many rows a tree has
-unfoldable pub rowCount : {s : Sort} → Tree s → ℕ
+unfoldable pub rowCount : {s : TreeSort} → Tree s → ℕ
 rowCount (unknownWord w) = 0
 rowCount (unknownString w) = 0
 rowCount (unknownBraces ts) = 0
@@ -51,7 +51,7 @@ rowOver ls i n p up = record { parameter = p; parent = up; start = lexemeAt ls i
 -- p is the parameter that a value or list is of, up the row above
 -- "a row for .. each value in a known field's list, each void field's item and each chosen alternative, and no other"
 -- "A struct's span has its braces, .. a union's is its whole choice with a row for the alternative after it."
-unfoldable pub rowsOf : {s : Sort} → List Lexeme → Tree s → ℕ → ℕ → ℕ → ℕ → List Row
+unfoldable pub rowsOf : {s : TreeSort} → List Lexeme → Tree s → ℕ → ℕ → ℕ → ℕ → List Row
 rowsOf ls (unknownWord w) i n p up = []
 rowsOf ls (unknownString w) i n p up = []
 rowsOf ls (unknownBraces ts) i n p up = []

@@ -64,17 +64,17 @@ Spelled at bytes (l ∷ ls) =
     × Spelled (l .end) rest ls
 
 -- the tokens before the first bad byte, and that byte's place if there is one
-pub record Cut : Type 0 where
+pub record CutResult : Type 0 where
   pub lexemes : List Lexeme
   pub bad : Found
 
-abbrev pub clean : Cut
+abbrev pub clean : CutResult
 clean = record { lexemes = []; bad = nowhere }
 
-abbrev pub badAt : ℕ → Cut
+abbrev pub badAt : ℕ → CutResult
 badAt at = record { lexemes = []; bad = found at }
 
-abbrev pub putFirst : Lexeme → Cut → Cut
+abbrev pub putFirst : Lexeme → CutResult → CutResult
 putFirst l c = record { lexemes = l ∷ c .lexemes; bad = c .bad }
 
 -- what the first byte after the blanks begins
@@ -103,7 +103,7 @@ beginsOf b = elim (isWordByte b) [
 
 -- one token at the place at, where the bytes b ∷ l begin, and what next makes of the bytes after it
 -- a word is the longest row; "`"` that begins no string" is bad: after its bytes there is no closing quote
-unfoldable pub cutToken : (ℕ → List ℕ → Cut) → ℕ → ℕ → List ℕ → Begins → Cut
+unfoldable pub cutToken : (ℕ → List ℕ → CutResult) → ℕ → ℕ → List ℕ → Begins → CutResult
 cutToken next at b l plain =
     let n = runOf isWordByte (b ∷ l) in
     putFirst (lexeme (word (take n (b ∷ l))) at (at + n)) (next (at + n) (drop n (b ∷ l)))
@@ -116,18 +116,18 @@ cutToken next at b l quoted =
 cutToken next at b l (mark t) = putFirst (lexeme t at (at + 1)) (next (at + 1) l)
 cutToken next at b l nothing = badAt at
 
-unfoldable pub cutRest : (ℕ → List ℕ → Cut) → ℕ → List ℕ → Cut
+unfoldable pub cutRest : (ℕ → List ℕ → CutResult) → ℕ → List ℕ → CutResult
 cutRest next at [] = clean
 cutRest next at (b ∷ l) = cutToken next at b l (beginsOf b)
 
 -- the bytes from the place at on; fuel is not less than their number, so none is left where it is zero
-unfoldable pub cutFrom : ℕ → ℕ → List ℕ → Cut
+unfoldable pub cutFrom : ℕ → ℕ → List ℕ → CutResult
 cutFrom zero at bytes = clean
 cutFrom (suc fuel) at bytes =
     let n = runOf isBlank bytes in
     cutRest (cutFrom fuel) (at + n) (drop n bytes)
 
-abbrev pub cut : List ℕ → Cut
+abbrev pub cut : List ℕ → CutResult
 cut message = cutFrom (length message) 0 message
 
 -- no token begins with a byte of this kind before l: a string's bytes run on to no quote
@@ -199,5 +199,5 @@ unfoldable pub either : Found → Found → Found
 either nowhere f = f
 either (found at) f = found at
 
-unfoldable pub scanFault : Cut → Found
+unfoldable pub scanFault : CutResult → Found
 scanFault c = either (tooDeep 0 (c .lexemes)) (c .bad)

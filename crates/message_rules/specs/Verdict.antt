@@ -9,10 +9,10 @@ use Rattle.numbers.specs.Limits.{parameterLimit, messageLimit, openLimit, rowWi
 use Rattle.reading_rules.specs.Token.{Token}
 use Rattle.reading_rules.specs.Record.{Record}
 use Rattle.reading_rules.specs.Schema.{Schema, schemaOf, Found, nowhere, found}
-use Rattle.reading_rules.specs.Reading.{Sort, body, Tree, Lawful, leaves}
+use Rattle.reading_rules.specs.Reading.{TreeSort, body, Tree, Lawful, leaves}
 use Rattle.definition_rules.specs.Table.{Maybe, none, just, decode}
 use Rattle.table_rules.specs.RecordRules.{tableRules}
-use Rattle.message_rules.specs.Scan.{Lexeme, Spelled, Cut, cut, tokensOf, scanFault, shallow}
+use Rattle.message_rules.specs.Scan.{Lexeme, Spelled, CutResult, cut, tokensOf, scanFault, shallow}
 use Rattle.message_rules.specs.Rows.{Row, messageRows, cells}
 use Rattle.reading_rules.specs.Parse.{Result, refused, got, parse}
 
@@ -39,11 +39,11 @@ startOr n [] = n
 startOr n (l ∷ ls) = l .start
 
 -- the place where the tokens left begin
-unfoldable pub placeAt : List ℕ → List Lexeme → List Token → ℕ
-placeAt message ls left = startOr (length message) (drop (length ls - length left) ls)
+unfoldable pub placeOfLeft : List ℕ → List Lexeme → List Token → ℕ
+placeOfLeft message ls left = startOr (length message) (drop (length ls - length left) ls)
 
 unfoldable pub outcome : List ℕ → List Lexeme → Result (Tree body) → RoomFree
-outcome message ls (refused n left) = fault n (placeAt message ls left)
+outcome message ls (refused n left) = fault n (placeOfLeft message ls left)
 outcome message ls (got t left) = rows (messageRows message ls t)
 
 unfoldable pub afterScan : Schema → List ℕ → List Lexeme → Found → RoomFree
@@ -59,25 +59,25 @@ roomFree table message =
     ]
 
 -- "Success gives the row count"; a refusal its number and place
-pub data Answer : Type 0 where
-  accepted : ℕ → Answer
-  refusal : ℕ → ℕ → Answer
+pub data MessageAnswer : Type 0 where
+  accepted : ℕ → MessageAnswer
+  refusal : ℕ → ℕ → MessageAnswer
 
 -- the paper's number of an answer, 0 for success; a refusal's place; how many rows
-unfoldable pub numberOf : Answer → ℕ
-numberOf (accepted n) = 0
-numberOf (refusal n p) = n
+unfoldable pub numberOfRead : MessageAnswer → ℕ
+numberOfRead (accepted n) = 0
+numberOfRead (refusal n p) = n
 
-unfoldable pub placeOf : Answer → ℕ
-placeOf (accepted n) = 0
-placeOf (refusal n p) = p
+unfoldable pub placeOfRead : MessageAnswer → ℕ
+placeOfRead (accepted n) = 0
+placeOfRead (refusal n p) = p
 
-unfoldable pub countOf : Answer → ℕ
-countOf (accepted n) = n
-countOf (refusal n p) = 0
+unfoldable pub countOfRead : MessageAnswer → ℕ
+countOfRead (accepted n) = n
+countOfRead (refusal n p) = 0
 
 -- "29: rows don't fit, rows needed": room is how many numbers are lent
-unfoldable pub withRoom : ℕ → RoomFree → Answer
+unfoldable pub withRoom : ℕ → RoomFree → MessageAnswer
 withRoom room (fault n place) = refusal n place
 withRoom room (rows rs) = elim (leb (rowWidth * length rs) room) [ true ↦ accepted (length rs) | false ↦ refusal 29 (length rs) ]
 
@@ -87,7 +87,7 @@ written lent (fault n place) = lent
 written lent (rows rs) = elim (leb (rowWidth * length rs) (length lent)) [ true ↦ cells rs ++ drop (rowWidth * length rs) lent | false ↦ lent ]
 
 -- reading with the records of a table, number 20 apart
-unfoldable pub readWith : List Record → List ℕ → ℕ → Answer
+unfoldable pub readWith : List Record → List ℕ → ℕ → MessageAnswer
 readWith records message room = withRoom room (roomFree records message)
 
 unfoldable pub rowsWith : List Record → List ℕ → List ℕ → List ℕ
@@ -102,7 +102,7 @@ unfoldable pub recordsIn : List ℕ → List Record
 recordsIn table = orEmpty (decode table)
 
 -- "First 20, 21, 22 in that order". The record rules hold exactly when some definition compiles to the table (`rules-iff`).
-unfoldable pub readAnswer : List ℕ → List ℕ → ℕ → Answer
+unfoldable pub readAnswer : List ℕ → List ℕ → ℕ → MessageAnswer
 readAnswer table message room = elim (tableRules parameterLimit table) [ true ↦ readWith (recordsIn table) message room | false ↦ refusal 20 0 ]
 
 unfoldable pub rowsAfter : List ℕ → List ℕ → List ℕ → List ℕ

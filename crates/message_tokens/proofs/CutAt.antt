@@ -14,7 +14,7 @@ use Rattle.classes.specs.Bytes.{isBlank, isWordByte, isStringByte, isQuote}
 use Rattle.classes.specs.Lists.{runOf}
 use Rattle.classes.proofs.Rows.{run-more, run-within}
 use Rattle.reading_rules.specs.Token.{Token, word, string}
-use Rattle.message_rules.specs.Scan.{lexeme, Cut, clean, badAt, putFirst, plain, nothing, mark, beginsOf, cutToken, cutRest, cutFrom, cut}
+use Rattle.message_rules.specs.Scan.{lexeme, CutResult, clean, badAt, putFirst, plain, nothing, mark, beginsOf, cutToken, cutRest, cutFrom, cut}
 use Rattle.message_rules.proofs.CutLaws.{cut-enough}
 use Rattle.message_tokens.specs.Cursor.{part, rowEnd, cutAt, restAt}
 
@@ -50,29 +50,29 @@ cut-part base s a j =
     rw (e, drop-drop j a s) (cut-enough (suc (length (drop a s))) (suc (length s)) (base + (a + j)) (drop (a + j) s) (omega (arith, length-drop a s, length-drop (a + j) s)) (omega (arith, length-drop (a + j) s)))
 
 -- one token, over the bytes in front
-word-cut : (next : ℕ → List ℕ → Cut) (p b : ℕ) (l bytes : List ℕ) → bytes ≡ b ∷ l → isWordByte b ≡ true → cutRest next p bytes ≡ putFirst (lexeme (word (take (runOf isWordByte bytes) bytes)) p (p + runOf isWordByte bytes)) (next (p + runOf isWordByte bytes) (drop (runOf isWordByte bytes) bytes))
+word-cut : (next : ℕ → List ℕ → CutResult) (p b : ℕ) (l bytes : List ℕ) → bytes ≡ b ∷ l → isWordByte b ≡ true → cutRest next p bytes ≡ putFirst (lexeme (word (take (runOf isWordByte bytes) bytes)) p (p + runOf isWordByte bytes)) (next (p + runOf isWordByte bytes) (drop (runOf isWordByte bytes) bytes))
 unfolding cutRest cutToken beginsOf
 word-cut next p b l bytes e t = rw e (ap (cutToken next p b l) (plain-begins b t))
   where
     plain-begins : (b : ℕ) → isWordByte b ≡ true → beginsOf b ≡ plain
     plain-begins b t = rw (t, beginsOf) refl
 
-string-cut : (next : ℕ → List ℕ → Cut) (p : ℕ) (l bytes : List ℕ) → bytes ≡ 34 ∷ l → isQuote (getD l (runOf isStringByte l) 0) ≡ true → cutRest next p bytes ≡ putFirst (lexeme (string (take (runOf isStringByte l) l)) p (p + runOf isStringByte l + 2)) (next (p + runOf isStringByte l + 2) (drop (suc (runOf isStringByte l)) l))
+string-cut : (next : ℕ → List ℕ → CutResult) (p : ℕ) (l bytes : List ℕ) → bytes ≡ 34 ∷ l → isQuote (getD l (runOf isStringByte l) 0) ≡ true → cutRest next p bytes ≡ putFirst (lexeme (string (take (runOf isStringByte l) l)) p (p + runOf isStringByte l + 2)) (next (p + runOf isStringByte l + 2) (drop (suc (runOf isStringByte l)) l))
 unfolding cutRest cutToken beginsOf isWordByte
 string-cut next p l bytes e t = rw (e, t, cutToken) refl
 
-open-cut : (next : ℕ → List ℕ → Cut) (p : ℕ) (l bytes : List ℕ) → bytes ≡ 34 ∷ l → isQuote (getD l (runOf isStringByte l) 0) ≡ false → cutRest next p bytes ≡ badAt p
+open-cut : (next : ℕ → List ℕ → CutResult) (p : ℕ) (l bytes : List ℕ) → bytes ≡ 34 ∷ l → isQuote (getD l (runOf isStringByte l) 0) ≡ false → cutRest next p bytes ≡ badAt p
 unfolding cutRest cutToken beginsOf isWordByte
 open-cut next p l bytes e t = rw (e, t, cutToken) refl
 
-bad-cut : (next : ℕ → List ℕ → Cut) (p b : ℕ) (l bytes : List ℕ) → bytes ≡ b ∷ l → isWordByte b ≡ false → eqb b 34 ≡ false → eqb b 61 ≡ false → eqb b 44 ≡ false → eqb b 123 ≡ false → eqb b 125 ≡ false → cutRest next p bytes ≡ badAt p
+bad-cut : (next : ℕ → List ℕ → CutResult) (p b : ℕ) (l bytes : List ℕ) → bytes ≡ b ∷ l → isWordByte b ≡ false → eqb b 34 ≡ false → eqb b 61 ≡ false → eqb b 44 ≡ false → eqb b 123 ≡ false → eqb b 125 ≡ false → cutRest next p bytes ≡ badAt p
 unfolding cutRest cutToken beginsOf
 bad-cut next p b l bytes e w a c d f g = rw e (ap (cutToken next p b l) (none-begins b w a c d f g))
   where
     none-begins : (b : ℕ) → isWordByte b ≡ false → eqb b 34 ≡ false → eqb b 61 ≡ false → eqb b 44 ≡ false → eqb b 123 ≡ false → eqb b 125 ≡ false → beginsOf b ≡ nothing
     none-begins b w a c d f g = rw (w, a, c, d, f, g, beginsOf) refl
 
-mark-cut : (next : ℕ → List ℕ → Cut) (p b : ℕ) (l bytes : List ℕ) (t : Token) → bytes ≡ b ∷ l → beginsOf b ≡ mark t → cutRest next p bytes ≡ putFirst (lexeme t p (p + 1)) (next (p + 1) l)
+mark-cut : (next : ℕ → List ℕ → CutResult) (p b : ℕ) (l bytes : List ℕ) (t : Token) → bytes ≡ b ∷ l → beginsOf b ≡ mark t → cutRest next p bytes ≡ putFirst (lexeme t p (p + 1)) (next (p + 1) l)
 unfolding cutRest cutToken
 mark-cut next p b l bytes t e m = rw e (ap (cutToken next p b l) m)
 

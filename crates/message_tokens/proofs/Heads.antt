@@ -12,11 +12,11 @@ use Rattle.classes.specs.Bytes.{isBlank, isWordByte, isStringByte, isQuote}
 use Rattle.classes.specs.Lists.{runOf}
 use Rattle.reading_rules.specs.Token.{Token, word, string, equals, comma, opening, closing}
 use Rattle.reading_rules.proofs.CountLaws.{clash-bool}
-use Rattle.message_rules.specs.Scan.{lexeme, Cut, clean, badAt, putFirst, tokensOf, Begins, plain, quoted, mark, nothing, beginsOf, cutToken, cutRest, cutFrom}
+use Rattle.message_rules.specs.Scan.{lexeme, CutResult, clean, badAt, putFirst, tokensOf, Begins, plain, quoted, mark, nothing, beginsOf, cutToken, cutRest, cutFrom}
 use Rattle.message_rules.specs.Scan.{Lexeme as Lex}
 use Rattle.message_rules.specs.Verdict.{startOr}
 use Rattle.message_tokens.specs.Cursor.{part, rowEnd, cutAt, restAt, lexemesAt, Step, Reads}
-use Rattle.message_tokens.specs.Head.{tokenOf, kindAt, HeadAt, markHead, LacksComma}
+use Rattle.message_tokens.specs.Head.{tokenOf, tokenKind, HeadAt, markHead, LacksComma}
 use Rattle.message_tokens.specs.declared.Cursor.{Cursor}
 use Rattle.message_tokens.specs.declared.Head.{Head}
 use Rattle.message_tokens.specs.declared.Lexeme.{Lexeme}
@@ -28,7 +28,7 @@ use Rattle.message_tokens.proofs.Plain.{solid}
 -- the tokens at a step
 module _ (base : ℕ) (s : List ℕ) (i : ℕ) (t : Token) (a e : ℕ) (h : Step (cutAt base s i) base s i t a e) where
   pub step-lex : lexemesAt base s i ≡ lexeme t (base + a) (base + e) ∷ lexemesAt base s e
-  step-lex = ap (λ (c : Cut). c .lexemes) (h .is)
+  step-lex = ap (λ (c : CutResult). c .lexemes) (h .is)
 
   pub step-tokens : tokensOf (lexemesAt base s i) ≡ t ∷ tokensOf (lexemesAt base s e)
   unfolding tokensOf
@@ -110,14 +110,14 @@ module _ (base : ℕ) (s : List ℕ) (i : ℕ) (l : Lexeme) (r : Reads (cutAt ba
   head-closing a u q = head-some base s i 6 a u (omega arith) (λ z. omega arith) (subst (Reads (cutAt base s i) base s i) q r)
 
   pub head-end : (u : Cursor) → l ≡ End → HeadAt base s i (record { kind = 0; start = length s; past = u })
-  head-end u q = head-none u (ap (λ (c : Cut). c .lexemes) (subst (Reads (cutAt base s i) base s i) q r))
+  head-end u q = head-none u (ap (λ (c : CutResult). c .lexemes) (subst (Reads (cutAt base s i) base s i) q r))
 
   pub head-bad : (u : Cursor) (a : ℕ) → l ≡ Bad a → HeadAt base s i (record { kind = 0; start = length s; past = u })
-  head-bad u a q = head-none u (ap (λ (c : Cut). c .lexemes) (subst (Reads (cutAt base s i) base s i) q r))
+  head-bad u a q = head-none u (ap (λ (c : CutResult). c .lexemes) (subst (Reads (cutAt base s i) base s i) q r))
 
 -- the token of each kind
-kind-token : (k : ℕ) (s : List ℕ) (a e : ℕ) (r : List Token) → k ≤ 6 → (k ≡ 0 → ⊥) → kindAt (tokenOf k s a e ∷ r) ≡ k
-unfolding kindAt tokenOf
+kind-token : (k : ℕ) (s : List ℕ) (a e : ℕ) (r : List Token) → k ≤ 6 → (k ≡ 0 → ⊥) → tokenKind (tokenOf k s a e ∷ r) ≡ k
+unfolding tokenKind tokenOf
 kind-token zero s a e r f n = absurd (n refl)
 kind-token (suc zero) s a e r f n = refl
 kind-token (suc (suc zero)) s a e r f n = refl
@@ -132,17 +132,17 @@ module _ (base : ℕ) (s : List ℕ) (i : ℕ) (h : Head) (g : HeadAt base s i h
   pub head-step : (k : ℕ) → h .kind ≡ k → (k ≡ 0 → ⊥) → Step (cutAt base s i) base s i (tokenOf k s (h .start) (h .past .at)) (h .start) (h .past .at)
   head-step k e n = rw (← e) (g .some (λ z. n (sym e ∙ z)))
 
-  pub head-kind : kindAt (tokensOf (lexemesAt base s i)) ≡ h .kind
-  unfolding kindAt tokensOf
+  pub head-kind : tokenKind (tokensOf (lexemesAt base s i)) ≡ h .kind
+  unfolding tokenKind tokensOf
   head-kind = go (h .kind) refl
     where
-      go : (k : ℕ) → h .kind ≡ k → kindAt (tokensOf (lexemesAt base s i)) ≡ h .kind
+      go : (k : ℕ) → h .kind ≡ k → tokenKind (tokensOf (lexemesAt base s i)) ≡ h .kind
       go zero e = rw (g .none e, e) refl
       go (suc k) e =
           let w = head-step (suc k) e (λ z. omega arith) in
           rw (step-tokens base s i _ _ _ w, e) (kind-token (suc k) s (h .start) (h .past .at) (tokensOf (lexemesAt base s (h .past .at))) (omega (arith, e, g .few)) (λ z. omega arith))
 
-  pub head-not : (k : ℕ) → (h .kind ≡ k → ⊥) → kindAt (tokensOf (lexemesAt base s i)) ≡ k → ⊥
+  pub head-not : (k : ℕ) → (h .kind ≡ k → ⊥) → tokenKind (tokensOf (lexemesAt base s i)) ≡ k → ⊥
   head-not k n e = n (sym head-kind ∙ e)
 
 -- ---- no comma
@@ -159,8 +159,8 @@ begins-comma b n = go (isWordByte b) (isQuote b) (eqb b 61) (eqb b 44) (eqb b 12
     go false false false false false true k e = let c : _≡_ {A = ℕ} 0 1 = cc in absurd (omega arith)
     go false false false false false false k e = let c : _≡_ {A = ℕ} 0 1 = cc in absurd (omega arith)
 
-mark-kind : (t : Token) (r : List Token) → (t ≡ comma → ⊥) → kindAt (t ∷ r) ≡ 4 → ⊥
-unfolding kindAt
+mark-kind : (t : Token) (r : List Token) → (t ≡ comma → ⊥) → tokenKind (t ∷ r) ≡ 4 → ⊥
+unfolding tokenKind
 mark-kind (word w) r n e = omega arith
 mark-kind (string w) r n e = omega arith
 mark-kind equals r n e = omega arith
@@ -168,27 +168,27 @@ mark-kind comma r n e = n refl
 mark-kind opening r n e = omega arith
 mark-kind closing r n e = omega arith
 
-token-kind : (next : ℕ → List ℕ → Cut) (at b : ℕ) (l : List ℕ) (g : Begins) → (g ≡ mark comma → ⊥) → kindAt (tokensOf (cutToken next at b l g .lexemes)) ≡ 4 → ⊥
-unfolding cutToken tokensOf kindAt
+token-kind : (next : ℕ → List ℕ → CutResult) (at b : ℕ) (l : List ℕ) (g : Begins) → (g ≡ mark comma → ⊥) → tokenKind (tokensOf (cutToken next at b l g .lexemes)) ≡ 4 → ⊥
+unfolding cutToken tokensOf tokenKind
 token-kind next at b l plain n e = omega arith
 token-kind next at b l quoted n e = go (isQuote (getD l (runOf isStringByte l) 0)) e
   where
-    go : (t : Bool) → kindAt (tokensOf ((elim t as (λ _. Cut) [ true ↦ putFirst (lexeme (string (take (runOf isStringByte l) l)) at (at + runOf isStringByte l + 2)) (next (at + runOf isStringByte l + 2) (drop (suc (runOf isStringByte l)) l)) | false ↦ badAt at ]) .lexemes)) ≡ 4 → ⊥
+    go : (t : Bool) → tokenKind (tokensOf ((elim t as (λ _. CutResult) [ true ↦ putFirst (lexeme (string (take (runOf isStringByte l) l)) at (at + runOf isStringByte l + 2)) (next (at + runOf isStringByte l + 2) (drop (suc (runOf isStringByte l)) l)) | false ↦ badAt at ]) .lexemes)) ≡ 4 → ⊥
     go true z = omega arith
     go false z = omega arith
 token-kind next at b l (mark t) n e = mark-kind t (tokensOf (next (at + 1) l .lexemes)) (λ z. n (ap mark z)) e
 token-kind next at b l nothing n e = omega arith
 
 -- the kind of the first token of a cut
-abbrev kindIn : Cut → ℕ
-kindIn c = kindAt (tokensOf (c .lexemes))
+abbrev kindIn : CutResult → ℕ
+kindIn c = tokenKind (tokensOf (c .lexemes))
 
 module _ (s : List ℕ) (lo p : ℕ) (q : p ≡ rowEnd isBlank s lo) where
   from-there : (base : ℕ) → cutAt base s lo ≡ restAt base s p
   from-there base = cut-rest base s lo ∙ ap (restAt base s) (sym q)
 
   pub lacks-end : length s ≤ p → LacksComma s lo
-  unfolding kindAt tokensOf
+  unfolding tokenKind tokensOf
   lacks-end h base e = let y : _≡_ {A = ℕ} 0 4 = sym (ap kindIn (from-there base ∙ rest-end base s p h)) ∙ e in omega arith
 
   token-there : (base : ℕ) → p < length s → restAt base s p ≡ cutToken (cutFrom (length s)) (base + p) (getD s p 0) (drop (suc p) s) (beginsOf (getD s p 0))

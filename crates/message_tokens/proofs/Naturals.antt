@@ -20,7 +20,7 @@ use Rattle.reading_rules.proofs.CountLaws.{clash-bool, and-both}
 use Rattle.table_rules.proofs.Words.{digit-word}
 use Rattle.message_rules.proofs.Spelling.{word-not-blank}
 use Rattle.message_tokens.specs.Cursor.{part, rowEnd, cutAt, restAt, Step}
-use Rattle.message_tokens.specs.Digits.{Led, Counted, CountedBefore, DigitsEnd, DigitsAt}
+use Rattle.message_tokens.specs.Digits.{Led, DigitsCounted, CountedBefore, DigitsEnd, DigitsAt}
 use Rattle.message_tokens.specs.declared.Digits.{Digits}
 use Rattle.message_tokens.specs.declared.Digits.the-variants.{Other, Before, Number}
 use Rattle.message_tokens.proofs.CutAt.{byte-in}
@@ -144,7 +144,7 @@ module _ (s : List ℕ) (at i sum : ℕ) (m : Summed s at i sum) (none-here : is
       let z : isWordByte (getD (drop at s) (runOf isDigit (drop at s)) 0) ≡ false = rw (q, getD-drop at s (i - at) 0, p) none-here in
       omega (arith, run-same isDigit isWordByte (drop at s) digit-word z, q, m .least)
 
-  counted : Led s at i → Counted s at i sum
+  counted : Led s at i → DigitsCounted s at i sum
   counted v =
       let h : at < length s = omega (arith, m .within (v .less), v .less) in
       let d : isWordByte (getD s at 0) ≡ true = digit-word (getD s at 0) (first-digit (v .less)) in

@@ -12,9 +12,9 @@ use Rattle.numbers.specs.Limits.{openLimit}
 use Rattle.classes.specs.Bytes.{isBlank, isWordByte, isStringByte}
 use Rattle.reading_rules.specs.Token.{Token, word, string, equals, comma, opening, closing}
 use Rattle.reading_rules.specs.Schema.{Found, nowhere, found}
-use Rattle.message_rules.specs.Scan.{lexeme, Cut, clean, badAt, putFirst, beginsOf, mark, either, tooDeep, isOpening, openAfter, scanFault, cut}
+use Rattle.message_rules.specs.Scan.{lexeme, CutResult, clean, badAt, putFirst, beginsOf, mark, either, tooDeep, isOpening, openAfter, scanFault, cut}
 use Rattle.message_tokens.specs.Cursor.{part, cutAt, restAt, rowEnd, Step, Reads}
-use Rattle.message_tokens.specs.Scanned.{foundOf, faultFrom}
+use Rattle.message_tokens.specs.Scanned.{faultOf, faultFrom}
 use Rattle.message_tokens.specs.Turn.{ScanOn, ScanTurn}
 use Rattle.message_tokens.specs.declared.Cursor.{Cursor}
 use Rattle.message_tokens.specs.declared.Lexeme.{Lexeme}
@@ -74,15 +74,15 @@ reads-back base s at p l q r = go l r
     go (Bad a) r = e ∙ r
 
 -- number 22
-pub fault-word : (t : Token) (a e n : ℕ) (c : Cut) → isOpening t ≡ false → faultFrom n (putFirst (lexeme t a e) c) ≡ faultFrom (openAfter n t) c
+pub fault-word : (t : Token) (a e n : ℕ) (c : CutResult) → isOpening t ≡ false → faultFrom n (putFirst (lexeme t a e) c) ≡ faultFrom (openAfter n t) c
 unfolding faultFrom tooDeep
 fault-word t a e n c q = rw (q, tooDeep) refl
 
-fault-opening : (a e n : ℕ) (c : Cut) → n < openLimit → faultFrom n (putFirst (lexeme opening a e) c) ≡ faultFrom (suc n) c
+fault-opening : (a e n : ℕ) (c : CutResult) → n < openLimit → faultFrom n (putFirst (lexeme opening a e) c) ≡ faultFrom (suc n) c
 unfolding faultFrom tooDeep isOpening openAfter
 fault-opening a e n c h = rw (lt-leb openLimit n h, tooDeep) refl
 
-fault-deep : (a e n : ℕ) (c : Cut) → openLimit ≤ n → faultFrom n (putFirst (lexeme opening a e) c) ≡ found a
+fault-deep : (a e n : ℕ) (c : CutResult) → openLimit ≤ n → faultFrom n (putFirst (lexeme opening a e) c) ≡ found a
 unfolding faultFrom tooDeep isOpening either
 fault-deep a e n c h = rw (le-leb openLimit n h, tooDeep) refl
 
@@ -138,5 +138,5 @@ scan-start s = ap scanFault (cut-start s)
 pub scan-go : (s : List ℕ) (i n : ℕ) (t : Turn) (u : Cursor) (m : ℕ) → ScanTurn s i n t → t ≡ On u m → ScanOn s i n (u .at) m
 scan-go s i n t u m r q = subst (ScanTurn s i n) q r
 
-pub scan-out : (s : List ℕ) (i n : ℕ) (t : Turn) (f : Scanned) (o : Found) → ScanTurn s i n t → t ≡ Out f → o ≡ faultFrom n (cutAt 0 s i) → foundOf f ≡ o
-scan-out s i n t f o r q w = let e : foundOf f ≡ faultFrom n (cutAt 0 s i) = subst (ScanTurn s i n) q r in e ∙ sym w
+pub scan-out : (s : List ℕ) (i n : ℕ) (t : Turn) (f : Scanned) (o : Found) → ScanTurn s i n t → t ≡ Out f → o ≡ faultFrom n (cutAt 0 s i) → faultOf f ≡ o
+scan-out s i n t f o r q w = let e : faultOf f ≡ faultFrom n (cutAt 0 s i) = subst (ScanTurn s i n) q r in e ∙ sym w

@@ -6,7 +6,7 @@ use Prim.Native.Nat.{ℕ, suc, _+_, _-_, _≤_, _<_}
 use lib.ListN.{length, take, drop}
 use Rattle.classes.specs.Lists.{runOf}
 use Rattle.reading_rules.specs.Token.{Token, word, string, equals, comma, opening, closing}
-use Rattle.message_rules.specs.Scan.{lexeme, Cut, clean, badAt, putFirst, cutRest, cutFrom, tokensOf}
+use Rattle.message_rules.specs.Scan.{lexeme, CutResult, clean, badAt, putFirst, cutRest, cutFrom, tokensOf}
 use Rattle.message_rules.specs.Scan.{Lexeme as Lex}
 use Rattle.message_tokens.specs.declared.Cursor.{Cursor}
 use Rattle.message_tokens.specs.declared.Lexeme.{Lexeme}
@@ -21,10 +21,10 @@ abbrev pub rowEnd : (ℕ → Bool) → List ℕ → ℕ → ℕ
 rowEnd f s i = i + runOf f (drop i s)
 
 -- the cut from the place at of s on, and from a place that is past the blanks
-unfoldable pub cutAt : ℕ → List ℕ → ℕ → Cut
+unfoldable pub cutAt : ℕ → List ℕ → ℕ → CutResult
 cutAt base s at = cutFrom (suc (length s)) (base + at) (drop at s)
 
-unfoldable pub restAt : ℕ → List ℕ → ℕ → Cut
+unfoldable pub restAt : ℕ → List ℕ → ℕ → CutResult
 restAt base s p = cutRest (cutFrom (length s)) (base + p) (drop p s)
 
 -- the tokens from there on, with their places and without
@@ -32,14 +32,14 @@ abbrev pub lexemesAt : ℕ → List ℕ → ℕ → List Lex
 lexemesAt base s at = cutAt base s at .lexemes
 
 -- the token t stands from a to e, and the cut goes on from e
-pub record Step (c : Cut) (base : ℕ) (s : List ℕ) (lo : ℕ) (t : Token) (a e : ℕ) : Type 0 where
+pub record Step (c : CutResult) (base : ℕ) (s : List ℕ) (lo : ℕ) (t : Token) (a e : ℕ) : Type 0 where
   pub is : c ≡ putFirst (lexeme t (base + a) (base + e)) (cutAt base s e)
   pub least : lo ≤ a
   pub less : a < e
   pub within : e ≤ length s
 
 -- what the cursor read from lo on, against the cut there: a token with its start and the cursor past it
-abbrev pub Reads : Cut → ℕ → List ℕ → ℕ → Lexeme → Type 0
+abbrev pub Reads : CutResult → ℕ → List ℕ → ℕ → Lexeme → Type 0
 Reads c base s lo (Word a u) = Step c base s lo (word (part s a (u .at))) a (u .at)
 Reads c base s lo (Text a u) = Step c base s lo (string (part s (a + 1) (u .at - 1))) a (u .at)
 Reads c base s lo (Equals a u) = Step c base s lo equals a (u .at)

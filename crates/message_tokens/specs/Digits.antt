@@ -24,7 +24,7 @@ DigitsEnd s at i sum b Other = Unit {0}
 DigitsEnd s at i sum b (Before e n) = (e ≡ i) × (n ≡ sum) × (b ≡ 44) × Led s at e
 DigitsEnd s at i sum b (Number e n) = (e ≡ i) × (n ≡ sum) × (isWordByte b ≡ false) × Led s at e
 
-pub record Counted (s : List ℕ) (at e n : ℕ) : Type 0 where
+pub record DigitsCounted (s : List ℕ) (at e n : ℕ) : Type 0 where
   pub within : e ≤ length s
   pub natural : isNatural (part s at e) ≡ true
   pub packed : Packed (numberOf (part s at e)) n
@@ -32,13 +32,13 @@ pub record Counted (s : List ℕ) (at e n : ℕ) : Type 0 where
 
 -- with a comma at e
 pub record CountedBefore (s : List ℕ) (at e n : ℕ) : Type 0 where
-  pub counted : Counted s at e n
+  pub counted : DigitsCounted s at e n
   pub second : (base : ℕ) → Step (cutAt base s e) base s e comma e (e + 1)
 
 abbrev pub DigitsAt : List ℕ → ℕ → Digits → Type 0
 DigitsAt s at Other = Unit {0}
 DigitsAt s at (Before e n) = CountedBefore s at e n
-DigitsAt s at (Number e n) = Counted s at e n
+DigitsAt s at (Number e n) = DigitsCounted s at e n
 
 -- ---- eight bytes at once
 

@@ -29,14 +29,14 @@ tokenOf k s a e = elim (eqb k 1) [
 ]
 
 -- the kind of the first of these tokens
-unfoldable pub kindAt : List Token → ℕ
-kindAt [] = 0
-kindAt (word w ∷ r) = 1
-kindAt (string w ∷ r) = 2
-kindAt (equals ∷ r) = 3
-kindAt (comma ∷ r) = 4
-kindAt (opening ∷ r) = 5
-kindAt (closing ∷ r) = 6
+unfoldable pub tokenKind : List Token → ℕ
+tokenKind [] = 0
+tokenKind (word w ∷ r) = 1
+tokenKind (string w ∷ r) = 2
+tokenKind (equals ∷ r) = 3
+tokenKind (comma ∷ r) = 4
+tokenKind (opening ∷ r) = 5
+tokenKind (closing ∷ r) = 6
 
 pub record HeadAt (base : ℕ) (s : List ℕ) (lo : ℕ) (h : Head) : Type 0 where
   pub few : h .kind ≤ 6
@@ -46,8 +46,8 @@ pub record HeadAt (base : ℕ) (s : List ℕ) (lo : ℕ) (h : Head) : Type 0 whe
   pub place : base + h .start ≡ startOr (base + length s) (lexemesAt base s lo)
 
 -- the head of a token from a to v
-abbrev pub headOf : ℕ → ℕ → Cursor → Head
-headOf k a v = record { kind = k; start = a; past = v }
+abbrev pub headWith : ℕ → ℕ → Cursor → Head
+headWith k a v = record { kind = k; start = a; past = v }
 
 -- the head of a mark, a token of one byte
 abbrev pub markHead : ℕ → ℕ → Head
@@ -55,4 +55,4 @@ markHead k a = record { kind = k; start = a; past = record { at = a + 1 } }
 
 -- no comma stands next
 abbrev pub LacksComma : List ℕ → ℕ → Type 0
-LacksComma s lo = (base : ℕ) → kindAt (tokensOf (lexemesAt base s lo)) ≡ 4 → ⊥
+LacksComma s lo = (base : ℕ) → tokenKind (tokensOf (lexemesAt base s lo)) ≡ 4 → ⊥

@@ -7,7 +7,7 @@ use lib.ListN.{length, getD}
 use Rattle.classes.specs.Bytes.{isPlain}
 use Rattle.numbers.specs.Limits.{openLimit}
 use Rattle.message_tokens.specs.Cursor.{cutAt}
-use Rattle.message_tokens.specs.Scanned.{foundOf, faultFrom}
+use Rattle.message_tokens.specs.Scanned.{faultOf, faultFrom}
 use Rattle.message_tokens.specs.declared.Turn.{Turn}
 use Rattle.message_tokens.specs.declared.Turn.the-variants.{On, Out}
 
@@ -19,7 +19,7 @@ pub record ScanOn (s : List ℕ) (i n j m : ℕ) : Type 0 where
 
 abbrev pub ScanTurn : List ℕ → ℕ → ℕ → Turn → Type 0
 ScanTurn s i n (On u m) = ScanOn s i n (u .at) m
-ScanTurn s i n (Out f) = foundOf f ≡ faultFrom n (cutAt 0 s i)
+ScanTurn s i n (Out f) = faultOf f ≡ faultFrom n (cutAt 0 s i)
 
 -- n bytes from i on are there, and plain
 pub record Plains (s : List ℕ) (i n : ℕ) : Type 0 where

@@ -8,8 +8,8 @@ ghost use Rattle.numbers.specs.Limits.{openLimit};
 ghost use Rattle.classes.specs.Bytes.{isBlank, isWordByte, isPlain, isStringByte};
 ghost use Rattle.message_rules.specs.Scan.{cut, scanFault};
 ghost use Rattle.message_tokens.specs.Cursor.{rowEnd, cutAt, restAt, Reads};
-ghost use Rattle.message_tokens.specs.Head.{HeadAt, headOf, markHead, LacksComma};
-ghost use Rattle.message_tokens.specs.Scanned.{foundOf};
+ghost use Rattle.message_tokens.specs.Head.{HeadAt, headWith, markHead, LacksComma};
+ghost use Rattle.message_tokens.specs.Scanned.{faultOf};
 ghost use Rattle.message_tokens.specs.Digits.{Led, DigitsEnd, DigitsAt, joined, zeros, Nines};
 ghost use Rattle.message_tokens.specs.Turn.{ScanTurn, Plains, PlainEnd};
 
@@ -170,7 +170,7 @@ fn mark(kind: u8, at: usize) -> Head
 
 // The head of a token from start to past.
 fn head_of(kind: u8, start: usize, past: Cursor) -> Head
-    ensures { λ r. ⌜ r ≡ headOf kind start past ⌝ }
+    ensures { λ r. ⌜ r ≡ headWith kind start past ⌝ }
 {
     Head {
         kind: kind,
@@ -505,7 +505,7 @@ fn plain_end(s: &[u8], at: usize) -> usize
 
 // 22: a byte in no token and no blank, or a brace that opens with 16 open, whichever is first.
 pub fn scan_fault(message: &[u8]) -> Scanned
-    ensures { λ r. ⌜ foundOf r ≡ scanFault (cut (now (message .entry))) ⌝ }
+    ensures { λ r. ⌜ faultOf r ≡ scanFault (cut (now (message .entry))) ⌝ }
 {
     let mut u = Cursor { at: 0 };
     let mut deep: usize = 0;

@@ -7,9 +7,9 @@ use native.Mathlib.Nat.{add-zero}
 use lib.ListN.{length, take, drop, length-drop}
 use lib.Seq.{take-all}
 use Rattle.reading_rules.specs.Token.{Token}
-use Rattle.message_rules.specs.Scan.{lexeme, Cut, tokensOf}
+use Rattle.message_rules.specs.Scan.{lexeme, CutResult, tokensOf}
 use Rattle.message_rules.specs.Scan.{Lexeme as Lex}
-use Rattle.message_rules.specs.Verdict.{startOr, placeAt}
+use Rattle.message_rules.specs.Verdict.{startOr, placeOfLeft}
 use Rattle.message_tokens.specs.Cursor.{cutAt, lexemesAt, Step}
 use Rattle.message_tokens.proofs.CutAt.{cut-part}
 use Rattle.message_tokens.proofs.Heads.{step-lex}
@@ -39,8 +39,8 @@ tokens-length [] = refl
 tokens-length (l ∷ x) = ap suc (tokens-length x)
 
 -- the place of a refusal, as the verdict counts it
-pub place-left : (s : List ℕ) (x y : List Lex) → Tail y x → placeAt s x (tokensOf y) ≡ startOr (length s) y
-unfolding placeAt
+pub place-left : (s : List ℕ) (x y : List Lex) → Tail y x → placeOfLeft s x (tokensOf y) ≡ startOr (length s) y
+unfolding placeOfLeft
 place-left s x y t = ap (startOr (length s)) (rw (tokens-length y) (tail-drop x y t))
 
 pub step-tail : (base : ℕ) (s : List ℕ) (i : ℕ) (t : Token) (a e : ℕ) → Step (cutAt base s i) base s i t a e → Tail (lexemesAt base s e) (lexemesAt base s i)
@@ -52,7 +52,7 @@ rest s a = take-all (length s - a) (drop a s) (simp length-drop (omega arith))
 
 -- the part after e, which starts at base + e, has the same tokens
 pub part-lexemes : (base : ℕ) (s : List ℕ) (e j : ℕ) → lexemesAt (base + e) (take (length s - e) (drop e s)) j ≡ lexemesAt base s (e + j)
-part-lexemes base s e j = rw (rest s e) (ap (λ (c : Cut). c .lexemes) (cut-part base s e j))
+part-lexemes base s e j = rw (rest s e) (ap (λ (c : CutResult). c .lexemes) (cut-part base s e j))
 
 pub part-start : (base : ℕ) (s : List ℕ) (e : ℕ) → lexemesAt (base + e) (take (length s - e) (drop e s)) 0 ≡ lexemesAt base s e
 part-start base s e = part-lexemes base s e 0 ∙ ap (lexemesAt base s) (add-zero e)

@@ -11,12 +11,12 @@ use Rattle.message_rules.specs.Scan.{Lexeme as Lex}
 use Rattle.reading_rules.specs.Parse.{Result, refused, got, then, afterToken, bracesAt, pairWith, unknownAt, afterUnknown, unknownsAt}
 use Rattle.message_rules.specs.Verdict.{startOr}
 use Rattle.message_tokens.specs.Cursor.{cutAt, lexemesAt, Step}
-use Rattle.message_tokens.specs.Head.{tokenOf, kindAt, HeadAt}
+use Rattle.message_tokens.specs.Head.{tokenOf, tokenKind, HeadAt}
 use Rattle.message_tokens.specs.declared.Cursor.{Cursor}
 use Rattle.message_tokens.specs.declared.Head.{Head}
 use Rattle.message_tokens.proofs.Heads.{head-step, head-kind, head-not, step-tokens, step-within}
 use Rattle.message_unknown.specs.Along.{Tail, here, later, tokensAt}
-use Rattle.message_unknown.specs.Passing.{Left, stuck, left, leftOf, bracesFrom, unknownFrom, unknownsFrom, Moved, Ended, Halted, Ends, BraceOn, BraceTurn, WordOn, WordLast, WordTurn, ValueOn, ValueTurn, ListOn, ListTurn}
+use Rattle.message_unknown.specs.Passing.{Left, stuck, left, leftOf, bracesFrom, unknownFrom, unknownsFrom, MovedPast, PassedUpTo, Halted, PassesTo, BraceOn, BraceTurn, WordOn, WordLast, WordTurn, ValueOn, ValueTurn, ListOn, ListTurn}
 use Rattle.message_unknown.specs.declared.Passed.{Passed}
 use Rattle.message_unknown.specs.declared.Passed.the-variants.{Past, Refused}
 use Rattle.message_unknown.specs.declared.Turn.{Turn}
@@ -24,11 +24,11 @@ use Rattle.message_unknown.specs.declared.Turn.the-variants.{On, Out}
 use Rattle.message_unknown.proofs.AlongLaws.{tail-trans, tail-length, tokens-length, step-tail, part-lexemes, part-start, part-end, part-length}
 
 -- going on
-pub moved-on : (base : ℕ) (s : List ℕ) (lo i j : ℕ) → Moved base s lo i → Moved base s i j → Moved base s lo j
+pub moved-on : (base : ℕ) (s : List ℕ) (lo i j : ℕ) → MovedPast base s lo i → MovedPast base s i j → MovedPast base s lo j
 moved-on base s lo i j a b =
     record { along = tail-trans (lexemesAt base s lo) (lexemesAt base s i) (lexemesAt base s j) (b .along) (a .along); less = omega (arith, a .less, b .less); within = b .within }
 
-pub step-moved : (base : ℕ) (s : List ℕ) (i : ℕ) (t : Token) (a e : ℕ) → Step (cutAt base s i) base s i t a e → Moved base s i e
+pub step-moved : (base : ℕ) (s : List ℕ) (i : ℕ) (t : Token) (a e : ℕ) → Step (cutAt base s i) base s i t a e → MovedPast base s i e
 step-moved base s i t a e h =
     let w = step-within base s i t a e h in
     record { along = step-tail base s i t a e h; less = w .0; within = w .1 }
@@ -42,12 +42,12 @@ pub record Went (o o′ : Left) (base : ℕ) (s : List ℕ) (lo at : ℕ) : Type
 pub went-start : (o : Left) (base : ℕ) (s : List ℕ) (at : ℕ) → Went o o base s at at
 went-start o base s at = record { is = refl; along = here; least = omega arith }
 
-pub went-on : {o o′ o″ : Left} {base : ℕ} {s : List ℕ} {lo i j : ℕ} → Went o o′ base s lo i → o′ ≡ o″ → Moved base s i j → Went o o″ base s lo j
+pub went-on : {o o′ o″ : Left} {base : ℕ} {s : List ℕ} {lo i j : ℕ} → Went o o′ base s lo i → o′ ≡ o″ → MovedPast base s i j → Went o o″ base s lo j
 went-on {o} {o′} {o″} {base} {s} {lo} {i} {j} a e b =
     record { is = a .is ∙ e; along = tail-trans (lexemesAt base s lo) (lexemesAt base s i) (lexemesAt base s j) (b .along) (a .along); least = omega (arith, a .least, b .less) }
 
 -- the one law of every loop's return
-pub ends-after : {o o′ : Left} {base : ℕ} {s : List ℕ} {lo i : ℕ} (g : Passed) → Went o o′ base s lo i → Ends o′ base s i g → Ends o base s lo g
+pub ends-after : {o o′ : Left} {base : ℕ} {s : List ℕ} {lo i : ℕ} (g : Passed) → Went o o′ base s lo i → PassesTo o′ base s i g → PassesTo o base s lo g
 ends-after {o} {o′} {base} {s} {lo} {i} (Past u) a b =
     record {
       is = a .is ∙ b .is;
@@ -79,8 +79,8 @@ unfolding bracesAt
 brace-closes r zero h = absurd (h refl)
 brace-closes r (suc k) h = left-after closing (bracesAt r k) ∙ ap (λ n. leftOf (bracesAt r n)) (omega arith)
 
-brace-passes : (t : Token) (r : List Token) (k : ℕ) → (kindAt (t ∷ r) ≡ 5 → ⊥) → (kindAt (t ∷ r) ≡ 6 → ⊥) → leftOf (bracesAt (t ∷ r) k) ≡ leftOf (bracesAt r k)
-unfolding bracesAt kindAt
+brace-passes : (t : Token) (r : List Token) (k : ℕ) → (tokenKind (t ∷ r) ≡ 5 → ⊥) → (tokenKind (t ∷ r) ≡ 6 → ⊥) → leftOf (bracesAt (t ∷ r) k) ≡ leftOf (bracesAt r k)
+unfolding bracesAt tokenKind
 brace-passes (word w) r k a b = left-after (word w) (bracesAt r k)
 brace-passes (string w) r k a b = left-after (string w) (bracesAt r k)
 brace-passes equals r k a b = left-after equals (bracesAt r k)
@@ -106,7 +106,7 @@ module _ (base : ℕ) (s : List ℕ) (i k : ℕ) (h : Head) (g : HeadAt base s i
   unfolding tokenOf
   brace-closing e f z = brace-on closing (k - 1) (head-step base s i h g 6 e (λ z. omega arith)) f (omega arith) (brace-closes (tokensAt base s (h .past .at)) k z)
 
-  pub brace-last : h .kind ≡ 6 → k ≡ 0 → Ended (bracesFrom base s i k) base s i (h .past .at)
+  pub brace-last : h .kind ≡ 6 → k ≡ 0 → PassedUpTo (bracesFrom base s i k) base s i (h .past .at)
   unfolding tokenOf bracesAt leftOf
   brace-last e z =
       let w : Step (cutAt base s i) base s i closing (h .start) (h .past .at) = head-step base s i h g 6 e (λ z. omega arith) in
@@ -117,23 +117,23 @@ module _ (base : ℕ) (s : List ℕ) (i k : ℕ) (h : Head) (g : HeadAt base s i
       let w = g .some z in
       let t = step-tokens base s i _ _ _ w in
       brace-on (tokenOf (h .kind) s (h .start) (h .past .at)) k w f (omega arith)
-      (brace-passes (tokenOf (h .kind) s (h .start) (h .past .at)) (tokensAt base s (h .past .at)) k (λ e. head-not base s i h g 5 a (ap kindAt t ∙ e)) (λ e. head-not base s i h g 6 b (ap kindAt t ∙ e)))
+      (brace-passes (tokenOf (h .kind) s (h .start) (h .past .at)) (tokensAt base s (h .past .at)) k (λ e. head-not base s i h g 5 a (ap tokenKind t ∙ e)) (λ e. head-not base s i h g 6 b (ap tokenKind t ∙ e)))
 
 module _ (base : ℕ) (s : List ℕ) (i k : ℕ) (l : Turn) where
   pub brace-go : (u : Cursor) (n : ℕ) → BraceTurn base s i k l → l ≡ On u n → BraceOn base s i k (u .at) n
   brace-go u n r q = subst (BraceTurn base s i k) q r
 
-  pub brace-out : (o : Left) (lo : ℕ) (g : Passed) → BraceTurn base s i k l → l ≡ Out g → Went o (bracesFrom base s i k) base s lo i → Ends o base s lo g
+  pub brace-out : (o : Left) (lo : ℕ) (g : Passed) → BraceTurn base s i k l → l ≡ Out g → Went o (bracesFrom base s i k) base s lo i → PassesTo o base s lo g
   brace-out o lo g r q w = ends-after g w (subst (BraceTurn base s i k) q r)
 
 -- the part after the brace
-module _ (base : ℕ) (s : List ℕ) (e : ℕ) (h : e ≤ length s) (l : Passed) (r : Ends (bracesFrom (base + e) (take (length s - e) (drop e s)) 0 0) (base + e) (take (length s - e) (drop e s)) 0 l) where
+module _ (base : ℕ) (s : List ℕ) (e : ℕ) (h : e ≤ length s) (l : Passed) (r : PassesTo (bracesFrom (base + e) (take (length s - e) (drop e s)) 0 0) (base + e) (take (length s - e) (drop e s)) 0 l) where
   same : bracesFrom base s e 0 ≡ bracesFrom (base + e) (take (length s - e) (drop e s)) 0 0
   same = ap (λ x. leftOf (bracesAt (tokensOf x) 0)) (sym (part-start base s e))
 
-  pub part-past : (u : Cursor) → l ≡ Past u → Ended (bracesFrom base s e 0) base s e (e + u .at)
+  pub part-past : (u : Cursor) → l ≡ Past u → PassedUpTo (bracesFrom base s e 0) base s e (e + u .at)
   part-past u q =
-      let g : Ended (bracesFrom (base + e) (take (length s - e) (drop e s)) 0 0) (base + e) (take (length s - e) (drop e s)) 0 (u .at) = subst (Ends (bracesFrom (base + e) (take (length s - e) (drop e s)) 0 0) (base + e) (take (length s - e) (drop e s)) 0) q r in
+      let g : PassedUpTo (bracesFrom (base + e) (take (length s - e) (drop e s)) 0 0) (base + e) (take (length s - e) (drop e s)) 0 (u .at) = subst (PassesTo (bracesFrom (base + e) (take (length s - e) (drop e s)) 0 0) (base + e) (take (length s - e) (drop e s)) 0) q r in
       record {
         is = same ∙ (g .is ∙ ap (λ x. left (tokensOf x)) (part-lexemes base s e (u .at)));
         moved = record {
@@ -145,7 +145,7 @@ module _ (base : ℕ) (s : List ℕ) (e : ℕ) (h : e ≤ length s) (l : Passed)
 
   pub part-refused : (n q : ℕ) → l ≡ Refused n q → Halted (bracesFrom base s e 0) (lexemesAt base s e) (base + length s) n q
   part-refused n q z =
-      let g : Halted (bracesFrom (base + e) (take (length s - e) (drop e s)) 0 0) (lexemesAt (base + e) (take (length s - e) (drop e s)) 0) (base + e + length (take (length s - e) (drop e s))) n q = subst (Ends (bracesFrom (base + e) (take (length s - e) (drop e s)) 0 0) (base + e) (take (length s - e) (drop e s)) 0) z r in
+      let g : Halted (bracesFrom (base + e) (take (length s - e) (drop e s)) 0 0) (lexemesAt (base + e) (take (length s - e) (drop e s)) 0) (base + e + length (take (length s - e) (drop e s))) n q = subst (PassesTo (bracesFrom (base + e) (take (length s - e) (drop e s)) 0 0) (base + e) (take (length s - e) (drop e s)) 0) z r in
       record { rest = g .rest; is = same ∙ g .is; along = rw (← part-start base s e) (g .along); place = g .place ∙ ap (λ n. startOr n (g .rest)) (part-end base s e h) }
 
 -- values
@@ -158,8 +158,8 @@ pair-left : (w : List ℕ) (x : List Token) → leftOf (unknownAt (word w ∷ eq
 unfolding unknownAt
 pair-left w x = left-pair w (unknownAt x)
 
-word-left : (w : List ℕ) (x : List Token) → (kindAt x ≡ 3 → ⊥) → leftOf (unknownAt (word w ∷ x)) ≡ left x
-unfolding unknownAt leftOf kindAt
+word-left : (w : List ℕ) (x : List Token) → (tokenKind x ≡ 3 → ⊥) → leftOf (unknownAt (word w ∷ x)) ≡ left x
+unfolding unknownAt leftOf tokenKind
 word-left w [] q = refl
 word-left w (word v ∷ r) q = refl
 word-left w (string v ∷ r) q = refl
@@ -177,8 +177,8 @@ braces-left : (x : List Token) → leftOf (unknownAt (opening ∷ x)) ≡ leftOf
 unfolding unknownAt
 braces-left x = left-braces (bracesAt x 0)
 
-value-stuck : (x : List Token) → (kindAt x ≡ 1 → ⊥) → (kindAt x ≡ 2 → ⊥) → (kindAt x ≡ 5 → ⊥) → leftOf (unknownAt x) ≡ stuck 23 x
-unfolding unknownAt leftOf kindAt
+value-stuck : (x : List Token) → (tokenKind x ≡ 1 → ⊥) → (tokenKind x ≡ 2 → ⊥) → (tokenKind x ≡ 5 → ⊥) → leftOf (unknownAt x) ≡ stuck 23 x
+unfolding unknownAt leftOf tokenKind
 value-stuck [] a b c = refl
 value-stuck (word w ∷ r) a b c = absurd (a refl)
 value-stuck (string w ∷ r) a b c = absurd (b refl)
@@ -214,16 +214,16 @@ module _ (base : ℕ) (s : List ℕ) (i : ℕ) (h : Head) (g : HeadAt base s i h
             moved = moved-on base s i (h .past .at) (u .at) (step-moved base s i _ (h .start) (h .past .at) w) (r .moved);
           }
       go (Out d) r =
-          let p : Ended (unknownFrom base s i) base s i (h .past .at) = record { is = ap (λ x. leftOf (unknownAt x)) (step-tokens base s i _ (h .start) (h .past .at) w) ∙ r .is (take (h .past .at - h .start) (drop (h .start) s)); moved = step-moved base s i _ (h .start) (h .past .at) w } in
-          subst (Ends (unknownFrom base s i) base s i) (sym (r .same)) p
+          let p : PassedUpTo (unknownFrom base s i) base s i (h .past .at) = record { is = ap (λ x. leftOf (unknownAt x)) (step-tokens base s i _ (h .start) (h .past .at) w) ∙ r .is (take (h .past .at - h .start) (drop (h .start) s)); moved = step-moved base s i _ (h .start) (h .past .at) w } in
+          subst (PassesTo (unknownFrom base s i) base s i) (sym (r .same)) p
 
-  pub value-string : h .kind ≡ 2 → Ended (unknownFrom base s i) base s i (h .past .at)
+  pub value-string : h .kind ≡ 2 → PassedUpTo (unknownFrom base s i) base s i (h .past .at)
   unfolding tokenOf unknownAt leftOf
   value-string e =
       let w = head-step base s i h g 2 e (λ z. omega arith) in
       record { is = rw (step-tokens base s i _ _ _ w) refl; moved = step-moved base s i _ _ _ w }
 
-  pub value-braces : (d : Passed) → h .kind ≡ 5 → Ends (bracesFrom base s (h .past .at) 0) base s (h .past .at) d → Ends (unknownFrom base s i) base s i d
+  pub value-braces : (d : Passed) → h .kind ≡ 5 → PassesTo (bracesFrom base s (h .past .at) 0) base s (h .past .at) d → PassesTo (unknownFrom base s i) base s i d
   unfolding tokenOf
   value-braces d e r =
       let w : Step (cutAt base s i) base s i opening (h .start) (h .past .at) = head-step base s i h g 5 e (λ z. omega arith) in
@@ -241,7 +241,7 @@ module _ (base : ℕ) (s : List ℕ) (i : ℕ) (l : Turn) where
   pub value-go : (u : Cursor) (n : ℕ) → ValueTurn base s i l → l ≡ On u n → ValueOn base s i (u .at)
   value-go u n r q = subst (ValueTurn base s i) q r
 
-  pub value-out : (o : Left) (lo : ℕ) (g : Passed) → ValueTurn base s i l → l ≡ Out g → Went o (unknownFrom base s i) base s lo i → Ends o base s lo g
+  pub value-out : (o : Left) (lo : ℕ) (g : Passed) → ValueTurn base s i l → l ≡ Out g → Went o (unknownFrom base s i) base s lo i → PassesTo o base s lo g
   value-out o lo g r q w = ends-after g w (subst (ValueTurn base s i) q r)
 
 -- lists
@@ -253,8 +253,8 @@ more-left fuel v r = go (unknownsAt fuel r)
     go (refused n x) = refl
     go (got l x) = refl
 
-last-left : (next : List Token → Result (Tree unknownList)) (v : Tree unknownValue) (x : List Token) → (kindAt x ≡ 4 → ⊥) → leftOf (afterUnknown next v x) ≡ left x
-unfolding afterUnknown leftOf kindAt
+last-left : (next : List Token → Result (Tree unknownList)) (v : Tree unknownValue) (x : List Token) → (tokenKind x ≡ 4 → ⊥) → leftOf (afterUnknown next v x) ≡ left x
+unfolding afterUnknown leftOf tokenKind
 last-left next v [] n = refl
 last-left next v (word w ∷ r) n = refl
 last-left next v (string w ∷ r) n = refl
@@ -282,11 +282,11 @@ list-stuck : (fuel : ℕ) (x y : List Token) (n : ℕ) → leftOf (unknownAt x) 
 unfolding unknownsAt then leftOf
 list-stuck fuel x y n e = rw (left-refused (unknownAt x) n y e) refl
 
-module _ (base : ℕ) (s : List ℕ) (i : ℕ) (l : Passed) (r : Ends (unknownFrom base s i) base s i l) where
+module _ (base : ℕ) (s : List ℕ) (i : ℕ) (l : Passed) (r : PassesTo (unknownFrom base s i) base s i l) where
   pub list-more : (u : Cursor) (h : Head) → l ≡ Past u → HeadAt base s (u .at) h → h .kind ≡ 4 → ListOn base s i (h .past .at)
   unfolding tokenOf
   list-more u h q g e =
-      let p : Ended (unknownFrom base s i) base s i (u .at) = subst (Ends (unknownFrom base s i) base s i) q r in
+      let p : PassedUpTo (unknownFrom base s i) base s i (u .at) = subst (PassesTo (unknownFrom base s i) base s i) q r in
       let w : Step (cutAt base s (u .at)) base s (u .at) comma (h .start) (h .past .at) = head-step base s (u .at) h g 4 e (λ z. omega arith) in
       let t = step-tokens base s (u .at) comma (h .start) (h .past .at) w in
       record {
@@ -295,14 +295,14 @@ module _ (base : ℕ) (s : List ℕ) (i : ℕ) (l : Passed) (r : Ends (unknownFr
         short = omega (arith, ap length t, tokens-length (lexemesAt base s (u .at)), tokens-length (lexemesAt base s i), tail-length (lexemesAt base s i) (lexemesAt base s (u .at)) (p .moved .along));
       }
 
-  pub list-last : (u : Cursor) (h : Head) → l ≡ Past u → HeadAt base s (u .at) h → (h .kind ≡ 4 → ⊥) → (fuel : ℕ) → Ended (leftOf (unknownsAt (suc fuel) (tokensAt base s i))) base s i (u .at)
+  pub list-last : (u : Cursor) (h : Head) → l ≡ Past u → HeadAt base s (u .at) h → (h .kind ≡ 4 → ⊥) → (fuel : ℕ) → PassedUpTo (leftOf (unknownsAt (suc fuel) (tokensAt base s i))) base s i (u .at)
   list-last u h q g n fuel =
-      let p : Ended (unknownFrom base s i) base s i (u .at) = subst (Ends (unknownFrom base s i) base s i) q r in
+      let p : PassedUpTo (unknownFrom base s i) base s i (u .at) = subst (PassesTo (unknownFrom base s i) base s i) q r in
       record { is = list-past fuel (tokensAt base s i) (tokensAt base s (u .at)) (left (tokensAt base s (u .at))) (p .is) (λ v. last-left (unknownsAt fuel) v (tokensAt base s (u .at)) (head-not base s (u .at) h g 4 n)); moved = p .moved }
 
   pub list-refused : (n q : ℕ) → l ≡ Refused n q → (fuel : ℕ) → Halted (leftOf (unknownsAt (suc fuel) (tokensAt base s i))) (lexemesAt base s i) (base + length s) n q
   list-refused n q z fuel =
-      let p : Halted (unknownFrom base s i) (lexemesAt base s i) (base + length s) n q = subst (Ends (unknownFrom base s i) base s i) z r in
+      let p : Halted (unknownFrom base s i) (lexemesAt base s i) (base + length s) n q = subst (PassesTo (unknownFrom base s i) base s i) z r in
       record { rest = p .rest; is = list-stuck fuel (tokensAt base s i) (tokensOf (p .rest)) n (p .is); along = p .along; place = p .place }
 
 -- where the loop over a list stands
@@ -324,9 +324,9 @@ listed-on base s lo i j a b = go (a .fuel) (a .enough) (a .went)
     go zero e w = absurd (omega arith)
     go (suc fuel) e w = record { fuel = fuel; enough = omega (arith, b .short); went = went-on w (b .is fuel) (b .moved) }
 
-pub listed-out : (base : ℕ) (s : List ℕ) (lo i : ℕ) (l : Turn) (g : Passed) → Listed base s lo i → ListTurn base s i l → l ≡ Out g → Ends (unknownsFrom base s lo) base s lo g
+pub listed-out : (base : ℕ) (s : List ℕ) (lo i : ℕ) (l : Turn) (g : Passed) → Listed base s lo i → ListTurn base s i l → l ≡ Out g → PassesTo (unknownsFrom base s lo) base s lo g
 listed-out base s lo i l g a r q = go (a .fuel) (a .enough) (a .went)
   where
-    go : (fuel : ℕ) → length (tokensAt base s i) < fuel → Went (unknownsFrom base s lo) (leftOf (unknownsAt fuel (tokensAt base s i))) base s lo i → Ends (unknownsFrom base s lo) base s lo g
+    go : (fuel : ℕ) → length (tokensAt base s i) < fuel → Went (unknownsFrom base s lo) (leftOf (unknownsAt fuel (tokensAt base s i))) base s lo i → PassesTo (unknownsFrom base s lo) base s lo g
     go zero e w = absurd (omega arith)
     go (suc fuel) e w = ends-after g w (subst (ListTurn base s i) q r fuel)

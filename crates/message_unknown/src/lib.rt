@@ -4,7 +4,7 @@ ghost use mathlib.Core.Path.{_≡_};
 ghost use Prim.Native.Nat.{ℕ, _+_, _≤_};
 ghost use lib.ListN.{length};
 ghost use Rattle.numbers.specs.Limits.{messageLimit};
-ghost use Rattle.message_unknown.specs.Passing.{bracesFrom, unknownFrom, unknownsFrom, Ends, BraceTurn, WordTurn, ValueTurn, ListTurn};
+ghost use Rattle.message_unknown.specs.Passing.{bracesFrom, unknownFrom, unknownsFrom, PassesTo, BraceTurn, WordTurn, ValueTurn, ListTurn};
 use message_tokens::Cursor;
 
 // Past a part, or a number and a place.
@@ -43,7 +43,7 @@ fn brace_turn(s: &[u8], base: usize, u: Cursor, k: usize) -> Turn
 // Past the closing brace of unknown braces: s starts after the opening one.
 pub fn braces(s: &[u8], base: usize) -> Passed
     requires { ⌜ base + length (now s) ≤ messageLimit ⌝ }
-    ensures { λ r. ⌜ Ends (bracesFrom base (now (s .entry)) 0 0) base (now (s .entry)) 0 r ⌝ }
+    ensures { λ r. ⌜ PassesTo (bracesFrom base (now (s .entry)) 0 0) base (now (s .entry)) 0 r ⌝ }
 {
     let mut u = Cursor { at: 0 };
     let mut k: usize = 0;
@@ -63,7 +63,7 @@ pub fn braces(s: &[u8], base: usize) -> Passed
 // The same from a brace that ends at e: the part after it is handed on.
 fn braces_at(s: &[u8], base: usize, e: usize) -> Passed
     requires { ⌜ (base + length (now s) ≤ messageLimit) × (e ≤ length (now s)) ⌝ }
-    ensures { λ r. ⌜ Ends (bracesFrom base (now (s .entry)) e 0) base (now (s .entry)) e r ⌝ }
+    ensures { λ r. ⌜ PassesTo (bracesFrom base (now (s .entry)) e 0) base (now (s .entry)) e r ⌝ }
 {
     match braces(&s[e..], base + e) {
         Passed::Past(v) => Passed::Past(Cursor { at: e + v.at }),
@@ -105,7 +105,7 @@ fn value_turn(s: &[u8], base: usize, u: Cursor) -> Turn
 // Past an unknown value: a loop down a row of words with `=` between.
 fn value(s: &[u8], base: usize, first: Cursor) -> Passed
     requires { ⌜ base + length (now s) ≤ messageLimit ⌝ }
-    ensures { λ r. ⌜ Ends (unknownFrom base (now (s .entry)) (first .at)) base (now (s .entry)) (first .at) r ⌝ }
+    ensures { λ r. ⌜ PassesTo (unknownFrom base (now (s .entry)) (first .at)) base (now (s .entry)) (first .at) r ⌝ }
 {
     let mut u = first;
     loop {
@@ -141,7 +141,7 @@ fn list_turn(s: &[u8], base: usize, u: Cursor) -> Turn
 // Past a list of unknown values.
 pub fn list(s: &[u8], base: usize, first: Cursor) -> Passed
     requires { ⌜ base + length (now s) ≤ messageLimit ⌝ }
-    ensures { λ r. ⌜ Ends (unknownsFrom base (now (s .entry)) (first .at)) base (now (s .entry)) (first .at) r ⌝ }
+    ensures { λ r. ⌜ PassesTo (unknownsFrom base (now (s .entry)) (first .at)) base (now (s .entry)) (first .at) r ⌝ }
 {
     let mut u = first;
     loop {

@@ -7,7 +7,7 @@ use lib.ListN.{length, drop, length-append}
 use lib.Seq.{sets, drop-drop}
 use Rattle.numbers.specs.Limits.{rowWidth}
 use Rattle.reading_rules.specs.Token.{Token}
-use Rattle.reading_rules.specs.Reading.{Sort, value, Tree, chosen}
+use Rattle.reading_rules.specs.Reading.{TreeSort, value, Tree, chosen}
 use Rattle.message_rules.specs.Scan.{tokensOf}
 use Rattle.message_rules.specs.Scan.{Lexeme as Lex}
 use Rattle.reading_rules.specs.Parse.{Result, refused, got, then}
@@ -41,10 +41,10 @@ stopped-then {o = o} f {x} s = stopped-before x x here (then-refused o f) s
 pub stopped-same : {A : Type 0} {o o′ : Result A} {x : List Lex} {end n q : ℕ} → o ≡ o′ → Stopped o′ x end n q → Stopped o x end n q
 stopped-same e s = record { rest = s .rest; is = e ∙ s .is; along = s .along; place = s .place }
 
-pub read-same : {k : Sort} {o o′ : Result (Tree k)} {x y : List Lex} {before after : List ℕ} {row p up next : ℕ} → o ≡ o′ → Read o′ x y before after row p up next → Read o x y before after row p up next
+pub read-same : {k : TreeSort} {o o′ : Result (Tree k)} {x y : List Lex} {before after : List ℕ} {row p up next : ℕ} → o ≡ o′ → Read o′ x y before after row p up next → Read o x y before after row p up next
 read-same e r = record { tree = r .tree; is = e ∙ r .is; left = r .left; written = r .written; sized = r .sized }
 
-pub going-start : {k : Sort} (o : Result (Tree k)) (x : List Lex) (before : List ℕ) (row p up : ℕ) → Going o o x x before before row p up row
+pub going-start : {k : TreeSort} (o : Result (Tree k)) (x : List Lex) (before : List ℕ) (row p up : ℕ) → Going o o x x before before row p up row
 unfolding cells
 going-start o x before row p up = record {
   tokens = 0;
@@ -56,14 +56,14 @@ going-start o x before row p up = record {
   sized = omega arith;
 }
 
-module _ {k k′ : Sort} {o : Result (Tree k)} {o′ : Result (Tree k′)} {x y : List Lex} {before after : List ℕ} {row p up next : ℕ} (g : Going o o′ x y before after row p up next) where
+module _ {k k′ : TreeSort} {o : Result (Tree k)} {o′ : Result (Tree k′)} {x y : List Lex} {before after : List ℕ} {row p up next : ℕ} (g : Going o o′ x y before after row p up next) where
   pub going-tail : Tail y x
   going-tail = rw (g .left) (drop-tail (g .tokens) x)
 
   pub going-stopped : {end n q : ℕ} → Stopped o′ y end n q → Stopped o x end n q
   going-stopped s = stopped-before x y going-tail (g .refuses) s
 
-  pub going-on : {k″ : Sort} {o″ : Result (Tree k″)} {z : List Lex} {last : List ℕ} {m : ℕ} → Going o′ o″ y z after last next p up m → Going o o″ x z before last row p up m
+  pub going-on : {k″ : TreeSort} {o″ : Result (Tree k″)} {z : List Lex} {last : List ℕ} {m : ℕ} → Going o′ o″ y z after last next p up m → Going o o″ x z before last row p up m
   going-on {k″} {o″} {z} {last} {m} h = record {
     tokens = g .tokens + h .tokens;
     left = h .left ∙ (ap (drop (h .tokens)) (g .left) ∙ drop-drop (h .tokens) (g .tokens) x);
@@ -91,7 +91,7 @@ module _ {k k′ : Sort} {o : Result (Tree k)} {o′ : Result (Tree k′)} {x y 
       }
 
 -- one step: the answer is the answer after n tokens, put into a larger tree, with the rows acc in front
-pub going-step : {k k′ : Sort} (o : Result (Tree k)) (o′ : Result (Tree k′)) (x y : List Lex) (before after : List ℕ) (row p up next : ℕ) (wrap : Tree k′ → Tree k) (n : ℕ) (acc : List Row)
+pub going-step : {k k′ : TreeSort} (o : Result (Tree k)) (o′ : Result (Tree k′)) (x y : List Lex) (before after : List ℕ) (row p up next : ℕ) (wrap : Tree k′ → Tree k) (n : ℕ) (acc : List Row)
     → o ≡ then o′ (λ t z. got (wrap t) z)
     → y ≡ drop n x
     → ((t : Tree k′) → width (wrap t) ≡ n + width t)

@@ -15,7 +15,7 @@ use Rattle.reading_rules.specs.Parse.{Result, refused, got, need, onEquals, jud
 use Rattle.reading_rules.specs.Reading.{width}
 use Rattle.message_rules.specs.Rows.{rowCount, lexemeAt, rowOver, rowsOf}
 use Rattle.message_tokens.specs.Cursor.{part, cutAt, lexemesAt, Step}
-use Rattle.message_tokens.specs.Head.{tokenOf, kindAt, HeadAt}
+use Rattle.message_tokens.specs.Head.{tokenOf, tokenKind, HeadAt}
 use Rattle.message_tokens.specs.declared.Head.{Head}
 use Rattle.message_tokens.proofs.Heads.{head-step, head-kind, head-not, step-lex, step-tokens, step-left, step-place, step-within}
 use Rattle.message_unknown.specs.Along.{here, tokensAt, Stopped}
@@ -41,8 +41,8 @@ pub unfit-none : (k : ℕ) → (k ≡ 1 → ⊥) → (k ≡ 2 → ⊥) → (k �
 unfolding unfitOf
 unfit-none k a b c = rw (ne-eqb k 1 a, ne-eqb k 2 b, ne-eqb k 5 c, unfitOf) refl
 
-none-refused : (x : List Token) → noneAt x ≡ refused (unfitOf (kindAt x)) x
-unfolding noneAt unfitOf kindAt
+none-refused : (x : List Token) → noneAt x ≡ refused (unfitOf (tokenKind x)) x
+unfolding noneAt unfitOf tokenKind
 none-refused [] = refl
 none-refused (word w ∷ r) = refl
 none-refused (string w ∷ r) = refl
@@ -51,8 +51,8 @@ none-refused (equals ∷ r) = refl
 none-refused (comma ∷ r) = refl
 none-refused (closing ∷ r) = refl
 
-simple-refused : (S : Schema) (u : ℕ) (x : List Token) → (kindAt x ≡ 1 → ⊥) → (kindAt x ≡ 2 → ⊥) → simpleAt S u x ≡ refused (unfitOf (kindAt x)) x
-unfolding simpleAt unfitOf kindAt
+simple-refused : (S : Schema) (u : ℕ) (x : List Token) → (tokenKind x ≡ 1 → ⊥) → (tokenKind x ≡ 2 → ⊥) → simpleAt S u x ≡ refused (unfitOf (tokenKind x)) x
+unfolding simpleAt unfitOf tokenKind
 simple-refused S u [] a b = refl
 simple-refused S u (word w ∷ r) a b = absurd (a refl)
 simple-refused S u (string w ∷ r) a b = absurd (b refl)
@@ -61,8 +61,8 @@ simple-refused S u (equals ∷ r) a b = refl
 simple-refused S u (comma ∷ r) a b = refl
 simple-refused S u (closing ∷ r) a b = refl
 
-struct-refused : (bodyOf : ℕ → List Token → Result (Tree body)) (u : ℕ) (x : List Token) → (kindAt x ≡ 5 → ⊥) → structAt bodyOf u x ≡ refused (unfitOf (kindAt x)) x
-unfolding structAt unfitOf kindAt
+struct-refused : (bodyOf : ℕ → List Token → Result (Tree body)) (u : ℕ) (x : List Token) → (tokenKind x ≡ 5 → ⊥) → structAt bodyOf u x ≡ refused (unfitOf (tokenKind x)) x
+unfolding structAt unfitOf tokenKind
 struct-refused bodyOf u [] a = refl
 struct-refused bodyOf u (word w ∷ r) a = refl
 struct-refused bodyOf u (string w ∷ r) a = refl
@@ -71,8 +71,8 @@ struct-refused bodyOf u (equals ∷ r) a = refl
 struct-refused bodyOf u (comma ∷ r) a = refl
 struct-refused bodyOf u (closing ∷ r) a = refl
 
-shut-refused : (b : Tree body) (x : List Token) → (kindAt x ≡ 6 → ⊥) → shut b x ≡ refused 23 x
-unfolding shut kindAt
+shut-refused : (b : Tree body) (x : List Token) → (tokenKind x ≡ 6 → ⊥) → shut b x ≡ refused 23 x
+unfolding shut tokenKind
 shut-refused b [] a = refl
 shut-refused b (word w ∷ r) a = refl
 shut-refused b (string w ∷ r) a = refl
@@ -81,8 +81,8 @@ shut-refused b (equals ∷ r) a = refl
 shut-refused b (comma ∷ r) a = refl
 shut-refused b (closing ∷ r) a = absurd (a refl)
 
-union-refused : (S : Schema) (Vs : Values) (u : ℕ) (x : List Token) → (kindAt x ≡ 1 → ⊥) → unionAt S Vs u x ≡ refused (unfitOf (kindAt x)) x
-unfolding unionAt unfitOf kindAt
+union-refused : (S : Schema) (Vs : Values) (u : ℕ) (x : List Token) → (tokenKind x ≡ 1 → ⊥) → unionAt S Vs u x ≡ refused (unfitOf (tokenKind x)) x
+unfolding unionAt unfitOf tokenKind
 union-refused S Vs u [] a = refl
 union-refused S Vs u (word w ∷ r) a = absurd (a refl)
 union-refused S Vs u (string w ∷ r) a = refl
@@ -93,7 +93,7 @@ union-refused S Vs u (closing ∷ r) a = refl
 
 -- a refusal by the kind of the head
 module _ (base : ℕ) (s : List ℕ) (i : ℕ) (h : Head) (g : HeadAt base s i h) where
-  unfit-here : {A : Type 0} (o : Result A) → o ≡ refused (unfitOf (kindAt (tokensAt base s i))) (tokensAt base s i) → (n : ℕ) → n ≡ unfitOf (h .kind) → Stopped o (lexemesAt base s i) (base + length s) n (base + h .start)
+  unfit-here : {A : Type 0} (o : Result A) → o ≡ refused (unfitOf (tokenKind (tokensAt base s i))) (tokensAt base s i) → (n : ℕ) → n ≡ unfitOf (h .kind) → Stopped o (lexemesAt base s i) (base + length s) n (base + h .start)
   unfit-here o e n m = stop-here o base s i h n g (e ∙ ap (λ k. refused k (tokensAt base s i)) (ap unfitOf (head-kind base s i h g) ∙ sym m))
 
   pub none-stopped : (n : ℕ) → n ≡ unfitOf (h .kind) → Stopped (noneAt (tokensAt base s i)) (lexemesAt base s i) (base + length s) n (base + h .start)
@@ -183,8 +183,8 @@ module _ (S : Schema) (s : List ℕ) (f : Frame) (u : ℕ) (t : Token) (a e numb
   leaf-ends (Refused n q) l = leaf-refused n q l
 
 -- ---- what several of the decisions need
-pub equals-none : {A : Type 0} (x : List Token) (f : List Token → Result A) → (kindAt x ≡ 3 → ⊥) → onEquals x f ≡ refused 23 x
-unfolding onEquals kindAt
+pub equals-none : {A : Type 0} (x : List Token) (f : List Token → Result A) → (tokenKind x ≡ 3 → ⊥) → onEquals x f ≡ refused 23 x
+unfolding onEquals tokenKind
 equals-none [] f a = refl
 equals-none (word w ∷ r) f a = refl
 equals-none (string w ∷ r) f a = refl

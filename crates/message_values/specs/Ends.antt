@@ -5,7 +5,7 @@ use Prim.Native.Nat.{ℕ, _+_, _-_, _*_, _≤_, _<_}
 use lib.ListN.{length, drop}
 use lib.Seq.{sets}
 use Rattle.numbers.specs.Limits.{messageLimit, parameterLimit, rowWidth}
-use Rattle.reading_rules.specs.Reading.{Sort, value, Tree}
+use Rattle.reading_rules.specs.Reading.{TreeSort, value, Tree}
 use Rattle.message_rules.specs.Scan.{tokensOf}
 use Rattle.message_rules.specs.Scan.{Lexeme as Lex}
 use Rattle.reading_rules.specs.Parse.{Result, got}
@@ -26,7 +26,7 @@ pub record Room (f : Frame) (len n : ℕ) : Type 0 where
   pub known : n ≤ parameterLimit
 
 -- read from the lexemes x to y: the rows were lent before and left after, from row on; next is the row after them
-pub record Read {k : Sort} (o : Result (Tree k)) (x y : List Lex) (before after : List ℕ) (row p up next : ℕ) : Type 0 where
+pub record Read {k : TreeSort} (o : Result (Tree k)) (x y : List Lex) (before after : List ℕ) (row p up next : ℕ) : Type 0 where
   pub tree : Tree k
   pub is : o ≡ got tree (tokensOf y)
   pub left : y ≡ drop (width tree) x
@@ -39,11 +39,11 @@ pub record Moved (len lo least row at next : ℕ) : Type 0 where
   pub within : at ≤ len
   pub counted : next + 2 * lo ≤ row + 2 * at
 
-pub record Ended {k : Sort} (o : Result (Tree k)) (s : List ℕ) (f : Frame) (before after : List ℕ) (least at next : ℕ) : Type 0 where
+pub record Ended {k : TreeSort} (o : Result (Tree k)) (s : List ℕ) (f : Frame) (before after : List ℕ) (least at next : ℕ) : Type 0 where
   pub read : Read o (lexemesAt (f .base) s (f .at)) (lexemesAt (f .base) s at) before after (f .row) (f .parameter) (f .parent) next
   pub moved : Moved (length s) (f .at) least (f .row) at next
 
-abbrev pub Ends : {k : Sort} → Result (Tree k) → List ℕ → Frame → List ℕ → List ℕ → ℕ → Got → Type 0
+abbrev pub Ends : {k : TreeSort} → Result (Tree k) → List ℕ → Frame → List ℕ → List ℕ → ℕ → Got → Type 0
 Ends o s f before after least (Done u next) = Ended o s f before after least (u .at) next
 Ends o s f before after least (Refused n q) = Stopped o (lexemesAt (f .base) s (f .at)) (f .base + length s) n q
 

@@ -6,7 +6,7 @@ use lib.ListN.{length, drop}
 use lib.Seq.{sets}
 use Rattle.numbers.specs.Limits.{rowWidth}
 use Rattle.reading_rules.specs.Token.{Token}
-use Rattle.reading_rules.specs.Reading.{Sort, value, Tree}
+use Rattle.reading_rules.specs.Reading.{TreeSort, value, Tree}
 use Rattle.message_rules.specs.Scan.{Lexeme as Lex}
 use Rattle.reading_rules.specs.Parse.{Result, refused, got}
 use Rattle.message_rules.specs.Rows.{Row, lexemeAt, rowsOf, cells}
@@ -14,14 +14,14 @@ use Rattle.reading_rules.specs.Reading.{width}
 use Rattle.message_rows.specs.Filled.{ended}
 
 -- the whole tree around t, which is read from y on, with n tokens and the rows acc in front
-pub record Wrapped {k k′ : Sort} (o : Result (Tree k)) (n : ℕ) (acc : List Row) (x y : List Lex) (t : Tree k′) (z : List Token) (row p up next : ℕ) : Type 0 where
+pub record Wrapped {k k′ : TreeSort} (o : Result (Tree k)) (n : ℕ) (acc : List Row) (x y : List Lex) (t : Tree k′) (z : List Token) (row p up next : ℕ) : Type 0 where
   pub tree : Tree k
   pub is : o ≡ got tree z
   pub wide : width tree ≡ n + width t
   pub rows : rowsOf x tree 0 row p up ≡ acc ++ rowsOf y t 0 next p up
 
 -- the answer o from the lexemes x on, and the answer o′ from y on
-pub record Going {k k′ : Sort} (o : Result (Tree k)) (o′ : Result (Tree k′)) (x y : List Lex) (before after : List ℕ) (row p up next : ℕ) : Type 0 where
+pub record Going {k k′ : TreeSort} (o : Result (Tree k)) (o′ : Result (Tree k′)) (x y : List Lex) (before after : List ℕ) (row p up next : ℕ) : Type 0 where
   pub tokens : ℕ
   pub left : y ≡ drop tokens x
   pub acc : List Row

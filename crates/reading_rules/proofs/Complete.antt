@@ -13,13 +13,13 @@ use Rattle.reading_rules.specs.Token.{Token, word, string, equals, comma
 use Rattle.reading_rules.specs.Schema.{Kind, void, simple, struct, union, reference, isVoid, Found, nowhere, found, Schema, atMost, WellFormed}
 use Rattle.reading_rules.specs.Count.{same, times, In, Once, has, allIn}
 use Rattle.reading_rules.proofs.CountLaws.{clash-bool, in-all, out-hasnt, was-new, once-nil}
-use Rattle.reading_rules.specs.Reading.{Sort, unknownValue, unknownList, value, list, body, items, Tree, unknownWord, unknownString, unknownBraces, unknownPair, unknownLast, unknownMore, leaf, braced, chosenVoid, chosen, chosenInt, last, more, listed, stopped, itemized, noItem, voidItem, listItem, unknownItem, unknownListItem, leavesThen, balancedFrom, count, fieldsOf, InRange, Full, For, Law}
+use Rattle.reading_rules.specs.Reading.{TreeSort, unknownValue, unknownList, value, list, body, items, Tree, unknownWord, unknownString, unknownBraces, unknownPair, unknownLast, unknownMore, leaf, braced, chosenVoid, chosen, chosenInt, last, more, listed, stopped, itemized, noItem, voidItem, listItem, unknownItem, unknownListItem, leavesThen, balancedFrom, count, fieldsOf, InRange, Full, For, Law}
 use Rattle.reading_rules.specs.Parse.{Result, refused, got, then, need, whether, onEquals, afterToken, pairWith, bracesAt, unknownAt, afterUnknown, unknownsAt, judged, simpleAt, shut, structAt, alternative, bareFor, choose, unionAt, noneAt, byKind, valueAt, mayGrow, listEnds, afterValue, listAt, wholeList, requiredOf, endNumber, bodyEnds, unknownAfter, itemAt, itemsAt, listThen, listsAt, wholeValue, bodyAt}
 use Rattle.reading_rules.proofs.Inverse.{required-is, Ends, or-case, or-left, or-right}
 use Rattle.reading_rules.specs.Reading.{width}
 
 -- how many braces of structs stand open at once
-unfoldable pub deep : {s : Sort} → Tree s → ℕ
+unfoldable pub deep : {s : TreeSort} → Tree s → ℕ
 deep (unknownWord w) = 0
 deep (unknownString w) = 0
 deep (unknownBraces ts) = 0
@@ -47,7 +47,7 @@ length-braces [] r = omega arith
 length-braces (t ∷ ts) r = omega (arith, length-braces ts r)
 
 -- the leaves are as many as the tree is wide
-pub leaves-width : {s : Sort} (t : Tree s) (r : List Token) → length (leavesThen t r) ≡ width t + length r
+pub leaves-width : {s : TreeSort} (t : Tree s) (r : List Token) → length (leavesThen t r) ≡ width t + length r
 unfolding leavesThen width
 leaves-width (unknownWord w) r = omega arith
 leaves-width (unknownString w) r = omega arith

@@ -11,7 +11,7 @@ use Rattle.reading_rules.specs.Token.{Token, word, string, equals, comma
 use Rattle.reading_rules.specs.Schema.{Schema, atMost}
 use Rattle.reading_rules.specs.Count.{times, In}
 use Rattle.reading_rules.proofs.CountLaws.{clash-bool, in-head, in-tail, in-cons, in-nil}
-use Rattle.reading_rules.specs.Reading.{Sort, unknownValue, Tree, unknownPair}
+use Rattle.reading_rules.specs.Reading.{TreeSort, unknownValue, Tree, unknownPair}
 use Rattle.reading_rules.specs.Parse.{Result, refused, got, then, need, whether, onEquals, afterToken, pairWith, judged, mayGrow, requiredOf, endNumber, bodyEnds}
 
 pub clash : {A X : Type 0} {n : ℕ} {x : List Token} {a : A} {r : List Token} → _≡_ {A = Result A} (refused n x) (got a r) → X

@@ -6,7 +6,7 @@ use Prim.Native.Nat.{ℕ, zero, suc, _+_, _≤_, _<_, max}
 use native.Mathlib.Omega.{arith}
 use Rattle.reading_rules.specs.Token.{Token}
 use Rattle.reading_rules.specs.Schema.{Schema, WellFormed}
-use Rattle.reading_rules.specs.Reading.{Sort, body, Tree, leavesThen, leaves, Law, Lawful}
+use Rattle.reading_rules.specs.Reading.{TreeSort, body, Tree, leavesThen, leaves, Law, Lawful}
 use Rattle.reading_rules.specs.Parse.{Result, refused, got, parse}
 use Rattle.reading_rules.proofs.Inverse.{Ends}
 use Rattle.reading_rules.proofs.Sound.{body-sound}

@@ -13,7 +13,7 @@ use Rattle.reading_rules.specs.Token.{Token, word, string, equals, comma
 use Rattle.reading_rules.specs.Schema.{Kind, void, simple, struct, union, reference, isVoid, Found, nowhere, found, Schema, atMost, WellFormed}
 use Rattle.reading_rules.specs.Count.{same, times, In, Once, has, allIn}
 use Rattle.reading_rules.proofs.CountLaws.{clash-bool, all-in, hasnt-in, once-more, once-nil, in-head, in-tail, in-cons, in-nil}
-use Rattle.reading_rules.specs.Reading.{Sort, unknownValue, unknownList, value, list, body, items, Tree, unknownWord, unknownString, unknownBraces, unknownPair, unknownLast, unknownMore, leaf, braced, chosenVoid, chosen, chosenInt, last, more, listed, stopped, itemized, noItem, voidItem, listItem, unknownItem, unknownListItem, leavesThen, balancedFrom, count, fieldsOf, InRange, Full, For, Law}
+use Rattle.reading_rules.specs.Reading.{TreeSort, unknownValue, unknownList, value, list, body, items, Tree, unknownWord, unknownString, unknownBraces, unknownPair, unknownLast, unknownMore, leaf, braced, chosenVoid, chosen, chosenInt, last, more, listed, stopped, itemized, noItem, voidItem, listItem, unknownItem, unknownListItem, leavesThen, balancedFrom, count, fieldsOf, InRange, Full, For, Law}
 use Rattle.reading_rules.specs.Parse.{Result, refused, got, then, need, whether, onEquals, bracesAt, unknownAt, afterUnknown, unknownsAt, judged, simpleAt, shut, structAt, alternative, bareFor, choose, unionAt, noneAt, byKind, valueAt, mayGrow, listEnds, afterValue, listAt, wholeList, requiredOf, endNumber, bodyEnds, unknownAfter, itemAt, itemsAt, listThen, listsAt, wholeValue, bodyAt}
 use Rattle.reading_rules.proofs.Inverse.{required-is, clash, got-to, then-got, need-got, whether-got, equals-got, after-got, pair-got, judged-got, Ends, end-nil, end-closing, ends-got, or-case, or-left, or-right}
 
@@ -32,7 +32,7 @@ required-in S k (q ∷ l) h x y = go (S .optional q || eqb (S .lo q) 0) refl (λ
     go false e f = in-cons k q l h (λ d. rw d (in-head k (requiredOf S l))) (λ i. in-tail k q (requiredOf S l) (f i))
 
 -- the answer is right: a lawful tree whose leaves, and what is left, are the tokens
-abbrev pub Right : {s : Sort} → Schema → For s → List Token → Tree s → List Token → Type 0
+abbrev pub Right : {s : TreeSort} → Schema → For s → List Token → Tree s → List Token → Type 0
 Right S c x t r = Law S c t × (leavesThen t r ≡ x)
 
 -- "braces round any balanced tokens"

@@ -12,7 +12,7 @@ use Rattle.numbers.specs.Decimal.{isIntLike}
 use Rattle.reading_rules.specs.Token.{Token, word, string, equals, comma, opening, closing}
 use Rattle.reading_rules.specs.Schema.{Kind, void, simple, struct, union, reference, isVoid, Found, nowhere, found, Schema, atMost}
 use Rattle.reading_rules.specs.Count.{has, allIn}
-use Rattle.reading_rules.specs.Reading.{Sort, unknownValue, unknownList, value, list, body, items, Tree, unknownWord, unknownString, unknownBraces, unknownPair, unknownLast, unknownMore, leaf, braced, chosenVoid, chosen, chosenInt, last, more, listed, stopped, itemized, noItem, voidItem, listItem, unknownItem, unknownListItem}
+use Rattle.reading_rules.specs.Reading.{TreeSort, unknownValue, unknownList, value, list, body, items, Tree, unknownWord, unknownString, unknownBraces, unknownPair, unknownLast, unknownMore, leaf, braced, chosenVoid, chosen, chosenInt, last, more, listed, stopped, itemized, noItem, voidItem, listItem, unknownItem, unknownListItem}
 
 pub data Result (A : Type 0) : Type 0 where
   refused : ℕ → List Token → Result A

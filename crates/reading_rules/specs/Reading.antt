@@ -10,10 +10,10 @@ use Rattle.reading_rules.specs.Schema.{Kind, void, simple, struct, union
 use Rattle.reading_rules.specs.Count.{times, In, Once}
 
 -- "the root's body on top, under a body its lists and items, under a list its values, under a struct its body, under a union's value its alternative, unknown parts included"
-pub data Sort : Type 0 where
-  unknownValue unknownList value list body items : Sort
+pub data TreeSort : Type 0 where
+  unknownValue unknownList value list body items : TreeSort
 
-pub data Tree : Sort → Type 0 where
+pub data Tree : TreeSort → Type 0 where
   -- "An unknown value is a word, a string, braces round any balanced tokens, or a word, `=`, an unknown value."
   unknownWord : List ℕ → Tree unknownValue
   unknownString : List ℕ → Tree unknownValue
@@ -47,7 +47,7 @@ pub data Tree : Sort → Type 0 where
   unknownListItem : List ℕ → Tree unknownList → Tree items → Tree items
 
 -- "From left to right its leaves are all the message's tokens": a tree's leaves, in front of what follows them
-unfoldable pub leavesThen : {s : Sort} → Tree s → List Token → List Token
+unfoldable pub leavesThen : {s : TreeSort} → Tree s → List Token → List Token
 leavesThen (unknownWord w) r = word w ∷ r
 leavesThen (unknownString w) r = string w ∷ r
 leavesThen (unknownBraces ts) r = opening ∷ (ts ++ closing ∷ r)
@@ -70,11 +70,11 @@ leavesThen (listItem q w l i) r = word w ∷ equals ∷ leavesThen l (leavesThen
 leavesThen (unknownItem w i) r = word w ∷ leavesThen i r
 leavesThen (unknownListItem w l i) r = word w ∷ equals ∷ leavesThen l (leavesThen i r)
 
-abbrev pub leaves : {s : Sort} → Tree s → List Token
+abbrev pub leaves : {s : TreeSort} → Tree s → List Token
 leaves t = leavesThen t []
 
 -- how many leaves a tree has
-unfoldable pub width : {s : Sort} → Tree s → ℕ
+unfoldable pub width : {s : TreeSort} → Tree s → ℕ
 width (unknownWord w) = 1
 width (unknownString w) = 1
 width (unknownBraces ts) = length ts + 2
@@ -133,7 +133,7 @@ abbrev pub Full : Schema → ℕ → List ℕ → Type 0
 Full S p ks = (k : ℕ) → In k (S .tagged p) → S .optional k ≡ false → 1 ≤ S .lo k → In k ks
 
 -- what a tree is read for: a value and a list for a parameter; a body for a struct and its untagged fields still to come; items for a struct
-abbrev pub For : Sort → Type 0
+abbrev pub For : TreeSort → Type 0
 For unknownValue = Unit {0}
 For unknownList = Unit {0}
 For value = ℕ
@@ -142,7 +142,7 @@ For body = ℕ × List ℕ
 For items = ℕ
 
 -- the rules
-unfoldable pub Law : {s : Sort} → Schema → For s → Tree s → Type 0
+unfoldable pub Law : {s : TreeSort} → Schema → For s → Tree s → Type 0
 Law S p (unknownWord w) = Unit {0}
 Law S p (unknownString w) = Unit {0}
 Law S p (unknownBraces ts) = Balanced ts

@@ -19,13 +19,13 @@ use Rattle.table_rules.proofs.Theorems.{rules-iff}
 use Rattle.table_rules.specs.RecordRules.{noneBroken, recordChecks, recordRules, rulesOf, tableRules}
 use Rattle.table_records.specs.Stored.{recordIn, recordsFrom, recordsAt}
 use Rattle.table_records.proofs.Laws.{length-records, records-more, records-end, records-all}
-use Rattle.table_checks.specs.Sweeps.{Found, AllFinite}
+use Rattle.table_checks.specs.Sweeps.{HasFinites, AllFinite}
 use Rattle.definition_rules.specs.Faults.{voidMany, rule7Broken, tagRepeated, rootNoStruct}
 use Rattle.table_tags.specs.Lists.{Linked, Links}
 use Rattle.table_tags.proofs.Searching.{links-records}
 use Rattle.table_walk.specs.declared.Walk.{Walk}
 use Rattle.table_walk.specs.declared.Walk.the-variants.{Count, Bad}
-use Rattle.table_walk.specs.Walked.{Enough, Counted, Uncounted, Walked}
+use Rattle.table_walk.specs.Walked.{Enough, RecordsCounted, Uncounted, Walked}
 use Rattle.table.specs.Checks.{isBroken, Fine, Checked}
 
 -- ---- one check over all records
@@ -48,7 +48,7 @@ module _ (f : ℕ → Record → Bool) (t unpacked : List ℕ) (n : ℕ) where
     none-more h e = rw (records-more t unpacked n i h, e, ← add-one i)
 
 -- finite values as the code found them
-none-found : (rs : List Record) (have : List Bool) → Found rs have → (i : ℕ) (qs : List Record) → noneBroken (isEndless have) i qs ≡ noneBroken (isEndless (finites rs)) i qs
+none-found : (rs : List Record) (have : List Bool) → HasFinites rs have → (i : ℕ) (qs : List Record) → noneBroken (isEndless have) i qs ≡ noneBroken (isEndless (finites rs)) i qs
 unfolding noneBroken isEndless
 none-found rs have f i [] = refl
 none-found rs have f i (q ∷ qs) = rw (f i, none-found rs have f (suc i) qs)
@@ -93,7 +93,7 @@ module _ (rs : List Record) where
   pub checks-broken : noneBroken (isBroken rs) 0 rs ≡ false → recordChecks rs ≡ false
   checks-broken e = sym checks-are ∙ rw e
 
-  pub checks-finite : (have : List Bool) → noneBroken (isBroken rs) 0 rs ≡ true → Found rs have → noneBroken (isEndless have) 0 rs ≡ recordChecks rs
+  pub checks-finite : (have : List Bool) → noneBroken (isBroken rs) 0 rs ≡ true → HasFinites rs have → noneBroken (isEndless have) 0 rs ≡ recordChecks rs
   checks-finite have e f = none-found rs have f 0 rs ∙ (sym (rw e) ∙ checks-are)
 
   pub checks-structs : noneBroken (isBroken rs) 0 rs ≡ true → AllFinite rs → recordChecks rs ≡ true
@@ -108,7 +108,7 @@ pub rules-none : (t unpacked : List ℕ) (n : ℕ) → n ≡ 0 → recordRules p
 unfolding recordRules
 rules-none t unpacked n e = rw (length-records t unpacked n 0, lt-leb 1 n (omega arith))
 
-pub table-counted : (t unpacked : List ℕ) (n : ℕ) → Counted t unpacked n → recordRules parameterLimit (recordsAt t unpacked n) ≡ tableRules parameterLimit t
+pub table-counted : (t unpacked : List ℕ) (n : ℕ) → RecordsCounted t unpacked n → recordRules parameterLimit (recordsAt t unpacked n) ≡ tableRules parameterLimit t
 unfolding tableRules rulesOf
 table-counted t unpacked n c = rw (c .these)
 
@@ -122,7 +122,7 @@ table-bad t u = go (decode t) refl
 
 -- ---- what the walk says
 
-pub walked-count : (t unpacked : List ℕ) (w : Walk) (n : ℕ) → Walked t unpacked w → w ≡ Count n → Counted t unpacked n
+pub walked-count : (t unpacked : List ℕ) (w : Walk) (n : ℕ) → Walked t unpacked w → w ≡ Count n → RecordsCounted t unpacked n
 unfolding Walked
 walked-count t unpacked w n h e = rw e at h
 
@@ -136,7 +136,7 @@ promised t b h e = (e, ((λ x. rules-iff t h .0 (sym e ∙ x)), λ c. e ∙ rule
 
 -- ---- the lists
 
-pub linked-counted : (t cs after : List ℕ) (n : ℕ) → Links t cs n after → Counted t cs n → Counted t after n
+pub linked-counted : (t cs after : List ℕ) (n : ℕ) → Links t cs n after → RecordsCounted t cs n → RecordsCounted t after n
 linked-counted t cs after n l c = record { few = c .few; long = c .long; these = c .these ∙ ap just (sym (links-records t cs after n l)) }
 
 -- ---- the check

@@ -8,7 +8,7 @@ use Rattle.definition_rules.specs.Faults.{voidMany, rule7Broken, tagRepeated, r
 use Rattle.numbers.specs.Limits.{parameterLimit}
 use Rattle.table_rules.specs.RecordRules.{tableRules}
 use Rattle.table_tags.specs.Lists.{Linked}
-use Rattle.table_walk.specs.Walked.{Counted}
+use Rattle.table_walk.specs.Walked.{RecordsCounted}
 use Rattle.table_walk.specs.declared.Walk.{Walk}
 use Rattle.table_walk.specs.declared.Walk.the-variants.{Count, Bad}
 
@@ -19,7 +19,7 @@ isBroken rs i r = tagRepeated rs i r || (rootNoStruct i r || (voidMany i r || ru
 -- a table that keeps the rules, and its records, in their lists
 pub record Fine (t cs : List ℕ) (n : ℕ) : Type 0 where
   pub kept : tableRules parameterLimit t ≡ true
-  pub counted : Counted t cs n
+  pub counted : RecordsCounted t cs n
   pub linked : Linked t cs n 0
 
 -- what the check of a table says

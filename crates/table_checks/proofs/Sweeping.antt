@@ -17,7 +17,7 @@ use Rattle.definition_rules.proofs.FirstFault.{Either, left, right}
 use Rattle.definition_rules.proofs.FiniteLaws.{sub-at, step-grows, finites-closed}
 use Rattle.table_records.specs.Stored.{recordIn, recordsAt}
 use Rattle.table_records.proofs.Laws.{length-records}
-use Rattle.table_checks.specs.Sweeps.{stepBy, isNew, addIf, gathered, Over, isAdded, added, swept, sweepAdds, Swept, Empty, Found}
+use Rattle.table_checks.specs.Sweeps.{stepBy, isNewlyFinite, addIf, gathered, Over, isAdded, added, swept, sweepAdds, Swept, Empty, HasFinites}
 use Rattle.table_checks.proofs.Bodies.{over-more, over-marks, step-is}
 
 -- ---- sets of parameters
@@ -213,13 +213,13 @@ module _ (rs : List Record) where
       ahead = rw (w .marks, add-one k) (swept-ahead k have (g .room) (g .ahead));
     }
 
-    pub going-still : more ≡ false → Found rs after
+    pub going-still : more ≡ false → HasFinites rs after
     unfolding finites
     going-still z =
         let q = swept-still (length rs) have (sym (w .adds) ∙ z) in
         rw (w .marks ∙ q .0) (both-in have (rounds (length rs) rs none) (g .within) (rounds-closed have (λ i h. q .1 i h) (length rs)))
 
-  pub going-end : (k : ℕ) (have : List Bool) → k ≡ length rs → Going k have → Found rs have
+  pub going-end : (k : ℕ) (have : List Bool) → k ≡ length rs → Going k have → HasFinites rs have
   unfolding finites
   going-end k have e g = both-in have (rounds (length rs) rs none) (g .within) (go (length rs) (sym e))
     where
@@ -246,9 +246,9 @@ module _ (t unpacked : List ℕ) (n : ℕ) (w : Nested (recordsAt t unpacked n))
   pub part-start : (rest : List Bool) → Over t unpacked n have₀ n rest → Part n have₀ rest false
   part-start rest o = record { adds = refl; marks = refl; over = o }
 
-  module _ (i : ℕ) (have rest have' rest' : List Bool) (more x : Bool) (h : 0 < i) (l : i ≤ n) (r : n ≤ length rest) (e : x ≡ isNew have (getD rest (i - 1) false) (i - 1) (recordIn t unpacked (i - 1))) (f : have' ≡ addIf (isNew have (getD rest (i - 1) false) (i - 1) (recordIn t unpacked (i - 1))) have (i - 1)) (g : rest' ≡ gathered t unpacked have' (i - 1) (recordIn t unpacked (i - 1) .parent) rest) (p : Part i have rest more) where
-    new-is : isNew have (getD rest (i - 1) false) (i - 1) (recordIn t unpacked (i - 1)) ≡ isAdded all have (i - 1)
-    unfolding isNew isAdded
+  module _ (i : ℕ) (have rest have' rest' : List Bool) (more x : Bool) (h : 0 < i) (l : i ≤ n) (r : n ≤ length rest) (e : x ≡ isNewlyFinite have (getD rest (i - 1) false) (i - 1) (recordIn t unpacked (i - 1))) (f : have' ≡ addIf (isNewlyFinite have (getD rest (i - 1) false) (i - 1) (recordIn t unpacked (i - 1))) have (i - 1)) (g : rest' ≡ gathered t unpacked have' (i - 1) (recordIn t unpacked (i - 1) .parent) rest) (p : Part i have rest more) where
+    new-is : isNewlyFinite have (getD rest (i - 1) false) (i - 1) (recordIn t unpacked (i - 1)) ≡ isAdded all have (i - 1)
+    unfolding isNewlyFinite isAdded
     new-is = rw (step-is t unpacked n w have rest i h l (p .over))
 
     one : i ≡ suc (i - 1)
@@ -267,7 +267,7 @@ module _ (t unpacked : List ℕ) (n : ℕ) (w : Nested (recordsAt t unpacked n))
     part-more = record {
       adds = p .adds ∙ (ap (λ (j : ℕ). more || sweepAdds all j have) one ∙ adds-more more);
       marks = p .marks ∙ (ap (λ (j : ℕ). swept all j have) one ∙ marks-more);
-      over = over-more t unpacked n have' i rest rest' h l r g (over-marks t unpacked n have have' i rest (λ m k. rw f (new-off (isNew have (getD rest (i - 1) false) (i - 1) (recordIn t unpacked (i - 1))) have (i - 1) m (omega arith))) (p .over));
+      over = over-more t unpacked n have' i rest rest' h l r g (over-marks t unpacked n have have' i rest (λ m k. rw f (new-off (isNewlyFinite have (getD rest (i - 1) false) (i - 1) (recordIn t unpacked (i - 1))) have (i - 1) m (omega arith))) (p .over));
     }
 
   pub part-end : (i : ℕ) (have rest : List Bool) (more : Bool) → i ≤ 0 → Part i have rest more → Swept all have₀ have more

@@ -21,8 +21,8 @@ stepBy have body r =
     (pick (eqb (r .kind) 10) (getD have (r .target) false) true))
 
 -- the i-th record, r, had no value, and a step gives it one
-unfoldable pub isNew : List Bool → Bool → ℕ → Record → Bool
-isNew have body i r = pick (getD have i false) false (stepBy have body r)
+unfoldable pub isNewlyFinite : List Bool → Bool → ℕ → Record → Bool
+isNewlyFinite have body i r = pick (getD have i false) false (stepBy have body r)
 
 unfoldable pub addIf : Bool → List Bool → ℕ → List Bool
 addIf new have i = pick new (set have i true) have
@@ -77,8 +77,8 @@ abbrev pub Empty : List Bool → Type 0
 Empty have = (i : ℕ) → getD have i false ≡ false
 
 -- what is kept is number 10's outcome
-abbrev pub Found : List Record → List Bool → Type 0
-Found rs have = (i : ℕ) → getD have i false ≡ getD (finites rs) i false
+abbrev pub HasFinites : List Record → List Bool → Type 0
+HasFinites rs have = (i : ℕ) → getD have i false ≡ getD (finites rs) i false
 
 -- every record has a finite value
 abbrev pub AllFinite : List Record → Type 0

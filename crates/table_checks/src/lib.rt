@@ -10,7 +10,7 @@ ghost use Rattle.definition_rules.specs.Finite.{canDoWithout, endsNeeds, isEndl
 ghost use Rattle.definition_rules.specs.Faults.{voidMany, anyBefore, parentKind, beside as isBeside, misplacedField, misplacedAlternative, misplacedUntagged, numberTag, voidTop, pluginUndotted, rule7Broken, rootNoStruct};
 ghost use Rattle.table_records.specs.Stored.{recordIn, recordsAt};
 ghost use Rattle.table_checks.specs.Besides.{isSuch};
-ghost use Rattle.table_checks.specs.Sweeps.{stepBy, isNew, addIf, stepWith, gathered, Over, Swept, Empty, Found, AllFinite};
+ghost use Rattle.table_checks.specs.Sweeps.{stepBy, isNewlyFinite, addIf, stepWith, gathered, Over, Swept, Empty, HasFinites, AllFinite};
 
 // What is asked of the other records of a body, or of the other tops.
 enum Such {
@@ -266,8 +266,8 @@ fn has_value(table: &[u8], unpacked: &[u32], have: &[bool], rest: &[bool], i: us
 
 // Adds i where a step gives it a value, and says whether it was added.
 fn add_if(table: &[u8], unpacked: &[u32], have: &mut [bool], rest: &[bool], i: usize) -> bool
-    ensures { λ r. ⌜ r ≡ isNew (now (have .entry)) (getD (now (rest .entry)) i false) i (recordIn (now (table .entry)) (now (unpacked .entry)) i) ⌝ }
-    ensures { λ _. ⌜ now (have .exit) ≡ addIf (isNew (now (have .entry)) (getD (now (rest .entry)) i false) i (recordIn (now (table .entry)) (now (unpacked .entry)) i)) (now (have .entry)) i ⌝ }
+    ensures { λ r. ⌜ r ≡ isNewlyFinite (now (have .entry)) (getD (now (rest .entry)) i false) i (recordIn (now (table .entry)) (now (unpacked .entry)) i) ⌝ }
+    ensures { λ _. ⌜ now (have .exit) ≡ addIf (isNewlyFinite (now (have .entry)) (getD (now (rest .entry)) i false) i (recordIn (now (table .entry)) (now (unpacked .entry)) i)) (now (have .entry)) i ⌝ }
 {
     if has(have, i) {
         return false;
@@ -336,7 +336,7 @@ fn clear(have: &mut [bool])
 
 // Which records have a finite value, if there is room for all: sweeps in place until nothing changes, or as many as records.
 pub fn finites(table: &[u8], unpacked: &[u32], n: usize, have: &mut [bool], rest: &mut [bool])
-    ensures { λ _. ⌜ (Nested (recordsAt (now (table .entry)) (now (unpacked .entry)) n) → n ≤ length (now (have .entry)) → n ≤ length (now (rest .entry)) → Found (recordsAt (now (table .entry)) (now (unpacked .entry)) n) (now (have .exit))) ⌝ }
+    ensures { λ _. ⌜ (Nested (recordsAt (now (table .entry)) (now (unpacked .entry)) n) → n ≤ length (now (have .entry)) → n ≤ length (now (rest .entry)) → HasFinites (recordsAt (now (table .entry)) (now (unpacked .entry)) n) (now (have .exit))) ⌝ }
 {
     if have.len() < n {
         return;

@@ -3,10 +3,10 @@ ghost use mathlib.Core.Path.{_≡_};
 ghost use mathlib.Core.Bool.{not, _&&_};
 ghost use Prim.Native.Nat.{_+_, _-_, _<_};
 ghost use Rattle.definition_rules.specs.Records.{kindLeast, kindMost};
-ghost use Rattle.definition_rules.specs.Faults.{isUnionAt, sameKey, isNew};
+ghost use Rattle.definition_rules.specs.Faults.{isUnionAt, sameKey, isNewKey};
 ghost use Rattle.table_rules.specs.RecordRules.{kindsOfRecords, isSingleValue, countsFine, rangeFine, isTopAt, targetFine, showsName, labelFine, topFine, recordFine, everyRecord, shownNames, allNew};
 ghost use Rattle.table_records.specs.Stored.{recordIn, recordsFrom, recordsAt};
-ghost use Rattle.table_fields.specs.Keys.{keyOf};
+ghost use Rattle.table_fields.specs.Keys.{labelKey};
 
 // ---- one record
 
@@ -165,7 +165,7 @@ pub fn every_fine(table: &[u8], unpacked: &[u32], n: usize) -> bool
 
 // j shows the name that i shows, in the same body or both as tops.
 fn same_name(table: &[u8], unpacked: &[u32], i: usize, j: usize) -> bool
-    ensures { λ r. ⌜ r ≡ (showsName (recordIn (now (table .entry)) (now (unpacked .entry)) j) && sameKey (keyOf (recordIn (now (table .entry)) (now (unpacked .entry)) i)) (keyOf (recordIn (now (table .entry)) (now (unpacked .entry)) j))) ⌝ }
+    ensures { λ r. ⌜ r ≡ (showsName (recordIn (now (table .entry)) (now (unpacked .entry)) j) && sameKey (labelKey (recordIn (now (table .entry)) (now (unpacked .entry)) i)) (labelKey (recordIn (now (table .entry)) (now (unpacked .entry)) j))) ⌝ }
 {
     if !shows_name(table, unpacked, j) {
         return false;
@@ -181,7 +181,7 @@ fn same_name(table: &[u8], unpacked: &[u32], i: usize, j: usize) -> bool
 
 // No record from a place on shows the name of i.
 fn is_new(table: &[u8], unpacked: &[u32], n: usize, i: usize, from: usize) -> bool
-    ensures { λ r. ⌜ r ≡ isNew (keyOf (recordIn (now (table .entry)) (now (unpacked .entry)) i)) (shownNames (recordsFrom (now (table .entry)) (now (unpacked .entry)) (n - from) from)) ⌝ }
+    ensures { λ r. ⌜ r ≡ isNewKey (labelKey (recordIn (now (table .entry)) (now (unpacked .entry)) i)) (shownNames (recordsFrom (now (table .entry)) (now (unpacked .entry)) (n - from) from)) ⌝ }
 {
     let mut j = from;
     while j < n {
@@ -196,7 +196,7 @@ fn is_new(table: &[u8], unpacked: &[u32], n: usize, i: usize, from: usize) -> bo
 // The name that i shows is shown again after it.
 fn shown_again(table: &[u8], unpacked: &[u32], n: usize, i: usize) -> bool
     requires { ⌜ i < n ⌝ }
-    ensures { λ r. ⌜ r ≡ (showsName (recordIn (now (table .entry)) (now (unpacked .entry)) i) && not (isNew (keyOf (recordIn (now (table .entry)) (now (unpacked .entry)) i)) (shownNames (recordsFrom (now (table .entry)) (now (unpacked .entry)) (n - (i + 1)) (i + 1))))) ⌝ }
+    ensures { λ r. ⌜ r ≡ (showsName (recordIn (now (table .entry)) (now (unpacked .entry)) i) && not (isNewKey (labelKey (recordIn (now (table .entry)) (now (unpacked .entry)) i)) (shownNames (recordsFrom (now (table .entry)) (now (unpacked .entry)) (n - (i + 1)) (i + 1))))) ⌝ }
 {
     if !shows_name(table, unpacked, i) {
         return false;

@@ -8,7 +8,7 @@ use lib.ListN.{length}
 use borrow.Author.Tests.{lt-ltb}
 use Rattle.classes.specs.Lists.{pick}
 use Rattle.definition_rules.specs.Words.{isCompound}
-use Rattle.definition_rules.specs.Scan.{openAfter, Token, mark}
+use Rattle.definition_rules.specs.Scan.{bracesAfter, TextToken, mark}
 use Rattle.definition_rules.specs.Forms.{typeRun, putRange, putCard, putTag, putPlugin, putHead, MaybeRun, absent, given, Tag, ownName, tagless, explicit, Heading, heading}
 use Rattle.reading_rules.specs.Record.{Up, top}
 use Rattle.definition_rules.specs.Declarations.{Declaration, declaration, BodyMode, inFields, groupOpened, inGroup, groupsClosed, Frame, frame}
@@ -21,23 +21,23 @@ unfoldable pub LowEnough : List Frame → ℕ → List Declaration → Type 0
 LowEnough σ k [] = Unit {0}
 LowEnough σ k (declaration u e h ∷ ds) = (isCompound (typeRun h) ≡ true → length (closedTo u σ) < 8) × LowEnough (pushed (typeRun h) k (inExtension e (closedTo u σ))) (suc k) ds
 
-pub nest-range : (d : ℕ) (g : MaybeRun) (r : List Token) → nest d (putRange g r) ≡ nest d r
-unfolding nest putRange roomy openAfter pick
+pub nest-range : (d : ℕ) (g : MaybeRun) (r : List TextToken) → nest d (putRange g r) ≡ nest d r
+unfolding nest putRange roomy bracesAfter pick
 nest-range d absent r = refl
 nest-range d (given v) r = refl
 
-pub nest-card : (d : ℕ) (g : MaybeRun) (r : List Token) → nest d (putCard g r) ≡ nest d r
-unfolding nest putCard roomy openAfter pick
+pub nest-card : (d : ℕ) (g : MaybeRun) (r : List TextToken) → nest d (putCard g r) ≡ nest d r
+unfolding nest putCard roomy bracesAfter pick
 nest-card d absent r = refl
 nest-card d (given v) r = refl
 
-pub nest-tag : (d : ℕ) (t : Tag) (r : List Token) → nest d (putTag t r) ≡ nest d r
-unfolding nest putTag roomy openAfter pick
+pub nest-tag : (d : ℕ) (t : Tag) (r : List TextToken) → nest d (putTag t r) ≡ nest d r
+unfolding nest putTag roomy bracesAfter pick
 nest-tag d ownName r = refl
 nest-tag d tagless r = refl
 nest-tag d (explicit v) r = refl
 
-pub nest-plugin : (d : ℕ) (p : Bool) (r : List Token) → nest d (putPlugin p r) ≡ nest d r
+pub nest-plugin : (d : ℕ) (p : Bool) (r : List TextToken) → nest d (putPlugin p r) ≡ nest d r
 unfolding nest putPlugin
 nest-plugin d true r = refl
 nest-plugin d false r = refl
@@ -48,26 +48,26 @@ open-len e [] = refl
 open-len true (frame q m ∷ σ) = refl
 open-len false (f ∷ σ) = refl
 
-nest-end : (w : List ℕ) (k : ℕ) (σ : List Frame) (r : List Token) → (isCompound w ≡ true → length σ < 8) → nest (length σ) (mark (putEndOf (isCompound w)) ∷ r) ≡ nest (length (pushed w k σ)) r
+nest-end : (w : List ℕ) (k : ℕ) (σ : List Frame) (r : List TextToken) → (isCompound w ≡ true → length σ < 8) → nest (length σ) (mark (putEndOf (isCompound w)) ∷ r) ≡ nest (length (pushed w k σ)) r
 unfolding pushed nest
 nest-end w k σ r h = by (isCompound w) refl
   where
-    by : (b : Bool) → isCompound w ≡ b → roomy (length σ) (putEndOf b) && nest (openAfter (length σ) (putEndOf b)) r ≡ nest (length (pushIf b k σ)) r
-    by true e = unfold roomy openAfter putEndOf pick pushIf in (rw (lt-ltb (length σ) 8 (h e)))
-    by false e = unfold roomy openAfter putEndOf pick pushIf in refl
+    by : (b : Bool) → isCompound w ≡ b → roomy (length σ) (putEndOf b) && nest (bracesAfter (length σ) (putEndOf b)) r ≡ nest (length (pushIf b k σ)) r
+    by true e = unfold roomy bracesAfter putEndOf pick pushIf in (rw (lt-ltb (length σ) 8 (h e)))
+    by false e = unfold roomy bracesAfter putEndOf pick pushIf in refl
 
-nest-heading : (h : Heading) (k : ℕ) (σ : List Frame) (r : List Token) → (isCompound (typeRun h) ≡ true → length σ < 8) → nest (length σ) (putHeading h r) ≡ nest (length (pushed (typeRun h) k σ)) r
+nest-heading : (h : Heading) (k : ℕ) (σ : List Frame) (r : List TextToken) → (isCompound (typeRun h) ≡ true → length σ < 8) → nest (length σ) (putHeading h r) ≡ nest (length (pushed (typeRun h) k σ)) r
 unfolding putHeading putHead typeRun nest
 nest-heading (heading w g n c t p) k σ r h = nest-range (length σ) g _ ∙ (nest-card (length σ) c _ ∙ (nest-tag (length σ) t _ ∙ (nest-plugin (length σ) p _ ∙ nest-end w k σ r h)))
 
-nest-closing : (m : BodyMode) (d : ℕ) (r : List Token) → (m ≡ groupOpened → ⊥) → nest (suc d) (putClose m r) ≡ nest d r
-unfolding nest putClose roomy openAfter pick
+nest-closing : (m : BodyMode) (d : ℕ) (r : List TextToken) → (m ≡ groupOpened → ⊥) → nest (suc d) (putClose m r) ≡ nest d r
+unfolding nest putClose roomy bracesAfter pick
 nest-closing inFields d r h = ap (λ x. nest x r) (omega arith)
 nest-closing groupOpened d r h = absurd (h refl)
 nest-closing inGroup d r h = ap (λ x. nest x r) (omega arith)
 nest-closing groupsClosed d r h = ap (λ x. nest x r) (omega arith)
 
-nest-closings : (u : Up) (σ : List Frame) (r : List Token) → Settled σ → nest (length σ) (putCloses u σ r) ≡ nest (length (closedTo u σ)) r
+nest-closings : (u : Up) (σ : List Frame) (r : List TextToken) → Settled σ → nest (length σ) (putCloses u σ r) ≡ nest (length (closedTo u σ)) r
 unfolding putCloses closedTo
 nest-closings u [] r h = refl
 nest-closings u (frame q m ∷ σ) r h = by (isOpen u q) (nest-closing m (length σ) (putCloses u σ r) (ng m h) ∙ nest-closings u σ r (settled-tail q m σ h))
@@ -79,8 +79,8 @@ nest-closings u (frame q m ∷ σ) r h = by (isOpen u q) (nest-closing m (length
     by true e = unfold pick in refl
     by false e = unfold pick in e
 
-nest-opening : (e : Bool) (σ : List Frame) (d : ℕ) (r : List Token) → nest d (putOpen e σ r) ≡ nest d r
-unfolding putOpen nest roomy openAfter pick
+nest-opening : (e : Bool) (σ : List Frame) (d : ℕ) (r : List TextToken) → nest d (putOpen e σ r) ≡ nest d r
+unfolding putOpen nest roomy bracesAfter pick
 nest-opening e [] d r = refl
 nest-opening true (frame q inFields ∷ σ) d r = refl
 nest-opening true (frame q groupOpened ∷ σ) d r = refl

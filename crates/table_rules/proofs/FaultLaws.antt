@@ -11,8 +11,8 @@ use Rattle.numbers.specs.Range.{number}
 use Rattle.definition_rules.specs.Scan.{placeIf, Item}
 use Rattle.reading_rules.specs.Record.{Up, top, under, Record, sameUp}
 use Rattle.definition_rules.specs.Declarations.{declarationsOf, Declaration, Noted, noted, Spots}
-use Rattle.definition_rules.specs.Faults.{spotsWhere, recordSpots, sameKey, isNew, nameKey, repeatedNames, Key, key}
-use Rattle.definition_rules.specs.Compile.{placesAt}
+use Rattle.definition_rules.specs.Faults.{spotsWhere, recordSpots, sameKey, isNewKey, nameKey, repeatedNames, Key, key}
+use Rattle.definition_rules.specs.Compile.{tokenPlaces}
 use Rattle.table_rules.specs.RecordRules.{noneBroken, allNew}
 use Rattle.definition_rules.proofs.TableLaws.{All}
 use Rattle.definition_rules.proofs.FormSound.{same-true}
@@ -53,20 +53,20 @@ eq-not j k h = by (sameKey j k) refl
     by true x = absurd (h (key-true j k x))
     by false x = refl
 
-pub new-off : (k : Key) (z : List Key) → isNew k z ≡ true → Off k z
-unfolding isNew Off
+pub new-off : (k : Key) (z : List Key) → isNewKey k z ≡ true → Off k z
+unfolding isNewKey Off
 new-off k [] e = tt
-new-off k (j ∷ z) e = let x = and-both (not (sameKey k j)) (isNew k z) e in (not-eq k j (x .0), new-off k z (x .1))
+new-off k (j ∷ z) e = let x = and-both (not (sameKey k j)) (isNewKey k z) e in (not-eq k j (x .0), new-off k z (x .1))
 
-pub off-new : (k : Key) (z : List Key) → Off k z → isNew k z ≡ true
-unfolding isNew Off
+pub off-new : (k : Key) (z : List Key) → Off k z → isNewKey k z ≡ true
+unfolding isNewKey Off
 off-new k [] h = refl
 off-new k (j ∷ z) h = rw (eq-not k j (h .0)) (off-new k z (h .1))
 
 pub new-uniq : (ks : List Key) → allNew ks ≡ true → Uniq ks
 unfolding allNew Uniq
 new-uniq [] e = tt
-new-uniq (k ∷ ks) e = let x = and-both (isNew k ks) (allNew ks) e in (new-off k ks (x .0), new-uniq ks (x .1))
+new-uniq (k ∷ ks) e = let x = and-both (isNewKey k ks) (allNew ks) e in (new-off k ks (x .0), new-uniq ks (x .1))
 
 pub uniq-new : (ks : List Key) → Uniq ks → allNew ks ≡ true
 unfolding allNew Uniq
@@ -107,10 +107,10 @@ pub twice-uniq : (ns : List Noted) (z : List Key) → repeatedNames z ns ≡ [] 
 unfolding repeatedNames declarationsOf declaredNames Offs Uniq
 twice-uniq [] z e = (tt, tt)
 twice-uniq (noted s d ∷ r) z e =
-    let x = place-none (not (isNew (nameKey d) z)) (s .nameAt) (repeatedNames (nameKey d ∷ z) r) e in
+    let x = place-none (not (isNewKey (nameKey d) z)) (s .nameAt) (repeatedNames (nameKey d ∷ z) r) e in
     let y = twice-uniq r (nameKey d ∷ z) (x .1) in
     let w = unpacked-head (declaredNames (declarationsOf r)) z (nameKey d) (y .0) in
-    ((new-off (nameKey d) z (not-false (isNew (nameKey d) z) (x .0)), w .1), (w .0, y .1))
+    ((new-off (nameKey d) z (not-false (isNewKey (nameKey d) z) (x .0)), w .1), (w .0, y .1))
 
 pub uniq-twice : (ns : List Noted) (z : List Key) → Offs (declaredNames (declarationsOf ns)) z → Uniq (declaredNames (declarationsOf ns)) → repeatedNames z ns ≡ []
 unfolding repeatedNames declarationsOf declaredNames Offs Uniq placeIf
@@ -148,11 +148,11 @@ pub append-nil : (a b : List ℕ) → a ++ b ≡ [] → (a ≡ []) × (b ≡ [])
 append-nil [] b e = (refl, e)
 append-nil (x ∷ a) b e = let z : _≡_ {A = ℕ} 0 1 = cc in absurd (omega arith)
 
-pub places-nil : (text : List ℕ) (items : List Item) (l : List ℕ) → placesAt text items l ≡ [] → l ≡ []
-unfolding placesAt
+pub places-nil : (text : List ℕ) (items : List Item) (l : List ℕ) → tokenPlaces text items l ≡ [] → l ≡ []
+unfolding tokenPlaces
 places-nil text items [] e = refl
 places-nil text items (i ∷ r) e = let z : _≡_ {A = ℕ} 0 1 = cc in absurd (omega arith)
 
-pub nil-places : (text : List ℕ) (items : List Item) (l : List ℕ) → l ≡ [] → placesAt text items l ≡ []
-unfolding placesAt
+pub nil-places : (text : List ℕ) (items : List Item) (l : List ℕ) → l ≡ [] → tokenPlaces text items l ≡ []
+unfolding tokenPlaces
 nil-places text items l e = rw e

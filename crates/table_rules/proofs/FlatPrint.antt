@@ -8,10 +8,10 @@ use lib.ListN.{length}
 use borrow.Author.Tests.{ne-eqb}
 use Rattle.classes.specs.Lists.{pick}
 use Rattle.definition_rules.specs.Words.{isCompound}
-use Rattle.definition_rules.specs.Scan.{Token, mark}
+use Rattle.definition_rules.specs.Scan.{TextToken, mark}
 use Rattle.definition_rules.specs.Forms.{typeRun, putHead, HeadAllowed, Heading, groups, field, group, Level, topLevel, fieldLevel}
 use Rattle.reading_rules.specs.Record.{Up, top}
-use Rattle.definition_rules.specs.Declarations.{allow, takesField, takesClose, takesGroupEnd, isExtension, afterField, fieldDone, parentOf, extensionOf, startMark, step, mapOutcome, endIf, atEnd, parse, declarationsOf, Declaration, declaration, BodyMode, inFields, groupOpened, inGroup, groupsClosed, Frame, frame, atStart, complete}
+use Rattle.definition_rules.specs.Declarations.{allow, takesField, takesClose, takesGroupEnd, isExtension, afterField, fieldDone, parentOf, isUnderExtension, startMark, step, mapOutcome, endIf, atEnd, parseForms, declarationsOf, Declaration, declaration, BodyMode, inFields, groupOpened, inGroup, groupsClosed, Frame, frame, atStart, complete}
 use Rattle.definition_rules.specs.Table.{just}
 use Rattle.table_rules.specs.RecordRules.{isOpen, closedTo, inExtension, pushIf}
 use Rattle.definition_rules.proofs.FormComplete.{parse-move, StandsAt, read-head, told, told-note, end-plain, end-brace, close}
@@ -22,24 +22,24 @@ unfoldable pub putEndOf : Bool → ℕ
 putEndOf true = 123
 putEndOf false = 59
 
-unfoldable pub putHeading : Heading → List Token → List Token
+unfoldable pub putHeading : Heading → List TextToken → List TextToken
 putHeading h r = putHead h (mark (putEndOf (isCompound (typeRun h))) ∷ r)
 
 unfoldable pub pushed : List ℕ → ℕ → List Frame → List Frame
 pushed w k σ = pushIf (isCompound w) k σ
 
-unfoldable pub putClose : BodyMode → List Token → List Token
+unfoldable pub putClose : BodyMode → List TextToken → List TextToken
 putClose inFields r = mark 125 ∷ mark 59 ∷ r
 putClose groupOpened r = r
 putClose inGroup r = mark 93 ∷ mark 125 ∷ mark 59 ∷ r
 putClose groupsClosed r = mark 125 ∷ mark 59 ∷ r
 
-unfoldable pub putCloses : Up → List Frame → List Token → List Token
+unfoldable pub putCloses : Up → List Frame → List TextToken → List TextToken
 putCloses u [] r = r
 putCloses u (frame q m ∷ σ) r = pick (isOpen u q) r (putClose m (putCloses u σ r))
 
 -- the first field of an extension opens its group
-unfoldable pub putOpen : Bool → List Frame → List Token → List Token
+unfoldable pub putOpen : Bool → List Frame → List TextToken → List TextToken
 putOpen e [] r = r
 putOpen true (frame q inFields ∷ σ) r = mark 91 ∷ r
 putOpen true (frame q groupOpened ∷ σ) r = r
@@ -47,7 +47,7 @@ putOpen true (frame q inGroup ∷ σ) r = r
 putOpen true (frame q groupsClosed ∷ σ) r = r
 putOpen false (f ∷ σ) r = r
 
-unfoldable pub printFlat : List Frame → ℕ → List Declaration → List Token
+unfoldable pub printFlat : List Frame → ℕ → List Declaration → List TextToken
 printFlat σ k [] = putCloses top σ []
 printFlat σ k (declaration u e h ∷ ds) = putCloses u σ (putOpen e (closedTo u σ) (putHeading h (printFlat (pushed (typeRun h) k (inExtension e (closedTo u σ))) (suc k) ds)))
 
@@ -73,19 +73,19 @@ InOrder σ k (declaration u e h ∷ ds) = (parentOf (closedTo u σ) ≡ u) × Fi
 
 -- ---- it is read back
 
-abbrev Heads : List Frame → ℕ → Bool → Heading → List Token → List Frame → List Token → Type 0
-Heads σ k e h us τ r = (i : ℕ) → (j : ℕ) × (told (parse σ k i atStart us) ≡ mapOutcome (λ l. declaration (parentOf σ) e h ∷ l) (told (parse (pushed (typeRun h) k τ) (suc k) j atStart r)))
+abbrev Heads : List Frame → ℕ → Bool → Heading → List TextToken → List Frame → List TextToken → Type 0
+Heads σ k e h us τ r = (i : ℕ) → (j : ℕ) × (told (parseForms σ k i atStart us) ≡ mapOutcome (λ l. declaration (parentOf σ) e h ∷ l) (told (parseForms (pushed (typeRun h) k τ) (suc k) j atStart r)))
 
-head-end : (l : Level) (σ : List Frame) (k : ℕ) (h : Heading) (r : List Token) → StandsAt l σ → HeadAllowed l h → Heads σ k (extensionOf σ) h (putHeading h r) (fieldDone σ) r
+head-end : (l : Level) (σ : List Frame) (k : ℕ) (h : Heading) (r : List TextToken) → StandsAt l σ → HeadAllowed l h → Heads σ k (isUnderExtension σ) h (putHeading h r) (fieldDone σ) r
 unfolding putHeading pushed
 head-end l σ k h r a o i = by (isCompound (typeRun h)) refl
   where
     d : Declaration
-    d = declaration (parentOf σ) (extensionOf σ) h
+    d = declaration (parentOf σ) (isUnderExtension σ) h
 
-    by : (b : Bool) → isCompound (typeRun h) ≡ b → (j : ℕ) × (told (parse σ k i atStart (putHead h (mark (putEndOf b) ∷ r))) ≡ mapOutcome (λ l. declaration (parentOf σ) (extensionOf σ) h ∷ l) (told (parse (pushIf b k (fieldDone σ)) (suc k) j atStart r)))
-    by true e = unfold putEndOf pushIf in (let x = read-head l σ k i h (mark 123 ∷ r) a o in (suc (x .0), ap told (x .3 ∙ end-brace σ k (x .0) (x .1) (x .2) h r e) ∙ told-note (x .2) (declaration (parentOf σ) (extensionOf σ) h) (parse (frame k inFields ∷ fieldDone σ) (suc k) (suc (x .0)) atStart r)))
-    by false e = unfold putEndOf pushIf in (let x = read-head l σ k i h (mark 59 ∷ r) a o in (suc (x .0), ap told (x .3 ∙ end-plain σ k (x .0) (x .1) (x .2) h r e) ∙ told-note (x .2) (declaration (parentOf σ) (extensionOf σ) h) (parse (fieldDone σ) (suc k) (suc (x .0)) atStart r)))
+    by : (b : Bool) → isCompound (typeRun h) ≡ b → (j : ℕ) × (told (parseForms σ k i atStart (putHead h (mark (putEndOf b) ∷ r))) ≡ mapOutcome (λ l. declaration (parentOf σ) (isUnderExtension σ) h ∷ l) (told (parseForms (pushIf b k (fieldDone σ)) (suc k) j atStart r)))
+    by true e = unfold putEndOf pushIf in (let x = read-head l σ k i h (mark 123 ∷ r) a o in (suc (x .0), ap told (x .3 ∙ end-brace σ k (x .0) (x .1) (x .2) h r e) ∙ told-note (x .2) (declaration (parentOf σ) (isUnderExtension σ) h) (parseForms (frame k inFields ∷ fieldDone σ) (suc k) (suc (x .0)) atStart r)))
+    by false e = unfold putEndOf pushIf in (let x = read-head l σ k i h (mark 59 ∷ r) a o in (suc (x .0), ap told (x .3 ∙ end-plain σ k (x .0) (x .1) (x .2) h r e) ∙ told-note (x .2) (declaration (parentOf σ) (isUnderExtension σ) h) (parseForms (fieldDone σ) (suc k) (suc (x .0)) atStart r)))
 
 pub settled-tail : (q : ℕ) (m : BodyMode) (σ : List Frame) → Settled (frame q m ∷ σ) → Settled σ
 unfolding Settled
@@ -94,14 +94,14 @@ settled-tail q groupOpened σ h = absurd h
 settled-tail q inGroup σ h = h
 settled-tail q groupsClosed σ h = absurd h
 
-read-close : (q : ℕ) (m : BodyMode) (σ : List Frame) (k i : ℕ) (r : List Token) → Settled (frame q m ∷ σ) → (j : ℕ) × (parse (frame q m ∷ σ) k i atStart (putClose m r) ≡ parse σ k j atStart r)
+read-close : (q : ℕ) (m : BodyMode) (σ : List Frame) (k i : ℕ) (r : List TextToken) → Settled (frame q m ∷ σ) → (j : ℕ) × (parseForms (frame q m ∷ σ) k i atStart (putClose m r) ≡ parseForms σ k j atStart r)
 unfolding Settled putClose
 read-close q inFields σ k i r h = (suc (suc i), close q inFields σ k i r (unfold takesClose in refl))
 read-close q groupOpened σ k i r h = absurd h
 read-close q inGroup σ k i r h = (suc (suc (suc i)), parse-move (frame q inGroup ∷ σ) (frame q groupsClosed ∷ σ) k i atStart atStart (mark 93) (mark 125 ∷ mark 59 ∷ r) (unfold step startMark pick allow takesGroupEnd in refl) ∙ close q groupsClosed σ k (suc i) r (unfold takesClose in refl))
 read-close q groupsClosed σ k i r h = absurd h
 
-read-closes : (u : Up) (σ : List Frame) (k i : ℕ) (r : List Token) → Settled σ → (j : ℕ) × (parse σ k i atStart (putCloses u σ r) ≡ parse (closedTo u σ) k j atStart r)
+read-closes : (u : Up) (σ : List Frame) (k i : ℕ) (r : List TextToken) → Settled σ → (j : ℕ) × (parseForms σ k i atStart (putCloses u σ r) ≡ parseForms (closedTo u σ) k j atStart r)
 unfolding putCloses closedTo
 read-closes u [] k i r h = (i, refl)
 read-closes u (frame q m ∷ σ) k i r h =
@@ -109,7 +109,7 @@ read-closes u (frame q m ∷ σ) k i r h =
     let y = read-closes u σ k (x .0) r (settled-tail q m σ h) in
     by (isOpen u q) (y .0, x .1 ∙ y .1)
   where
-    by : (b : Bool) → (j : ℕ) × (parse (frame q m ∷ σ) k i atStart (putClose m (putCloses u σ r)) ≡ parse (closedTo u σ) k j atStart r) → (j : ℕ) × (parse (frame q m ∷ σ) k i atStart (pick b r (putClose m (putCloses u σ r))) ≡ parse (pick b (frame q m ∷ σ) (closedTo u σ)) k j atStart r)
+    by : (b : Bool) → (j : ℕ) × (parseForms (frame q m ∷ σ) k i atStart (putClose m (putCloses u σ r)) ≡ parseForms (closedTo u σ) k j atStart r) → (j : ℕ) × (parseForms (frame q m ∷ σ) k i atStart (pick b r (putClose m (putCloses u σ r))) ≡ parseForms (pick b (frame q m ∷ σ) (closedTo u σ)) k j atStart r)
     by true e = unfold pick in (i, refl)
     by false e = unfold pick in e
 
@@ -127,15 +127,15 @@ unfolding closedTo isOpen pick
 closed-top [] = refl
 closed-top (frame q m ∷ σ) = closed-top σ
 
-read-one : (σ : List Frame) (k : ℕ) (e : Bool) (h : Heading) (r : List Token) → FitsOn σ e h → Heads σ k e h (putOpen e σ (putHeading h r)) (inExtension e σ) r
+read-one : (σ : List Frame) (k : ℕ) (e : Bool) (h : Heading) (r : List TextToken) → FitsOn σ e h → Heads σ k e h (putOpen e σ (putHeading h r)) (inExtension e σ) r
 unfolding FitsOn putOpen inExtension
-read-one [] k e h r f i = rw (f .0) (unfold fieldDone extensionOf in (head-end topLevel [] k h r (unfold StandsAt in tt) (f .1) i))
+read-one [] k e h r f i = rw (f .0) (unfold fieldDone isUnderExtension in (head-end topLevel [] k h r (unfold StandsAt in tt) (f .1) i))
 read-one (frame q inFields ∷ σ) k true h r f i =
     let x = head-end fieldLevel (frame q groupOpened ∷ σ) k h r (unfold StandsAt takesField in refl) f (suc i) in
-    (x .0, ap told (parse-move (frame q inFields ∷ σ) (frame q groupOpened ∷ σ) k i atStart atStart (mark 91) (putHeading h r) (unfold step startMark pick allow takesClose in refl)) ∙ (unfold fieldDone afterField extensionOf isExtension parentOf in (x .1)))
-read-one (frame q inFields ∷ σ) k false h r f i = unfold fieldDone afterField extensionOf isExtension in (head-end fieldLevel (frame q inFields ∷ σ) k h r (unfold StandsAt takesField in refl) f i)
+    (x .0, ap told (parse-move (frame q inFields ∷ σ) (frame q groupOpened ∷ σ) k i atStart atStart (mark 91) (putHeading h r) (unfold step startMark pick allow takesClose in refl)) ∙ (unfold fieldDone afterField isUnderExtension isExtension parentOf in (x .1)))
+read-one (frame q inFields ∷ σ) k false h r f i = unfold fieldDone afterField isUnderExtension isExtension in (head-end fieldLevel (frame q inFields ∷ σ) k h r (unfold StandsAt takesField in refl) f i)
 read-one (frame q groupOpened ∷ σ) k e h r f i = absurd f
-read-one (frame q inGroup ∷ σ) k e h r f i = rw (f .0) (unfold fieldDone afterField extensionOf isExtension in (head-end fieldLevel (frame q inGroup ∷ σ) k h r (unfold StandsAt takesField in refl) (f .1) i))
+read-one (frame q inGroup ∷ σ) k e h r f i = rw (f .0) (unfold fieldDone afterField isUnderExtension isExtension in (head-end fieldLevel (frame q inGroup ∷ σ) k h r (unfold StandsAt takesField in refl) (f .1) i))
 read-one (frame q groupsClosed ∷ σ) k e h r f i = absurd f
 
 pub settled-next : (σ : List Frame) (k : ℕ) (e : Bool) (h : Heading) → Settled σ → Settled (pushed (typeRun h) k (inExtension e σ))
@@ -151,11 +151,11 @@ settled-next σ k e h c = by (isCompound (typeRun h)) (op e σ c)
     by true c = unfold pushIf in c
     by false c = unfold pushIf in c
 
-read-end : (k i : ℕ) → 1 ≤ k → told (parse [] k i atStart []) ≡ complete []
-unfolding told parse atEnd endIf mapOutcome declarationsOf
+read-end : (k i : ℕ) → 1 ≤ k → told (parseForms [] k i atStart []) ≡ complete []
+unfolding told parseForms atEnd endIf mapOutcome declarationsOf
 read-end k i h = rw (ne-eqb k 0 (λ q. omega arith))
 
-pub read-flat : (ds : List Declaration) (σ : List Frame) (k i : ℕ) → Settled σ → InOrder σ k ds → 1 ≤ k + length ds → told (parse σ k i atStart (printFlat σ k ds)) ≡ complete ds
+pub read-flat : (ds : List Declaration) (σ : List Frame) (k i : ℕ) → Settled σ → InOrder σ k ds → 1 ≤ k + length ds → told (parseForms σ k i atStart (printFlat σ k ds)) ≡ complete ds
 unfolding InOrder printFlat mapOutcome
 read-flat [] σ k i c p l = let x = read-closes top σ k i [] c in ap told (x .1) ∙ (rw (closed-top σ) (read-end k (x .0) (omega arith)))
 read-flat (declaration u e h ∷ ds) σ k i c p l =

@@ -11,7 +11,7 @@ use Rattle.numbers.specs.Limits.{bias}
 use Rattle.classes.specs.Lists.{every, pick, notEmpty}
 use Rattle.classes.specs.Bytes.{isLetter, isDigit, isRunByte, isBlank, isMark, isNameByte, isTagByte}
 use Rattle.definition_rules.specs.Words.{classOf, kwAs, kwPlugin, isCompound, isKeyword, startsWithLetter, nameForm, tagForm, inRun, single}
-use Rattle.definition_rules.specs.Scan.{Token, run, mark}
+use Rattle.definition_rules.specs.Scan.{TextToken, run, mark}
 use Rattle.definition_rules.specs.Forms.{typeRun, putRange, putCard, putTag, putPlugin, putHead, MaybeRun, absent, given, Tag, ownName, tagless, explicit, Heading, heading}
 use Rattle.reading_rules.specs.Record.{Up, top}
 use Rattle.definition_rules.specs.Declarations.{Declaration, declaration, BodyMode, inFields, groupOpened, inGroup, groupsClosed, Frame, frame}
@@ -126,14 +126,14 @@ TagRuns (explicit v) = RunBytes v
 unfoldable pub GoodDeclaration : Declaration → Type 0
 GoodDeclaration (declaration u e (heading w g n c t p)) = RunBytes w × OptRuns g × RunBytes n × OptRuns c × TagRuns t
 
-abbrev GoodRow : List Token → Type 0
+abbrev GoodRow : List TextToken → Type 0
 GoodRow r = All GoodToken r
 
-good-mark : (n : ℕ) (r : List Token) → classOf n ≡ single → GoodRow r → GoodRow (mark n ∷ r)
+good-mark : (n : ℕ) (r : List TextToken) → classOf n ≡ single → GoodRow r → GoodRow (mark n ∷ r)
 unfolding All GoodToken
 good-mark n r e g = (e, g)
 
-good-run : (w : List ℕ) (r : List Token) → RunBytes w → GoodRow r → GoodRow (run w ∷ r)
+good-run : (w : List ℕ) (r : List TextToken) → RunBytes w → GoodRow r → GoodRow (run w ∷ r)
 unfolding All GoodToken
 good-run w r e g = (e, g)
 
@@ -145,42 +145,42 @@ as-plugin-runs : RunBytes kwAs × RunBytes kwPlugin
 unfolding RunBytes All classOf isRunByte
 as-plugin-runs = ((refl, (refl, tt)), (refl, (refl, (refl, (refl, (refl, (refl, tt)))))))
 
-good-end : (w : List ℕ) (r : List Token) → GoodRow r → GoodRow (mark (putEndOf (isCompound w)) ∷ r)
+good-end : (w : List ℕ) (r : List TextToken) → GoodRow r → GoodRow (mark (putEndOf (isCompound w)) ∷ r)
 good-end w r g = by (isCompound w)
   where
     by : (b : Bool) → GoodRow (mark (putEndOf b) ∷ r)
     by true = unfold putEndOf in (good-mark 123 r (marks-single .4) g)
     by false = unfold putEndOf in (good-mark 59 r (marks-single .6) g)
 
-good-plugin : (p : Bool) (r : List Token) → GoodRow r → GoodRow (putPlugin p r)
+good-plugin : (p : Bool) (r : List TextToken) → GoodRow r → GoodRow (putPlugin p r)
 unfolding putPlugin
 good-plugin true r g = good-run kwPlugin r (as-plugin-runs .1) g
 good-plugin false r g = g
 
-good-tag : (t : Tag) (r : List Token) → TagRuns t → GoodRow r → GoodRow (putTag t r)
+good-tag : (t : Tag) (r : List TextToken) → TagRuns t → GoodRow r → GoodRow (putTag t r)
 unfolding putTag TagRuns
 good-tag ownName r h g = g
 good-tag tagless r h g = good-run kwAs _ (as-plugin-runs .0) (good-mark 63 r (marks-single .7) g)
 good-tag (explicit v) r h g = good-run kwAs _ (as-plugin-runs .0) (good-run v r h g)
 
-good-card : (c : MaybeRun) (r : List Token) → OptRuns c → GoodRow r → GoodRow (putCard c r)
+good-card : (c : MaybeRun) (r : List TextToken) → OptRuns c → GoodRow r → GoodRow (putCard c r)
 unfolding putCard OptRuns
 good-card absent r h g = g
 good-card (given v) r h g = good-mark 91 _ (marks-single .2) (good-run v _ h (good-mark 93 r (marks-single .3) g))
 
-good-range : (c : MaybeRun) (r : List Token) → OptRuns c → GoodRow r → GoodRow (putRange c r)
+good-range : (c : MaybeRun) (r : List TextToken) → OptRuns c → GoodRow r → GoodRow (putRange c r)
 unfolding putRange OptRuns
 good-range absent r h g = g
 good-range (given v) r h g = good-mark 60 _ (marks-single .0) (good-run v _ h (good-mark 62 r (marks-single .1) g))
 
-good-close : (m : BodyMode) (r : List Token) → GoodRow r → GoodRow (putClose m r)
+good-close : (m : BodyMode) (r : List TextToken) → GoodRow r → GoodRow (putClose m r)
 unfolding putClose
 good-close inFields r g = good-mark 125 _ (marks-single .5) (good-mark 59 r (marks-single .6) g)
 good-close groupOpened r g = g
 good-close inGroup r g = good-mark 93 _ (marks-single .3) (good-mark 125 _ (marks-single .5) (good-mark 59 r (marks-single .6) g))
 good-close groupsClosed r g = good-mark 125 _ (marks-single .5) (good-mark 59 r (marks-single .6) g)
 
-good-closes : (u : Up) (σ : List Frame) (r : List Token) → GoodRow r → GoodRow (putCloses u σ r)
+good-closes : (u : Up) (σ : List Frame) (r : List TextToken) → GoodRow r → GoodRow (putCloses u σ r)
 unfolding putCloses
 good-closes u [] r g = g
 good-closes u (frame q m ∷ σ) r g = by (isOpen u q) (good-close m (putCloses u σ r) (good-closes u σ r g))
@@ -189,7 +189,7 @@ good-closes u (frame q m ∷ σ) r g = by (isOpen u q) (good-close m (putCloses 
     by true x = unfold pick in g
     by false x = unfold pick in x
 
-good-open : (e : Bool) (σ : List Frame) (r : List Token) → GoodRow r → GoodRow (putOpen e σ r)
+good-open : (e : Bool) (σ : List Frame) (r : List TextToken) → GoodRow r → GoodRow (putOpen e σ r)
 unfolding putOpen
 good-open e [] r g = g
 good-open true (frame q inFields ∷ σ) r g = good-mark 91 r (marks-single .2) g
@@ -198,7 +198,7 @@ good-open true (frame q inGroup ∷ σ) r g = g
 good-open true (frame q groupsClosed ∷ σ) r g = g
 good-open false (f ∷ σ) r g = g
 
-good-heading : (u : Up) (e : Bool) (h : Heading) (r : List Token) → GoodDeclaration (declaration u e h) → GoodRow r → GoodRow (putHeading h r)
+good-heading : (u : Up) (e : Bool) (h : Heading) (r : List TextToken) → GoodDeclaration (declaration u e h) → GoodRow r → GoodRow (putHeading h r)
 unfolding GoodDeclaration putHeading putHead typeRun
 good-heading u e (heading w g n c t p) r x y = good-run w _ (x .0) (good-range g _ (x .1) (good-run n _ (x .2) (good-card c _ (x .3) (good-tag t _ (x .4) (good-plugin p _ (good-end w r y))))))
 

@@ -15,7 +15,7 @@ use Rattle.definition_rules.specs.Forms.{MaybeRun, absent, given, Tag, ownName,
 use Rattle.reading_rules.specs.Record.{Up, top, under, Record, isTop}
 use Rattle.definition_rules.specs.Declarations.{Declaration, declaration}
 use Rattle.definition_rules.specs.Records.{kindLeast, kindMost, findTop, orNone}
-use Rattle.definition_rules.specs.Faults.{nameBroken, referenceBroken, tagBrokenIn, tagBroken, withinKind, countFine, rangeBroken, countBroken, kindOf, kindsOf, dangling}
+use Rattle.definition_rules.specs.Faults.{nameBroken, referenceBroken, tagBrokenIn, tagBroken, withinKind, countFine, rangeBroken, countBroken, kindOfDeclaration, kindsOf, dangling}
 use Rattle.table_rules.specs.RecordRules.{kindsOfRecords, isSingleValue, showsName, labelFine}
 use Rattle.definition_rules.proofs.TableLaws.{All}
 use Rattle.table_rules.proofs.FreshNames.{fresh, fresh-ok}
@@ -43,7 +43,7 @@ reference-no-range k a b e = rw (eqb-true k 10 e)
 
 module _ (T : List MaybeRun) (A : ℕ → Bool) (q : ℕ) (o : DistinctTops T) (h : q ≤ 256) where
   pub kinds-made : (i : ℕ) (rs : List Record) → All (RecordOk T A) rs → kindsOf (declarationsFor T A q i rs) ≡ kindsOfRecords rs
-  unfolding kindsOf kindsOfRecords kindOf declarationsFor declarationFor All
+  unfolding kindsOf kindsOfRecords kindOfDeclaration declarationsFor declarationFor All
   kinds-made i [] s = refl
   kinds-made i (r ∷ rs) s = rw (type-kind T A r o (s .0 .0), kinds-made (suc i) rs (s .1))
 

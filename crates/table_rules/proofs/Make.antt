@@ -16,7 +16,7 @@ use Rattle.reading_rules.specs.Schema.{Kind, void, simple, struct, union, refer
 use Rattle.reading_rules.specs.Count.{times, In, Once}
 use Rattle.reading_rules.proofs.CountLaws.{clash-bool, and-both, in-nil, in-head, in-tail, in-cons}
 use Rattle.reading_rules.proofs.Rules.{tag-found}
-use Rattle.reading_rules.specs.Reading.{Sort, value, list, body, items, Tree, leaf, braced, chosenVoid, chosen, chosenInt, last, more, listed, stopped, itemized, noItem, voidItem, listItem, leavesThen, leaves, count, fieldsOf, InRange, Law}
+use Rattle.reading_rules.specs.Reading.{TreeSort, value, list, body, items, Tree, leaf, braced, chosenVoid, chosen, chosenInt, last, more, listed, stopped, itemized, noItem, voidItem, listItem, leavesThen, leaves, count, fieldsOf, InRange, Law}
 use Rattle.definition_rules.specs.Words.{tagForm, hasDot}
 use Rattle.definition_rules.specs.Faults.{voidTop, pluginUndotted}
 use Rattle.table_rules.specs.Endless.{areTokens}
@@ -28,7 +28,7 @@ use Rattle.table_rules.proofs.Needed.{required-le, required-is, is-requ
 use Rattle.table_rules.proofs.Words.{tag-token, int-value, simple-value}
 
 -- the leaves are tokens, before tokens
-abbrev pub Real : {s : Sort} → Tree s → Type 0
+abbrev pub Real : {s : TreeSort} → Tree s → Type 0
 Real t = (r : List Token) → areTokens r ≡ true → areTokens (leavesThen t r) ≡ true
 
 pub data Have (rs : List Record) (p : ℕ) : Type 0 where

@@ -10,7 +10,7 @@ use Rattle.reading_rules.specs.Record.{Up, top, under, Record, recordAt}
 use Rattle.reading_rules.specs.Schema.{Kind, void, simple, struct, union, reference, isVoid, Found, nowhere, found, first, Schema, kindOf, coreOf, schemaOf, isTaggedOf, isUntaggedOf, isUnder, numbersWhere}
 use Rattle.reading_rules.specs.Count.{times, In, Once}
 use Rattle.reading_rules.proofs.CountLaws.{clash-bool, and-both, in-nil, in-head, in-tail, in-cons}
-use Rattle.reading_rules.specs.Reading.{Sort, unknownValue, unknownList, value, list, body, items, Tree, unknownWord, unknownString, unknownBraces, unknownPair, unknownLast, unknownMore, leaf, braced, chosenVoid, chosen, chosenInt, last, more, listed, stopped, itemized, noItem, voidItem, listItem, unknownItem, unknownListItem, fieldsOf, For, Law}
+use Rattle.reading_rules.specs.Reading.{TreeSort, unknownValue, unknownList, value, list, body, items, Tree, unknownWord, unknownString, unknownBraces, unknownPair, unknownLast, unknownMore, leaf, braced, chosenVoid, chosen, chosenInt, last, more, listed, stopped, itemized, noItem, voidItem, listItem, unknownItem, unknownListItem, fieldsOf, For, Law}
 use Rattle.table_rules.proofs.Facts.{Formed, bare-at, kind-union}
 use Rattle.table_rules.proofs.Steps.{where-in, put, cut, requiredOf, required, needs, Step, ClosedSet}
 use Rattle.table_rules.proofs.Needed.{required-is, in-cut, first-in, find-is, kind-is, target-at}
@@ -69,7 +69,7 @@ module _ (rs : List Record) (F : Formed rs) (P : ℕ → Type 0) (c : ClosedSet 
       by-union p q h k (b .0) (and-both (isUnder p (recordAt rs q .parent)) _ (b .1) (λ x y. x)) (by-simple q (b .0) (ap kindOf n))
 
   -- what a tree of a sort shows
-  abbrev Goal : (s : Sort) → For s → Tree s → Type 0
+  abbrev Goal : (s : TreeSort) → For s → Tree s → Type 0
   Goal unknownValue x t = Unit {0}
   Goal unknownList x t = Unit {0}
   Goal value p t = p < length rs → P p
@@ -77,7 +77,7 @@ module _ (rs : List Record) (F : Formed rs) (P : ℕ → Type 0) (c : ClosedSet 
   Goal body x t = x .0 < length rs → ((q : ℕ) → In q (x .1) → q < length rs) → (q : ℕ) → In q (needs S (required S (x .0)) (x .1)) → P q
   Goal items p t = p < length rs → (q : ℕ) → In q (fieldsOf t) → P q
 
-  read : {s : Sort} (x : For s) (t : Tree s) → Law S x t → Goal s x t
+  read : {s : TreeSort} (x : For s) (t : Tree s) → Law S x t → Goal s x t
   unfolding Law needs cut fieldsOf
   read x (unknownWord w) l = tt
   read x (unknownString w) l = tt

@@ -11,7 +11,7 @@ use Rattle.classes.specs.Bytes.{IsBytes}
 use Rattle.table_rules.proofs.TextBytes.{all-bytes, printed-bytes}
 use Rattle.numbers.specs.Limits.{textLimit}
 use Rattle.classes.specs.Lists.{every, pick}
-use Rattle.definition_rules.specs.Scan.{itemsOf, tokensOf, placeIf, Token, Item}
+use Rattle.definition_rules.specs.Scan.{itemsOf, textTokensOf, placeIf, TextToken, Item}
 use Rattle.definition_rules.specs.Forms.{MaybeRun}
 use Rattle.reading_rules.specs.Record.{Up, top, under, Record}
 use Rattle.definition_rules.specs.Declarations.{allow, parseTokens, declarationsOf, Declaration, Noted, noted, complete}
@@ -195,7 +195,7 @@ module _ (rs : List Record) (z : Ruled rs) where
     records = z .checked;
   }
 
-  abbrev ts : List Token
+  abbrev ts : List TextToken
   ts = printFlat [] 0 ds
 
   good : All GoodToken ts
@@ -214,7 +214,7 @@ module _ (rs : List Record) (z : Ruled rs) where
   items = scan-printed ts 0 good
 
   outcome : (ns : List Noted) → parseTokens ts ≡ complete ns → outcomeOf (printTokens ts) ≡ complete ns
-  outcome ns e = ap (λ x. parseTokens (tokensOf x)) items ∙ (ap parseTokens (spelled-tokens ts 0) ∙ e)
+  outcome ns e = ap (λ x. parseTokens (textTokensOf x)) items ∙ (ap parseTokens (spelled-tokens ts 0) ∙ e)
 
   text-verdict : (ns : List Noted) → parseTokens ts ≡ complete ns → declarationsOf ns ≡ ds → verdict (printTokens ts) ≡ table (encode rs)
   text-verdict ns e d =

@@ -8,16 +8,16 @@ use lib.Dec.{leb, eqb, ltb}
 use borrow.Author.Tests.{lt-leb, leb-false, ltb-true, lt-ltb}
 use Rattle.numbers.specs.Limits.{depthLimit}
 use Rattle.definition_rules.specs.Words.{classOf, inRun, blank, single}
-use Rattle.definition_rules.specs.Scan.{joinRun, scan, tokensOf, badPlaces, openAfter, tooDeep, placeIf, deepPlaces, Token, run, mark, Item, gap, item, bad, outside}
+use Rattle.definition_rules.specs.Scan.{joinRun, scan, textTokensOf, badPlaces, bracesAfter, isDeepBrace, placeIf, deepPlaces, TextToken, run, mark, Item, gap, item, bad, outside}
 use Rattle.definition_rules.proofs.TableLaws.{All}
 
 -- ---- tokens with a blank after each
 
-unfoldable pub printToken : Token → List ℕ → List ℕ
+unfoldable pub printToken : TextToken → List ℕ → List ℕ
 printToken (run w) r = w ++ r
 printToken (mark n) r = n ∷ r
 
-unfoldable pub printTokens : List Token → List ℕ
+unfoldable pub printTokens : List TextToken → List ℕ
 printTokens [] = []
 printTokens (t ∷ ts) = printToken t (32 ∷ printTokens ts)
 
@@ -25,7 +25,7 @@ unfoldable pub RunBytes : List ℕ → Type 0
 RunBytes [] = ⊥
 RunBytes (b ∷ w) = All (λ c. classOf c ≡ inRun) (b ∷ w)
 
-unfoldable pub GoodToken : Token → Type 0
+unfoldable pub GoodToken : TextToken → Type 0
 GoodToken (run w) = RunBytes w
 GoodToken (mark n) = classOf n ≡ single
 
@@ -34,7 +34,7 @@ placeAfter [] p = suc p
 placeAfter (b ∷ w) p = placeAfter w (suc p)
 
 -- the items of what is printed
-unfoldable pub spelled : ℕ → List Token → List Item
+unfoldable pub spelled : ℕ → List TextToken → List Item
 spelled p [] = []
 spelled p (run w ∷ ts) = item p (run w) ∷ gap ∷ spelled (placeAfter w p) ts
 spelled p (mark n ∷ ts) = item p (mark n) ∷ gap ∷ spelled (suc (suc p)) ts
@@ -56,20 +56,20 @@ unfolding All placeAfter joinRun
 scan-run b [] p r h = scan-inRun b p _ (h .0) ∙ rw (scan-space (suc p) r)
 scan-run b (c ∷ w) p r h = scan-inRun b p _ (h .0) ∙ rw (scan-run c w (suc p) r (h .1))
 
-pub scan-printed : (ts : List Token) (p : ℕ) → All GoodToken ts → scan outside p (printTokens ts) ≡ spelled p ts
+pub scan-printed : (ts : List TextToken) (p : ℕ) → All GoodToken ts → scan outside p (printTokens ts) ≡ spelled p ts
 unfolding spelled printTokens printToken All GoodToken RunBytes placeAfter
 scan-printed [] p h = unfold scan in refl
 scan-printed (run [] ∷ ts) p h = absurd (h .0)
 scan-printed (run (b ∷ w) ∷ ts) p h = scan-run b w p (printTokens ts) (h .0) ∙ ap (λ q. item p (run (b ∷ w)) ∷ gap ∷ q) (scan-printed ts (placeAfter w (suc p)) (h .1))
 scan-printed (mark n ∷ ts) p h = scan-single n p (32 ∷ printTokens ts) (h .0) ∙ (ap (λ q. item p (mark n) ∷ q) (scan-space (suc p) (printTokens ts)) ∙ ap (λ q. item p (mark n) ∷ gap ∷ q) (scan-printed ts (suc (suc p)) (h .1)))
 
-pub spelled-tokens : (ts : List Token) (p : ℕ) → tokensOf (spelled p ts) ≡ ts
-unfolding spelled tokensOf
+pub spelled-tokens : (ts : List TextToken) (p : ℕ) → textTokensOf (spelled p ts) ≡ ts
+unfolding spelled textTokensOf
 spelled-tokens [] p = refl
 spelled-tokens (run w ∷ ts) p = ap (λ q. run w ∷ q) (spelled-tokens ts (placeAfter w p))
 spelled-tokens (mark n ∷ ts) p = ap (λ q. mark n ∷ q) (spelled-tokens ts (suc (suc p)))
 
-pub spelled-bad : (ts : List Token) (p : ℕ) → badPlaces (spelled p ts) ≡ []
+pub spelled-bad : (ts : List TextToken) (p : ℕ) → badPlaces (spelled p ts) ≡ []
 unfolding spelled badPlaces
 spelled-bad [] p = refl
 spelled-bad (run w ∷ ts) p = spelled-bad ts (placeAfter w p)
@@ -80,46 +80,46 @@ spelled-bad (mark n ∷ ts) p = spelled-bad ts (suc (suc p))
 unfoldable pub roomy : ℕ → ℕ → Bool
 roomy d n = not (eqb n 123) || ltb d depthLimit
 
-unfoldable pub nest : ℕ → List Token → Bool
+unfoldable pub nest : ℕ → List TextToken → Bool
 nest d [] = true
 nest d (run w ∷ r) = nest d r
-nest d (mark n ∷ r) = roomy d n && nest (openAfter d n) r
+nest d (mark n ∷ r) = roomy d n && nest (bracesAfter d n) r
 
 nest-and : (a b : Bool) → a && b ≡ true → (a ≡ true) × (b ≡ true)
 nest-and true b e = (refl, e)
 nest-and false b e = let x : _≡_ {A = ℕ} 0 1 = cc in absurd (omega arith)
 
-roomy-deep : (d n : ℕ) → roomy d n ≡ true → tooDeep d n ≡ false
-unfolding roomy tooDeep
+roomy-deep : (d n : ℕ) → roomy d n ≡ true → isDeepBrace d n ≡ false
+unfolding roomy isDeepBrace
 roomy-deep d n = by (eqb n 123)
   where
     by : (b : Bool) → not b || ltb d depthLimit ≡ true → b && leb depthLimit d ≡ false
     by true e = lt-leb depthLimit d (ltb-true d depthLimit e)
     by false e = refl
 
-deep-roomy : (d n : ℕ) → tooDeep d n ≡ false → roomy d n ≡ true
-unfolding roomy tooDeep
+deep-roomy : (d n : ℕ) → isDeepBrace d n ≡ false → roomy d n ≡ true
+unfolding roomy isDeepBrace
 deep-roomy d n = by (eqb n 123)
   where
     by : (b : Bool) → b && leb depthLimit d ≡ false → not b || ltb d depthLimit ≡ true
     by true e = lt-ltb d depthLimit (omega (arith, leb-false depthLimit d e))
     by false e = refl
 
-pub nest-deep : (ts : List Token) (d p : ℕ) → nest d ts ≡ true → deepPlaces d (spelled p ts) ≡ []
+pub nest-deep : (ts : List TextToken) (d p : ℕ) → nest d ts ≡ true → deepPlaces d (spelled p ts) ≡ []
 unfolding spelled deepPlaces nest placeIf
 nest-deep [] d p e = refl
 nest-deep (run w ∷ ts) d p e = nest-deep ts d (placeAfter w p) e
-nest-deep (mark n ∷ ts) d p e = let x = nest-and (roomy d n) (nest (openAfter d n) ts) e in rw (roomy-deep d n (x .0)) (nest-deep ts (openAfter d n) (suc (suc p)) (x .1))
+nest-deep (mark n ∷ ts) d p e = let x = nest-and (roomy d n) (nest (bracesAfter d n) ts) e in rw (roomy-deep d n (x .0)) (nest-deep ts (bracesAfter d n) (suc (suc p)) (x .1))
 
 place-nil : (b : Bool) (p : ℕ) (r : List ℕ) → placeIf b p r ≡ [] → (b ≡ false) × (r ≡ [])
 unfolding placeIf
 place-nil true p r e = let z : _≡_ {A = ℕ} 0 1 = cc in absurd (omega arith)
 place-nil false p r e = (refl, e)
 
-pub deep-nest : (is : List Item) (d : ℕ) → deepPlaces d is ≡ [] → nest d (tokensOf is) ≡ true
-unfolding deepPlaces nest tokensOf
+pub deep-nest : (is : List Item) (d : ℕ) → deepPlaces d is ≡ [] → nest d (textTokensOf is) ≡ true
+unfolding deepPlaces nest textTokensOf
 deep-nest [] d e = refl
 deep-nest (gap ∷ r) d e = deep-nest r d e
 deep-nest (bad p ∷ r) d e = deep-nest r d e
 deep-nest (item p (run w) ∷ r) d e = deep-nest r d e
-deep-nest (item p (mark n) ∷ r) d e = let x = place-nil (tooDeep d n) p (deepPlaces (openAfter d n) r) e in rw (deep-roomy d n (x .0)) (deep-nest r (openAfter d n) (x .1))
+deep-nest (item p (mark n) ∷ r) d e = let x = place-nil (isDeepBrace d n) p (deepPlaces (bracesAfter d n) r) e in rw (deep-roomy d n (x .0)) (deep-nest r (bracesAfter d n) (x .1))

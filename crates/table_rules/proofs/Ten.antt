@@ -17,7 +17,7 @@ use Rattle.definition_rules.specs.Declarations.{Spots, Noted, noted, Outcome, s
 use Rattle.definition_rules.specs.Records.{topNames, recordsOf}
 use Rattle.definition_rules.specs.Faults.{recordSpots, nameSpots, faults10}
 use Rattle.definition_rules.specs.Finite.{finites, isEndless}
-use Rattle.definition_rules.specs.Compile.{Check, check, Finding, clean, fault, leastOf, findingOf, firstFault, placeAt, placesAt, notedOf, outcomeOf, recordsOfText, checks, checksFrom, checksAfter, checksOf, verdictOf, Verdict, refused, table, verdict, Answer, compiled, refusal, answerOf, compileAnswer}
+use Rattle.definition_rules.specs.Compile.{Check, check, Finding, clean, fault, leastOf, findingOf, firstFault, tokenPlace, tokenPlaces, notedOf, outcomeOf, recordsOfText, checks, checksFrom, checksAfter, checksOf, verdictOf, Verdict, refused, table, verdict, CompileAnswer, compiled, refusal, answerWithRoom, compileAnswer}
 use Rattle.definition_rules.proofs.FirstFault.{Either, left, right, In, Least, least-of}
 use Rattle.table_rules.specs.RecordRules.{noneBroken}
 use Rattle.table_rules.specs.Endless.{LawfulValue, Compound, namePlace, FirstEndless, EndlessPromise}
@@ -29,10 +29,10 @@ use Rattle.table_rules.proofs.Values.{endless-iff, rules-values}
 
 module _ (text : List ℕ) (items : List Item) (f : ℕ → Record → Bool) where
   abbrev named : List Noted → ℕ → ℕ
-  named ns k = placeAt text items (getD (nameSpots ns) k 0)
+  named ns k = tokenPlace text items (getD (nameSpots ns) k 0)
 
-  spots-in : (i : ℕ) (rs : List Record) (ns : List Noted) (q : ℕ) → In q (placesAt text items (recordSpots f (λ s. s .nameAt) i rs ns)) → (k : ℕ) × (k < length rs) × (f (i + k) (recordAt rs k) ≡ true) × (q ≡ named ns k)
-  unfolding recordSpots placeIf placesAt In nameSpots recordAt
+  spots-in : (i : ℕ) (rs : List Record) (ns : List Noted) (q : ℕ) → In q (tokenPlaces text items (recordSpots f (λ s. s .nameAt) i rs ns)) → (k : ℕ) × (k < length rs) × (f (i + k) (recordAt rs k) ≡ true) × (q ≡ named ns k)
+  unfolding recordSpots placeIf tokenPlaces In nameSpots recordAt
   spots-in i [] ns q h = absurd h
   spots-in i (r ∷ rs) [] q h = absurd h
   spots-in i (r ∷ rs) (noted s d ∷ ns) q h = go (f i r) refl (λ h. later (spots-in (suc i) rs ns q h)) h
@@ -40,19 +40,19 @@ module _ (text : List ℕ) (items : List Item) (f : ℕ → Record → Bool) whe
       later : ((k : ℕ) × (k < length rs) × (f (suc i + k) (recordAt rs k) ≡ true) × (q ≡ named ns k)) → (k : ℕ) × (k < suc (length rs)) × (f (i + k) (recordAt (r ∷ rs) k) ≡ true) × (q ≡ named (noted s d ∷ ns) k)
       later g = let y : i + suc (g .0) ≡ suc i + g .0 = omega arith in (suc (g .0), omega (arith, g .1), ap (λ j. f j (recordAt rs (g .0))) y ∙ g .2, g .3)
 
-      go : (b : Bool) → f i r ≡ b → (In q (placesAt text items (recordSpots f (λ s. s .nameAt) (suc i) rs ns)) → (k : ℕ) × (k < suc (length rs)) × (f (i + k) (recordAt (r ∷ rs) k) ≡ true) × (q ≡ named (noted s d ∷ ns) k)) → In q (placesAt text items (placeIf b (s .nameAt) (recordSpots f (λ s. s .nameAt) (suc i) rs ns))) → (k : ℕ) × (k < suc (length rs)) × (f (i + k) (recordAt (r ∷ rs) k) ≡ true) × (q ≡ named (noted s d ∷ ns) k)
+      go : (b : Bool) → f i r ≡ b → (In q (tokenPlaces text items (recordSpots f (λ s. s .nameAt) (suc i) rs ns)) → (k : ℕ) × (k < suc (length rs)) × (f (i + k) (recordAt (r ∷ rs) k) ≡ true) × (q ≡ named (noted s d ∷ ns) k)) → In q (tokenPlaces text items (placeIf b (s .nameAt) (recordSpots f (λ s. s .nameAt) (suc i) rs ns))) → (k : ℕ) × (k < suc (length rs)) × (f (i + k) (recordAt (r ∷ rs) k) ≡ true) × (q ≡ named (noted s d ∷ ns) k)
       go true e k (left p) = let y : i + 0 ≡ i = omega arith in (0, omega arith, ap (λ j. f j r) y ∙ e, p)
       go true e k (right h) = k h
       go false e k h = k h
 
-  in-spots : (i : ℕ) (rs : List Record) (ns : List Noted) → length rs ≡ length ns → (k : ℕ) → k < length rs → f (i + k) (recordAt rs k) ≡ true → In (named ns k) (placesAt text items (recordSpots f (λ s. s .nameAt) i rs ns))
-  unfolding recordSpots placeIf placesAt In nameSpots recordAt
+  in-spots : (i : ℕ) (rs : List Record) (ns : List Noted) → length rs ≡ length ns → (k : ℕ) → k < length rs → f (i + k) (recordAt rs k) ≡ true → In (named ns k) (tokenPlaces text items (recordSpots f (λ s. s .nameAt) i rs ns))
+  unfolding recordSpots placeIf tokenPlaces In nameSpots recordAt
   in-spots i [] ns l k h e = absurd (omega arith)
   in-spots i (r ∷ rs) [] l k h e = absurd (omega (arith, l))
   in-spots i (r ∷ rs) (noted s d ∷ ns) l zero h e = rw ((let y : i ≡ i + 0 = omega arith in ap (λ j. f j r) y) ∙ e) (left refl)
   in-spots i (r ∷ rs) (noted s d ∷ ns) l (suc k) h e = go (f i r) (in-spots (suc i) rs ns (omega (arith, l)) k (omega arith) ((let y : suc i + k ≡ i + suc k = omega arith in ap (λ j. f j (recordAt rs k)) y) ∙ e))
     where
-      go : (b : Bool) → In (named ns k) (placesAt text items (recordSpots f (λ s. s .nameAt) (suc i) rs ns)) → In (named ns k) (placesAt text items (placeIf b (s .nameAt) (recordSpots f (λ s. s .nameAt) (suc i) rs ns)))
+      go : (b : Bool) → In (named ns k) (tokenPlaces text items (recordSpots f (λ s. s .nameAt) (suc i) rs ns)) → In (named ns k) (tokenPlaces text items (placeIf b (s .nameAt) (recordSpots f (λ s. s .nameAt) (suc i) rs ns)))
       go true h = right h
       go false h = h
 
@@ -66,7 +66,7 @@ tenth n p (q ∷ r) e =
     let b : leastOf q r ≡ p = cc in
     (sym a, rw (← b) (least-of q r))
 
-reaches : (text : List ℕ) (items : List Item) (o : Outcome (List Noted)) (ns : List Noted) (rs : List Record) (n p : ℕ) → firstFault (checksOf text items o ns rs) ≡ fault n p → 10 ≤ n → (n ≡ 10) × Least p (placesAt text items (faults10 rs ns))
+reaches : (text : List ℕ) (items : List Item) (o : Outcome (List Noted)) (ns : List Noted) (rs : List Record) (n p : ℕ) → firstFault (checksOf text items o ns rs) ≡ fault n p → 10 ≤ n → (n ≡ 10) × Least p (tokenPlaces text items (faults10 rs ns))
 unfolding checksOf
 reaches text items o ns rs n p e h =
     let a = pass 1 n p _ _ e (λ z. omega arith) in
@@ -88,7 +88,7 @@ refused-fault text n p v = go (firstFault (checks text)) v
     go clean e = unfold verdictOf in (let z : _≡_ {A = ℕ} 0 1 = cc in absurd (omega arith))
     go (fault m r) e = unfold verdictOf in (let x : m ≡ n = cc in let y : r ≡ p = cc in rw (x, y))
 
-last-check : (text : List ℕ) (n p : ℕ) → verdict text ≡ refused n p → 10 ≤ n → (n ≡ 10) × Least p (placesAt text (itemsOf text) (faults10 (recordsOfText text) (notedOf (outcomeOf text))))
+last-check : (text : List ℕ) (n p : ℕ) → verdict text ≡ refused n p → 10 ≤ n → (n ≡ 10) × Least p (tokenPlaces text (itemsOf text) (faults10 (recordsOfText text) (notedOf (outcomeOf text))))
 last-check text n p v h = reaches text (itemsOf text) (outcomeOf text) (notedOf (outcomeOf text)) (recordsOfText text) n p (unfold checks checksFrom checksAfter in (refused-fault text n p v)) h
 
 -- ---- T6
@@ -105,7 +105,7 @@ module _ (text : List ℕ) (p : ℕ) (v : verdict text ≡ refused 10 p) where
   formed : Formed rs
   formed = let x = text-ten text p v in record { fine = x .0; seven = x .1; eight = x .2 }
 
-  least : Least p (placesAt text (itemsOf text) (faults10 rs (notedOf (outcomeOf text))))
+  least : Least p (tokenPlaces text (itemsOf text) (faults10 rs (notedOf (outcomeOf text))))
   least = last-check text 10 p v (omega arith) .1
 
   endless-at : (q : ℕ) → Compound text q → (LawfulValue rs q → ⊥) → p ≤ namePlace text q
@@ -113,7 +113,7 @@ module _ (text : List ℕ) (p : ℕ) (v : verdict text ≡ refused 10 p) where
   endless-at q c f =
       let e = endless-iff rs formed q (c .0) .1 (c .1, f) in
       let z : q ≡ 0 + q = omega arith in
-      least .1 (placeAt text (itemsOf text) (getD (nameSpots (notedOf (outcomeOf text))) q 0)) (in-spots text (itemsOf text) (isEndless (finites rs)) 0 rs (notedOf (outcomeOf text)) (records-length text) q (c .0) (ap (λ j. isEndless (finites rs) j (recordAt rs q)) (sym z) ∙ e))
+      least .1 (tokenPlace text (itemsOf text) (getD (nameSpots (notedOf (outcomeOf text))) q 0)) (in-spots text (itemsOf text) (isEndless (finites rs)) 0 rs (notedOf (outcomeOf text)) (records-length text) q (c .0) (ap (λ j. isEndless (finites rs) j (recordAt rs q)) (sym z) ∙ e))
 
   first-endless : FirstEndless text p
   unfolding namePlace
@@ -143,9 +143,9 @@ endless-promise text room free place = by (verdict text) refl free
     not-10 bytes true e = unfold pick in (let z : _≡_ {A = ℕ} 11 10 = cc in omega arith)
     not-10 bytes false e = unfold pick in (let z : _≡_ {A = ℕ} 0 1 = cc in omega arith)
 
-    by : (w : Verdict) → verdict text ≡ w → ((n p : ℕ) → answerOf room w ≡ refusal n p → 10 ≤ n) → (answerOf room w ≡ refusal 10 place) ↔ FirstEndless text place
-    by (table bytes) v h = unfold answerOf in ((λ e. absurd (not-10 bytes (ltb room (length bytes)) e)), λ f. absurd (no-endless text bytes place v f))
-    by (refused n p) v h = unfold answerOf in (given (last-check text n p v (h n p (unfold answerOf in refl)) .0))
+    by : (w : Verdict) → verdict text ≡ w → ((n p : ℕ) → answerWithRoom room w ≡ refusal n p → 10 ≤ n) → (answerWithRoom room w ≡ refusal 10 place) ↔ FirstEndless text place
+    by (table bytes) v h = unfold answerWithRoom in ((λ e. absurd (not-10 bytes (ltb room (length bytes)) e)), λ f. absurd (no-endless text bytes place v f))
+    by (refused n p) v h = unfold answerWithRoom in (given (last-check text n p v (h n p (unfold answerWithRoom in refl)) .0))
       where
         given : n ≡ 10 → (refusal n p ≡ refusal 10 place) ↔ FirstEndless text place
         given q =

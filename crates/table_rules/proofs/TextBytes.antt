@@ -10,7 +10,7 @@ use borrow.Author.Tests.{eqb-true, leb-true}
 use Rattle.classes.specs.Bytes.{IsBytes, between, isLetter, isDigit, isRunByte, isMark, isBlank}
 use Rattle.reading_rules.proofs.CountLaws.{clash-bool, and-both}
 use Rattle.definition_rules.specs.Words.{ByteClass, inRun, blank, single, slash, other, classOf}
-use Rattle.definition_rules.specs.Scan.{Token, run, mark}
+use Rattle.definition_rules.specs.Scan.{TextToken, run, mark}
 use Rattle.definition_rules.proofs.TableLaws.{All, Byte}
 use Rattle.table_rules.proofs.Spelling.{printToken, printTokens, RunBytes, GoodToken}
 
@@ -80,7 +80,7 @@ unfolding All inToken
 run-bytes [] r a b = b
 run-bytes (c ∷ w) r a b = (token-byte c (ap inToken (a .0)), run-bytes w r (a .1) b)
 
-pub printed-bytes : (ts : List Token) → All GoodToken ts → All Byte (printTokens ts)
+pub printed-bytes : (ts : List TextToken) → All GoodToken ts → All Byte (printTokens ts)
 unfolding All GoodToken RunBytes printTokens printToken inToken
 printed-bytes [] a = tt
 printed-bytes (run [] ∷ ts) a = absurd (a .0)

@@ -14,15 +14,15 @@ use Rattle.definition_rules.specs.Words.{numberIf, numberIn, kindOfRun, kindIsC
 use Rattle.classes.specs.Bytes.{isNameByte, isTagByte}
 use Rattle.numbers.specs.Decimal.{numberOf, isNatural}
 use Rattle.numbers.specs.Range.{numberWhen, readCount, cutRange, onSides, lowOf, highOf, bothRead, readUpper, readCountRange, MaybeNumber, unread, number, Sides, uncut, sides, MaybeRange, noRange, range}
-use Rattle.definition_rules.specs.Scan.{itemsOf, tokensOf, badPlaces, deepPlaces, placeIf, Item}
+use Rattle.definition_rules.specs.Scan.{itemsOf, textTokensOf, badPlaces, deepPlaces, placeIf, Item}
 use Rattle.definition_rules.specs.Forms.{typeRun, RangeAllowed, HeadAllowed, MaybeRun, absent, given, Tag, ownName, tagless, explicit, Heading, heading, parameter, tops, Form, plain, compound, lastTop, moreTops, topLevel}
 use Rattle.reading_rules.specs.Record.{Up, top, under, Record, isTop, sameUp, recordAt, Before, Nested}
 use Rattle.definition_rules.specs.Declarations.{declare, treeDeclarations, parentOf, parseTokens, declarationsOf, Declaration, declaration, Noted, noted, inFields, groupOpened, inGroup, groupsClosed, Frame, frame, Outcome, stuckAt, complete, Spots}
 use Rattle.definition_rules.specs.Finite.{finites, isEndless}
 use Rattle.definition_rules.specs.Table.{upNumber, encode, decode, Maybe, none, just}
-use Rattle.definition_rules.specs.Records.{kindLeast, kindMost, rangeOf, countOf, topName, topNames, isNamed, findTop, orNone, targetOf, isTagless, labelOf, recordFor, recordsFor, recordsOf}
-use Rattle.definition_rules.specs.Faults.{spotsWhere, recordSpots, nameSpots, faults4, nameBroken, referenceBroken, tagBrokenIn, tagBroken, faults5, withinKind, countFine, rangeBroken, countBroken, kindOf, kindsOf, isUnionAt, isAlternative, isGiven, countOnAlternative, voidMany, faults6, rule7Broken, faults7, nameKey, repeatedNames, tagRepeated, faults8, rootNoStruct, dangling, faults9, faults10, Key, key}
-use Rattle.definition_rules.specs.Compile.{faults2, faults3, notedOf, checksOf, outcomeOf, recordsOfText, checksAfter, checksFrom, checks, verdict, verdictOf, clean, refused, table, Check, check, Finding, fault, findingOf, firstFault, placesAt, faults1}
+use Rattle.definition_rules.specs.Records.{kindLeast, kindMost, limitsOf, countRangeOf, topName, topNames, isNamed, findTop, orNone, targetOf, isTagless, labelOf, recordFor, recordsFor, recordsOf}
+use Rattle.definition_rules.specs.Faults.{spotsWhere, recordSpots, nameSpots, faults4, nameBroken, referenceBroken, tagBrokenIn, tagBroken, faults5, withinKind, countFine, rangeBroken, countBroken, kindOfDeclaration, kindsOf, isUnionAt, isAlternative, isGiven, countOnAlternative, voidMany, faults6, rule7Broken, faults7, nameKey, repeatedNames, tagRepeated, faults8, rootNoStruct, dangling, faults9, faults10, Key, key}
+use Rattle.definition_rules.specs.Compile.{faults2, faults3, notedOf, checksOf, outcomeOf, recordsOfText, checksAfter, checksFrom, checks, verdict, verdictOf, clean, refused, table, Check, check, Finding, fault, findingOf, firstFault, tokenPlaces, faults1}
 use Rattle.table_rules.specs.RecordRules.{isOpen, closedTo, inExtension, pushIf, mayStand, standsIn, ordered, kindsOfRecords, isSingleValue, isTopAt, targetFine, showsName, labelFine, topFine, recordFine, everyRecord, noneBroken, keyIf, shownNames, recordChecks, recordRules, rulesOf, tableRules}
 use Rattle.definition_rules.proofs.TableLaws.{All, Storable, decode-encode, Byte, encode-decode}
 use Rattle.definition_rules.proofs.FirstFault.{Empty, AllEmpty, table-clean}
@@ -105,8 +105,8 @@ upper-le v n e = by (sameBytes v (42 ∷ [])) e
     by true e = unfold pick in (let z : noLimit ≡ n = cc in omega arith)
     by false e = unfold pick in (small (isNatural v) (numberOf v) (leb (numberOf v) countLimit) refl e)
 
-high-le : (c : MaybeRun) → highOf (countOf c) ≤ noLimit
-unfolding countOf readCountRange
+high-le : (c : MaybeRun) → highOf (countRangeOf c) ≤ noLimit
+unfolding countRangeOf readCountRange
 high-le absent = unfold highOf in omega arith
 high-le (given w) = by (cutRange w)
   where
@@ -177,9 +177,9 @@ module _ (T : List MaybeRun) (rs : List Record) (ks : List ℕ) (found : (w : Li
   labels (under p) n tagless f e q = unfold isTop isTagless labelOf pick in e
   labels (under p) n (explicit v) f e q = unfold isTop isTagless labelOf pick tagBrokenIn in (not-not (tagForm v) q)
 
-  alones : (u : Up) (c : MaybeRun) → (u ≡ top → c ≡ absent) → isAlternative (isUnionAt ks) u && isGiven c ≡ false → isSingleValue (isUnionAt ks) u ≡ true → (lowOf (countOf c) ≡ 1) × (highOf (countOf c) ≡ 1)
-  alones top c f e q = rw (f refl) (unfold countOf lowOf highOf in (refl, refl))
-  alones (under p) c f e q = rw (given-no c (second (isUnionAt ks p) (unfold isSingleValue in q) (unfold isAlternative in e))) (unfold countOf lowOf highOf in (refl, refl))
+  alones : (u : Up) (c : MaybeRun) → (u ≡ top → c ≡ absent) → isAlternative (isUnionAt ks) u && isGiven c ≡ false → isSingleValue (isUnionAt ks) u ≡ true → (lowOf (countRangeOf c) ≡ 1) × (highOf (countRangeOf c) ≡ 1)
+  alones top c f e q = rw (f refl) (unfold countRangeOf lowOf highOf in (refl, refl))
+  alones (under p) c f e q = rw (given-no c (second (isUnionAt ks p) (unfold isSingleValue in q) (unfold isAlternative in e))) (unfold countRangeOf lowOf highOf in (refl, refl))
     where
       second : (b : Bool) → b ≡ true → b && isGiven c ≡ false → isGiven c ≡ false
       second true q e = e
@@ -199,8 +199,8 @@ module _ (T : List MaybeRun) (rs : List Record) (ks : List ℕ) (found : (w : Li
   fine-record : (d : Declaration) → TopPlain d → Passes nameBroken d → Passes tagBroken d → Passes rangeBroken d → Passes countBroken d → Passes (countOnAlternative ks) d → Passes (dangling T) d → Fine rs (isUnionAt ks) (recordFor T d)
   unfolding recordFor TopPlain nameBroken tagBroken rangeBroken countBroken countOnAlternative dangling
   fine-record (declaration u e (heading w g n c t p)) tp nb tb rb cb ab db =
-      let x = count-facts (countOf c) (not-not (countFine (countOf c)) cb) in
-      let y = range-facts (kindOfRun w) (rangeOf (kindOfRun w) g) (not-not (withinKind (kindOfRun w) (rangeOf (kindOfRun w) g)) rb) in
+      let x = count-facts (countRangeOf c) (not-not (countFine (countRangeOf c)) cb) in
+      let y = range-facts (kindOfRun w) (limitsOf (kindOfRun w) g) (not-not (withinKind (kindOfRun w) (limitsOf (kindOfRun w) g)) rb) in
       record {
         kind-lo = kind-ge w;
         kind-hi = kind-le w;
@@ -225,7 +225,7 @@ module _ (T : List MaybeRun) (rs : List Record) (ks : List ℕ) (found : (w : Li
 -- ---- many records
 
 kinds-records : (T : List MaybeRun) (ds : List Declaration) → kindsOfRecords (recordsFor T ds) ≡ kindsOf ds
-unfolding kindsOfRecords recordsFor kindsOf recordFor kindOf
+unfolding kindsOfRecords recordsFor kindsOf recordFor kindOfDeclaration
 kinds-records T [] = refl
 kinds-records T (declaration u e (heading w g n c t p) ∷ ds) = ap (λ q. kindOfRun w ∷ q) (kinds-records T ds)
 
@@ -399,10 +399,10 @@ unfolding declare
 some-tops (lastTop x) = some-parameter x top false 0 []
 some-tops (moreTops x t) = some-parameter x top false 0 _
 
-stand-items : (items : List Item) (ns : List Noted) → parseTokens (tokensOf items) ≡ complete ns → faults2 items ≡ [] → Stand [] 0 (declarationsOf ns) × (1 ≤ length (declarationsOf ns))
+stand-items : (items : List Item) (ns : List Noted) → parseTokens (textTokensOf items) ≡ complete ns → faults2 items ≡ [] → Stand [] 0 (declarationsOf ns) × (1 ≤ length (declarationsOf ns))
 stand-items items ns e two =
-    let f = complete-fits (tokensOf items) ns e in
-    let n : nest 0 (tokensOf items) ≡ true = deep-nest items 0 (append-nil (badPlaces items) (deepPlaces 0 items) (unfold faults2 in two) .1) in
+    let f = complete-fits (textTokensOf items) ns e in
+    let n : nest 0 (textTokensOf items) ≡ true = deep-nest items 0 (append-nil (badPlaces items) (deepPlaces 0 items) (unfold faults2 in two) .1) in
     let s = nest-tree (f .0 .0) 0 [] (ap (nest 0) (f .0 .2) ∙ n) .0 in
     let t = stand-tree (f .0 .0) [] 0 (unfold Desc in tt) (unfold closedTo in refl) (f .0 .1) s in
     (subst (λ q. Stand [] 0 q) (f .1) t, subst (λ q. 1 ≤ length q) (f .1) (some-tops (f .0 .0)))
@@ -412,7 +412,7 @@ unfolding declarationsOf
 noted-length [] = refl
 noted-length (noted s d ∷ ns) = ap suc (noted-length ns)
 
-module _ (items : List Item) (ns : List Noted) (e : parseTokens (tokensOf items) ≡ complete ns) (c : Cleared items ns (recordsOf (declarationsOf ns))) where
+module _ (items : List Item) (ns : List Noted) (e : parseTokens (textTokensOf items) ≡ complete ns) (c : Cleared items ns (recordsOf (declarationsOf ns))) where
   abbrev ds : List Declaration
   ds = declarationsOf ns
 
@@ -503,20 +503,20 @@ cleared-ten text items o ns rs p e =
     let nil = places-nil text items in
     let a = pass 1 10 p (faults1 text) _ e (λ z. omega arith) in
     let b = pass 2 10 p (faults2 items) _ (a .1) (λ z. omega arith) in
-    let c = pass 3 10 p (placesAt text items (faults3 o)) _ (b .1) (λ z. omega arith) in
-    let d = pass 4 10 p (placesAt text items (faults4 parameterLimit ns)) _ (c .1) (λ z. omega arith) in
-    let f = pass 5 10 p (placesAt text items (faults5 ns)) _ (d .1) (λ z. omega arith) in
-    let g = pass 6 10 p (placesAt text items (faults6 rs ns)) _ (f .1) (λ z. omega arith) in
-    let h = pass 7 10 p (placesAt text items (faults7 rs ns)) _ (g .1) (λ z. omega arith) in
-    let i = pass 8 10 p (placesAt text items (faults8 rs ns)) _ (h .1) (λ z. omega arith) in
-    let j = pass 9 10 p (placesAt text items (faults9 rs ns)) _ (i .1) (λ z. omega arith) in
+    let c = pass 3 10 p (tokenPlaces text items (faults3 o)) _ (b .1) (λ z. omega arith) in
+    let d = pass 4 10 p (tokenPlaces text items (faults4 parameterLimit ns)) _ (c .1) (λ z. omega arith) in
+    let f = pass 5 10 p (tokenPlaces text items (faults5 ns)) _ (d .1) (λ z. omega arith) in
+    let g = pass 6 10 p (tokenPlaces text items (faults6 rs ns)) _ (f .1) (λ z. omega arith) in
+    let h = pass 7 10 p (tokenPlaces text items (faults7 rs ns)) _ (g .1) (λ z. omega arith) in
+    let i = pass 8 10 p (tokenPlaces text items (faults8 rs ns)) _ (h .1) (λ z. omega arith) in
+    let j = pass 9 10 p (tokenPlaces text items (faults9 rs ns)) _ (i .1) (λ z. omega arith) in
     (record { two = b .0; four = nil _ (d .0); five = nil _ (f .0); six = nil _ (g .0); seven = nil _ (h .0); eight = nil _ (i .0); nine = nil _ (j .0) }, nil _ (c .0), λ z. last-check (faults10 rs ns) z (j .1))
   where
-    last-check : (fs : List ℕ) → fs ≡ [] → firstFault (check 10 (placesAt text items fs) ∷ []) ≡ fault 10 p → ⊥
+    last-check : (fs : List ℕ) → fs ≡ [] → firstFault (check 10 (tokenPlaces text items fs) ∷ []) ≡ fault 10 p → ⊥
     last-check fs z q = none-left (rw z at q)
       where
-        none-left : firstFault (check 10 (placesAt text items []) ∷ []) ≡ fault 10 p → ⊥
-        none-left q = unfold placesAt firstFault findingOf in (let y : _≡_ {A = ℕ} 0 1 = cc in omega arith)
+        none-left : firstFault (check 10 (tokenPlaces text items []) ∷ []) ≡ fault 10 p → ⊥
+        none-left q = unfold tokenPlaces firstFault findingOf in (let y : _≡_ {A = ℕ} 0 1 = cc in omega arith)
 
 -- ---- T8, the other way
 

@@ -11,7 +11,7 @@ use borrow.Author.Tests.{ltb-false}
 use Rattle.numbers.specs.Limits.{bias}
 use Rattle.classes.specs.Lists.{pick}
 use Rattle.definition_rules.specs.Words.{kwAs, kwPlugin, isCompound}
-use Rattle.definition_rules.specs.Scan.{Token, run, mark}
+use Rattle.definition_rules.specs.Scan.{TextToken, run, mark}
 use Rattle.definition_rules.specs.Forms.{typeRun, putRange, putCard, putTag, putPlugin, putHead, MaybeRun, absent, given, Tag, ownName, tagless, explicit, Heading, heading}
 use Rattle.reading_rules.specs.Record.{Up, top}
 use Rattle.definition_rules.specs.Declarations.{Declaration, declaration, BodyMode, inFields, groupOpened, inGroup, groupsClosed, Frame, frame}
@@ -47,14 +47,14 @@ unfolding writeNat
 nat-len10 n h = omega (arith, dig-len 9 n n [] (omega arith))
 
 -- bytes of a token row
-abbrev size : List Token → ℕ
+abbrev size : List TextToken → ℕ
 size r = length (printTokens r)
 
-size-run : (w : List ℕ) (r : List Token) → size (run w ∷ r) ≡ length w + suc (size r)
+size-run : (w : List ℕ) (r : List TextToken) → size (run w ∷ r) ≡ length w + suc (size r)
 unfolding printTokens printToken
 size-run w r = simp length-append
 
-size-mark : (n : ℕ) (r : List Token) → size (mark n ∷ r) ≡ suc (suc (size r))
+size-mark : (n : ℕ) (r : List TextToken) → size (mark n ∷ r) ≡ suc (suc (size r))
 unfolding printTokens printToken
 size-mark n r = refl
 
@@ -74,28 +74,28 @@ SmallTag (explicit v) = length v ≤ 63
 unfoldable pub SmallHeading : Heading → Type 0
 SmallHeading (heading w g n c t p) = (length w + runLength g ≤ 63) × (length n ≤ 63) × SmallRun 12 c × SmallTag t
 
-size-range : (g : MaybeRun) (r : List Token) → size (putRange g r) ≤ 5 + runLength g + size r
+size-range : (g : MaybeRun) (r : List TextToken) → size (putRange g r) ≤ 5 + runLength g + size r
 unfolding putRange runLength
 size-range absent r = omega arith
 size-range (given v) r = omega (arith, size-mark 60 (run v ∷ mark 62 ∷ r), size-run v (mark 62 ∷ r), size-mark 62 r)
 
-size-card : (g : MaybeRun) (r : List Token) → SmallRun 12 g → size (putCard g r) ≤ 17 + size r
+size-card : (g : MaybeRun) (r : List TextToken) → SmallRun 12 g → size (putCard g r) ≤ 17 + size r
 unfolding putCard SmallRun
 size-card absent r h = omega arith
 size-card (given v) r h = omega (arith, size-mark 91 (run v ∷ mark 93 ∷ r), size-run v (mark 93 ∷ r), size-mark 93 r)
 
-size-tag : (t : Tag) (r : List Token) → SmallTag t → size (putTag t r) ≤ 67 + size r
+size-tag : (t : Tag) (r : List TextToken) → SmallTag t → size (putTag t r) ≤ 67 + size r
 unfolding putTag SmallTag
 size-tag ownName r h = omega arith
 size-tag tagless r h = omega (arith, size-run kwAs (mark 63 ∷ r), size-mark 63 r)
 size-tag (explicit v) r h = omega (arith, size-run kwAs (run v ∷ r), size-run v r)
 
-size-plugin : (p : Bool) (r : List Token) → size (putPlugin p r) ≤ 7 + size r
+size-plugin : (p : Bool) (r : List TextToken) → size (putPlugin p r) ≤ 7 + size r
 unfolding putPlugin
 size-plugin true r = omega (arith, size-run kwPlugin r)
 size-plugin false r = omega arith
 
-size-heading : (h : Heading) (r : List Token) → SmallHeading h → size (putHeading h r) ≤ 226 + size r
+size-heading : (h : Heading) (r : List TextToken) → SmallHeading h → size (putHeading h r) ≤ 226 + size r
 unfolding putHeading putHead typeRun SmallHeading
 size-heading (heading w g n c t p) r h =
     let x5 = mark (putEndOf (isCompound w)) ∷ r in
@@ -105,14 +105,14 @@ size-heading (heading w g n c t p) r h =
     let a = h .0 in let b = h .1 in
     omega (arith, size-run w (putRange g (run n ∷ x2)), size-range g (run n ∷ x2), size-run n x2, size-card c x3 (h .2), size-tag t x4 (h .3), size-plugin p x5, size-mark (putEndOf (isCompound w)) r)
 
-size-close : (m : BodyMode) (r : List Token) → size (putClose m r) ≤ 6 + size r
+size-close : (m : BodyMode) (r : List TextToken) → size (putClose m r) ≤ 6 + size r
 unfolding putClose
 size-close inFields r = omega (arith, size-mark 125 (mark 59 ∷ r), size-mark 59 r)
 size-close groupOpened r = omega arith
 size-close inGroup r = omega (arith, size-mark 93 (mark 125 ∷ mark 59 ∷ r), size-mark 125 (mark 59 ∷ r), size-mark 59 r)
 size-close groupsClosed r = omega (arith, size-mark 125 (mark 59 ∷ r), size-mark 59 r)
 
-size-closes : (u : Up) (σ : List Frame) (r : List Token) → size (putCloses u σ r) + 6 * length (closedTo u σ) ≤ size r + 6 * length σ
+size-closes : (u : Up) (σ : List Frame) (r : List TextToken) → size (putCloses u σ r) + 6 * length (closedTo u σ) ≤ size r + 6 * length σ
 unfolding putCloses closedTo
 size-closes u [] r = omega arith
 size-closes u (frame q m ∷ σ) r = by (isOpen u q) (size-closes u σ r) (size-close m (putCloses u σ r))
@@ -121,7 +121,7 @@ size-closes u (frame q m ∷ σ) r = by (isOpen u q) (size-closes u σ r) (size-
     by true x y = unfold pick in omega arith
     by false x y = unfold pick in omega arith
 
-size-open : (e : Bool) (σ : List Frame) (r : List Token) → size (putOpen e σ r) ≤ 2 + size r
+size-open : (e : Bool) (σ : List Frame) (r : List TextToken) → size (putOpen e σ r) ≤ 2 + size r
 unfolding putOpen
 size-open e [] r = omega arith
 size-open true (frame q inFields ∷ σ) r = omega (arith, size-mark 91 r)

@@ -15,7 +15,7 @@ use Rattle.numbers.specs.Limits.{parameterLimit}
 use Rattle.reading_rules.specs.Record.{Record}
 use Rattle.reading_rules.proofs.CountLaws.{clash-bool}
 use Rattle.definition_rules.specs.Table.{Maybe, none, just, decode}
-use Rattle.definition_rules.specs.Compile.{Verdict, refused, table, verdict, compiled, refusal, answerOf, compileAnswer, tableAfter}
+use Rattle.definition_rules.specs.Compile.{Verdict, refused, table, verdict, compiled, refusal, answerWithRoom, compileAnswer, tableAfter}
 use Rattle.definition_rules.proofs.Theorems.{compiled-lent}
 use Rattle.table_rules.specs.Compilable.{CompilesTo, Compilable}
 use Rattle.table_rules.specs.RecordRules.{recordRules, rulesOf, tableRules}
@@ -31,7 +31,7 @@ compiles text bytes v =
     }
   where
     answers : (room : ℕ) → length bytes ≤ room → compileAnswer text room ≡ compiled (length bytes)
-    answers room h = unfold compileAnswer answerOf pick in (rw (v, le-ltb room (length bytes) h))
+    answers room h = unfold compileAnswer answerWithRoom pick in (rw (v, le-ltb room (length bytes) h))
 
 -- a refusal is no success
 compiled-table : (text table' : List ℕ) (room : ℕ) → compileAnswer text room ≡ compiled (length table') → ((bytes : List ℕ) → verdict text ≡ table bytes → length bytes ≤ room → length bytes ≡ length table' → verdict text ≡ table table') → verdict text ≡ table table'
@@ -42,9 +42,9 @@ compiled-table text table' room e k = by (verdict text) refl e
     room-for bytes v true q e = unfold pick in (let z : _≡_ {A = ℕ} 0 1 = cc in absurd (omega arith))
     room-for bytes v false q e = unfold pick in (let z : length bytes ≡ length table' = cc in k bytes v (ltb-false room (length bytes) q) z)
 
-    by : (v : Verdict) → verdict text ≡ v → answerOf room v ≡ compiled (length table') → verdict text ≡ table table'
-    by (refused n p) v e = unfold answerOf in (let z : _≡_ {A = ℕ} 0 1 = cc in absurd (omega arith))
-    by (table bytes) v e = unfold answerOf in (room-for bytes v (ltb room (length bytes)) refl e)
+    by : (v : Verdict) → verdict text ≡ v → answerWithRoom room v ≡ compiled (length table') → verdict text ≡ table table'
+    by (refused n p) v e = unfold answerWithRoom in (let z : _≡_ {A = ℕ} 0 1 = cc in absurd (omega arith))
+    by (table bytes) v e = unfold answerWithRoom in (room-for bytes v (ltb room (length bytes)) refl e)
 
 compiles-back : (text bytes : List ℕ) (room : ℕ) → CompilesTo text room bytes → verdict text ≡ table bytes
 compiles-back text bytes room c = compiled-table text bytes room (c .answer) (λ made v h l.

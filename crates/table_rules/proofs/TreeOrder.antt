@@ -9,8 +9,8 @@ use lib.ListN.{length}
 use borrow.Author.Tests.{ne-eqb, eq-eqb, eqb-true, ltb-true}
 use Rattle.numbers.specs.Limits.{depthLimit}
 use Rattle.classes.specs.Lists.{pick}
-use Rattle.definition_rules.specs.Scan.{openAfter, Token, mark}
-use Rattle.definition_rules.specs.Forms.{putHead, printForm, HeadAllowed, Allowed, Heading, heading, Sort, parameter, fields, groups, tops, Form, plain, compound, noField, field, noGroup, group, lastTop, moreTops, Level, topLevel, fieldLevel}
+use Rattle.definition_rules.specs.Scan.{bracesAfter, TextToken, mark}
+use Rattle.definition_rules.specs.Forms.{putHead, printForm, HeadAllowed, Allowed, Heading, heading, FormSort, parameter, fields, groups, tops, Form, plain, compound, noField, field, noGroup, group, lastTop, moreTops, Level, topLevel, fieldLevel}
 use Rattle.reading_rules.specs.Record.{Up, top, under}
 use Rattle.definition_rules.specs.Declarations.{countForm, declare, parentOf, Declaration, BodyMode, inFields, inGroup, Frame, frame}
 use Rattle.table_rules.specs.RecordRules.{isOpen, closedTo, inExtension, pushIf}
@@ -21,12 +21,12 @@ use Rattle.table_rules.proofs.Depth.{LowEnough, nest-range, nest-card, 
 
 -- ---- depth
 
-nest-head : (d : ℕ) (h : Heading) (r : List Token) → nest d (putHead h r) ≡ nest d r
+nest-head : (d : ℕ) (h : Heading) (r : List TextToken) → nest d (putHead h r) ≡ nest d r
 unfolding putHead nest
 nest-head d (heading w g n c t p) r = nest-range d g _ ∙ (nest-card d c _ ∙ (nest-tag d t _ ∙ nest-plugin d p r))
 
 -- d structs and unions are open around the tree
-unfoldable pub Shallow : {s : Sort} → ℕ → Form s → Type 0
+unfoldable pub Shallow : {s : FormSort} → ℕ → Form s → Type 0
 Shallow d (plain h) = Unit {0}
 Shallow d (compound h f g) = (d < depthLimit) × Shallow (suc d) f × Shallow (suc d) g
 Shallow d noField = Unit {0}
@@ -36,27 +36,27 @@ Shallow d (group x f g) = Shallow d x × Shallow d f × Shallow d g
 Shallow d (lastTop x) = Shallow d x
 Shallow d (moreTops x t) = Shallow d x × Shallow d t
 
-nest-semi : (d : ℕ) (r : List Token) → nest d (mark 59 ∷ r) ≡ nest d r
-unfolding nest roomy openAfter pick
+nest-semi : (d : ℕ) (r : List TextToken) → nest d (mark 59 ∷ r) ≡ nest d r
+unfolding nest roomy bracesAfter pick
 nest-semi d r = refl
 
-nest-open : (d : ℕ) (r : List Token) → nest d (mark 91 ∷ r) ≡ nest d r
-unfolding nest roomy openAfter pick
+nest-open : (d : ℕ) (r : List TextToken) → nest d (mark 91 ∷ r) ≡ nest d r
+unfolding nest roomy bracesAfter pick
 nest-open d r = refl
 
-nest-shut : (d : ℕ) (r : List Token) → nest d (mark 93 ∷ r) ≡ nest d r
-unfolding nest roomy openAfter pick
+nest-shut : (d : ℕ) (r : List TextToken) → nest d (mark 93 ∷ r) ≡ nest d r
+unfolding nest roomy bracesAfter pick
 nest-shut d r = refl
 
-nest-brace : (d : ℕ) (r : List Token) → nest d (mark 123 ∷ r) ≡ true → (d < depthLimit) × (nest (suc d) r ≡ true)
-unfolding nest roomy openAfter pick
+nest-brace : (d : ℕ) (r : List TextToken) → nest d (mark 123 ∷ r) ≡ true → (d < depthLimit) × (nest (suc d) r ≡ true)
+unfolding nest roomy bracesAfter pick
 nest-brace d r e = let x = and-both (ltb d depthLimit) (nest (suc d) r) e in (ltb-true d depthLimit (x .0), x .1)
 
-nest-close : (d : ℕ) (r : List Token) → nest (suc d) (mark 125 ∷ mark 59 ∷ r) ≡ true → nest d r ≡ true
-unfolding nest roomy openAfter pick
+nest-close : (d : ℕ) (r : List TextToken) → nest (suc d) (mark 125 ∷ mark 59 ∷ r) ≡ true → nest d r ≡ true
+unfolding nest roomy bracesAfter pick
 nest-close d r e = subst (λ x. nest x r ≡ true) (omega arith) e
 
-pub nest-tree : {s : Sort} (x : Form s) (d : ℕ) (r : List Token) → nest d (printForm x r) ≡ true → Shallow d x × (nest d r ≡ true)
+pub nest-tree : {s : FormSort} (x : Form s) (d : ℕ) (r : List TextToken) → nest d (printForm x r) ≡ true → Shallow d x × (nest d r ≡ true)
 unfolding printForm Shallow
 nest-tree (plain h) d r e = (tt, sym (nest-semi d r) ∙ (sym (nest-head d h (mark 59 ∷ r)) ∙ e))
 nest-tree (compound h f g) d r e =
@@ -205,7 +205,7 @@ stand-compound h f g F G l u c ρ τ w σ k r d e a s next =
     subst (λ q. Stand σ2 q r) (omega arith) (next σ2 (desc-suc (suc k + countForm f + countForm g) (k + suc (countForm f + countForm g)) σ2 (omega arith) d2) (place-back w σ2 (suc k + countForm f + countForm g) k m d2 b e2)))) in
     rw (e, a .1, x .2) ((x .0, x .1, n .0), ((λ z. s .0), n .1))
 
-abbrev pub OrderOf : {s : Sort} → Form s → Type 0
+abbrev pub OrderOf : {s : FormSort} → Form s → Type 0
 OrderOf {s = parameter} x = ParameterStands x
 OrderOf {s = fields} x = FieldsStand x
 OrderOf {s = groups} x = GroupsStand x
@@ -231,7 +231,7 @@ stand-noGroup : GroupsStand noGroup
 unfolding declare countForm
 stand-noGroup m w p ρ σ k r d e a s next = subst (λ q. Stand σ q r) (omega arith) (next m w σ (desc-suc k (k + 0) σ (omega arith) d) e)
 
-pub stand-tree : {s : Sort} (x : Form s) → OrderOf x
+pub stand-tree : {s : FormSort} (x : Form s) → OrderOf x
 stand-tree (plain h) = stand-plain h
 stand-tree (compound h f g) = stand-compound h f g (stand-tree f) (stand-tree g)
 stand-tree noField = stand-noField

@@ -16,7 +16,7 @@ use Rattle.definition_rules.specs.Forms.{MaybeRun, absent, given, Tag, ownName,
 use Rattle.reading_rules.specs.Record.{Up, top, under, Record, isTop}
 use Rattle.definition_rules.specs.Declarations.{Declaration, declaration}
 use Rattle.definition_rules.specs.Table.{none}
-use Rattle.definition_rules.specs.Records.{kindLeast, kindMost, rangeOf, countOf, topName, topNames, isNamed, findTop, orNone, targetOf, isTagless, labelOf, recordFor, recordsFor}
+use Rattle.definition_rules.specs.Records.{kindLeast, kindMost, limitsOf, countRangeOf, topName, topNames, isNamed, findTop, orNone, targetOf, isTagless, labelOf, recordFor, recordsFor}
 use Rattle.definition_rules.specs.Compile.{table}
 use Rattle.table_rules.specs.RecordRules.{isSingleValue}
 use Rattle.definition_rules.proofs.TableLaws.{All}
@@ -234,20 +234,20 @@ module _ (T : List MaybeRun) (A : ℕ → Bool) (k : ℕ) (u : Up) (n : Bool) (c
       by true e = unfold pick runOf orNone in (let x = s .to e in rw (x .1, find-at T 0 t (x .0) o (x .1)) (omega arith))
       by false e = unfold pick in sym (s .to-none e)
 
-  pub count-is : countOf (cardFor (isSingleValue A u) c d) ≡ range c d
+  pub count-is : countRangeOf (cardFor (isSingleValue A u) c d) ≡ range c d
   count-is = by (isSingleValue A u) refl
     where
-      by : (b : Bool) → isSingleValue A u ≡ b → countOf (cardFor b c d) ≡ range c d
-      by true e = unfold countOf cardFor in (rw (s .single-lo e, s .single-hi e))
-      by false e = unfold countOf cardFor in (count-back c d (s .count-lo) (s .count-hi))
+      by : (b : Bool) → isSingleValue A u ≡ b → countRangeOf (cardFor b c d) ≡ range c d
+      by true e = unfold countRangeOf cardFor in (rw (s .single-lo e, s .single-hi e))
+      by false e = unfold countRangeOf cardFor in (count-back c d (s .count-lo) (s .count-hi))
 
-  pub range-is : rangeOf k (rangeFor k a b) ≡ range a b
+  pub range-is : limitsOf k (rangeFor k a b) ≡ range a b
   unfolding rangeFor
   range-is = by (kindTakesRange k) refl
     where
-      by : (r : Bool) → kindTakesRange k ≡ r → rangeOf k (pick r (given (writeRange a b)) absent) ≡ range a b
-      by true e = unfold pick rangeOf in (let x = most-lt k in range-back a b (omega (arith, s .range-mid, s .range-hi)) (omega (arith, s .range-hi)))
-      by false e = unfold pick rangeOf kindLeast kindMost in (let x = no-range k e in let y : a ≡ bias = omega (arith, s .range-lo, s .range-mid, s .range-hi) in let z : b ≡ bias = omega (arith, s .range-lo, s .range-mid, s .range-hi) in rw (y, z, unranged k 3 e ranged-3, unranged k 5 e ranged-5, e))
+      by : (r : Bool) → kindTakesRange k ≡ r → limitsOf k (pick r (given (writeRange a b)) absent) ≡ range a b
+      by true e = unfold pick limitsOf in (let x = most-lt k in range-back a b (omega (arith, s .range-mid, s .range-hi)) (omega (arith, s .range-hi)))
+      by false e = unfold pick limitsOf kindLeast kindMost in (let x = no-range k e in let y : a ≡ bias = omega (arith, s .range-lo, s .range-mid, s .range-hi) in let z : b ≡ bias = omega (arith, s .range-lo, s .range-mid, s .range-hi) in rw (y, z, unranged k 3 e ranged-3, unranged k 5 e ranged-5, e))
 
 label-is : (u : Up) (n : Bool) (l m : List ℕ) → labelOf (pick (shows u n) l m) (tagFor u n l) ≡ l
 unfolding labelOf tagFor shows isTop pick

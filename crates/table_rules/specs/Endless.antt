@@ -12,7 +12,7 @@ use Rattle.reading_rules.specs.Reading.{value, Tree, leaves, Law}
 use Rattle.definition_rules.specs.Words.{kindIsCompound}
 use Rattle.definition_rules.specs.Scan.{itemsOf}
 use Rattle.definition_rules.specs.Faults.{nameSpots}
-use Rattle.definition_rules.specs.Compile.{notedOf, outcomeOf, recordsOfText, placeAt, Answer, refusal}
+use Rattle.definition_rules.specs.Compile.{notedOf, outcomeOf, recordsOfText, tokenPlace, CompileAnswer, refusal}
 
 unfoldable pub areTokens : List Token → Bool
 areTokens [] = true
@@ -28,7 +28,7 @@ Compound text p = (p < length (recordsOfText text)) × (kindIsCompound (recordAt
 
 -- where its name stands
 unfoldable pub namePlace : List ℕ → ℕ → ℕ
-namePlace text p = placeAt text (itemsOf text) (getD (nameSpots (notedOf (outcomeOf text))) p 0)
+namePlace text p = tokenPlace text (itemsOf text) (getD (nameSpots (notedOf (outcomeOf text))) p 0)
 
 -- a struct or union without a lawful value; none that has none is named before this place
 pub record FirstEndless (text : List ℕ) (place : ℕ) : Type 0 where
@@ -40,5 +40,5 @@ pub record FirstEndless (text : List ℕ) (place : ℕ) : Type 0 where
 
 -- A definition free of every fault checked before number 10 is refused as endless exactly when one of its structs or unions
 -- has no lawful value, however long or deep. The place is then the name of the first such in the text.
-abbrev pub EndlessPromise : List ℕ → Answer → Type 0
+abbrev pub EndlessPromise : List ℕ → CompileAnswer → Type 0
 EndlessPromise text answer = ((n p : ℕ) → answer ≡ refusal n p → 10 ≤ n) → (place : ℕ) → (answer ≡ refusal 10 place) ↔ FirstEndless text place

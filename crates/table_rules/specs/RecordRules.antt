@@ -10,7 +10,7 @@ use Rattle.definition_rules.specs.Words.{nameForm, tagForm, kindIsCompound}
 use Rattle.reading_rules.specs.Record.{Record, Up, top, under, recordAt, isTop, sameUp}
 use Rattle.definition_rules.specs.Declarations.{BodyMode, inFields, groupOpened, inGroup, groupsClosed, Frame, frame, parentOf}
 use Rattle.definition_rules.specs.Records.{kindLeast, kindMost}
-use Rattle.definition_rules.specs.Faults.{isUnionAt, isAlternative, voidMany, rule7Broken, tagRepeated, rootNoStruct, Key, key, isNew}
+use Rattle.definition_rules.specs.Faults.{isUnionAt, isAlternative, voidMany, rule7Broken, tagRepeated, rootNoStruct, Key, key, isNewKey}
 use Rattle.definition_rules.specs.Finite.{finites, isEndless}
 use Rattle.definition_rules.specs.Table.{Maybe, none, just, decode}
 
@@ -123,7 +123,7 @@ shownNames (r ∷ rs) = keyIf (showsName r) (key (r .parent) (r .label)) (shownN
 -- "no name twice among tops, no name twice among the untagged fields of a body"
 unfoldable pub allNew : List Key → Bool
 allNew [] = true
-allNew (k ∷ ks) = isNew k ks && allNew ks
+allNew (k ∷ ks) = isNewKey k ks && allNew ks
 
 -- what the compiler's checks say of records alone: void counts, rule 7, wire tags, the root, finite values
 unfoldable pub recordChecks : List Record → Bool

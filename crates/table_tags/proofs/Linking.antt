@@ -15,26 +15,26 @@ use Rattle.numbers.specs.Limits.{parameterLimit}
 use Rattle.reading_rules.specs.Record.{Record}
 use Rattle.table_records.specs.Stored.{headCells, recordCells, cellPlace, cellIn, keptIn, recordIn, recordsFrom}
 use Rattle.table_records.proofs.Laws.{records-agree, records-more, records-end, cell-agree, record-past-heads, link-cell, link-record, link-head, link-size, link-there}
-use Rattle.table_tags.specs.Lists.{keyOf, keyIn, nextIn, Cleared, Linked, inFront}
+use Rattle.table_tags.specs.Lists.{listKey, keyIn, nextIn, Cleared, Linked, inFront}
 
 -- ---- keys
 
 module _ (p : ℕ) (w : List ℕ) where
-  pub key-none : length w ≡ 0 → p % headCells ≡ keyOf p w
-  unfolding keyOf pick
+  pub key-none : length w ≡ 0 → p % headCells ≡ listKey p w
+  unfolding listKey pick
   key-none e = rw (eq-eqb (length w) 0 e)
 
   module _ (h : length w ≡ 0 → ⊥) where
-    pub key-few : length w < 3 → (p % headCells + length w + getD w (length w - 1) 0) % headCells ≡ keyOf p w
-    unfolding keyOf pick
+    pub key-few : length w < 3 → (p % headCells + length w + getD w (length w - 1) 0) % headCells ≡ listKey p w
+    unfolding listKey pick
     key-few l = rw (ne-eqb (length w) 0 h, lt-ltb (length w) 3 l)
 
-    pub key-many : 3 ≤ length w → (p % headCells + length w % headCells + getD w (length w - 1) 0 + 10 * getD w (length w - 2) 0 + 100 * getD w (length w - 3) 0) % headCells ≡ keyOf p w
-    unfolding keyOf pick
+    pub key-many : 3 ≤ length w → (p % headCells + length w % headCells + getD w (length w - 1) 0 + 10 * getD w (length w - 2) 0 + 100 * getD w (length w - 3) 0) % headCells ≡ listKey p w
+    unfolding listKey pick
     key-many l = rw (ne-eqb (length w) 0 h, le-ltb (length w) 3 l)
 
-  pub key-small : keyOf p w < headCells
-  unfolding keyOf
+  pub key-small : listKey p w < headCells
+  unfolding listKey
   key-small = by (eqb (length w) 0) (ltb (length w) 3)
     where
       by : (a b : Bool) → pick a (p % headCells) (pick b ((p % headCells + length w + getD w (length w - 1) 0) % headCells) ((p % headCells + length w % headCells + getD w (length w - 1) 0 + 10 * getD w (length w - 2) 0 + 100 * getD w (length w - 3) 0) % headCells)) < headCells

@@ -17,7 +17,7 @@ use Rattle.reading_rules.proofs.Rules.{same-bytes}
 use Rattle.definition_rules.specs.Table.{upNumber}
 use Rattle.table_records.specs.Stored.{headCells, cellIn, recordIn, recordsFrom, recordsAt}
 use Rattle.table_records.proofs.Laws.{records-more, records-end, records-all, records-agree}
-use Rattle.table_tags.specs.Lists.{keyOf, keyIn, nextIn, Linked, Links, searchFrom, searched}
+use Rattle.table_tags.specs.Lists.{listKey, keyIn, nextIn, Linked, Links, searchFrom, searched}
 use Rattle.table_tags.proofs.Linking.{key-small, next-here, next-later}
 
 -- ---- the first record of some
@@ -88,7 +88,7 @@ links-records t cs after n l = records-agree t after cs n 0 (λ k a b. l .same k
 -- ---- the first of all
 
 -- a field of p with the tag is in the tag's list
-tagged-key : (p : ℕ) (w : List ℕ) (r : Record) → isTaggedAs p w r ≡ true → keyIn r ≡ keyOf p w
+tagged-key : (p : ℕ) (w : List ℕ) (r : Record) → isTaggedAs p w r ≡ true → keyIn r ≡ listKey p w
 tagged-key p w r e = and-both (isTaggedOf p r) (sameBytes (r .label) w) e (λ a b. and-both (isUnder p (r .parent)) (not (r .untagged)) a (λ c d. rw (up (r .parent) c, same-bytes (r .label) w b)))
   where
     up : (u : Up) → isUnder p u ≡ true → upNumber u ≡ p
@@ -100,7 +100,7 @@ module _ (t cs : List ℕ) (n p : ℕ) (w : List ℕ) (l : Linked t cs n 0) wher
   f = isTaggedAs p w
 
   abbrev h : ℕ
-  h = keyOf p w
+  h = listKey p w
 
   -- record i, and what is found from i + 1 on
   along-one : (i k : ℕ) → i < n → n - i ≤ k → ((k : ℕ) → n - (i + 1) ≤ k → searchFrom t cs n p w k (nextIn h (i + 1) (recordsFrom t cs (n - (i + 1)) (i + 1))) ≡ firstWhere f (i + 1) (recordsFrom t cs (n - (i + 1)) (i + 1))) → searchFrom t cs n p w k (nextIn h i (recordsFrom t cs (n - i) i)) ≡ firstWhere f i (recordsFrom t cs (n - i) i)

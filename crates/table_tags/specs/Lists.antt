@@ -20,14 +20,14 @@ foundOf Nowhere = schema.nowhere
 foundOf (At q) = schema.found q
 
 -- the number of the list for a label in the body of p
-unfoldable pub keyOf : ℕ → List ℕ → ℕ
-keyOf p w =
+unfoldable pub listKey : ℕ → List ℕ → ℕ
+listKey p w =
     pick (eqb (length w) 0) (p % headCells)
     (pick (ltb (length w) 3) ((p % headCells + length w + getD w (length w - 1) 0) % headCells)
     ((p % headCells + length w % headCells + getD w (length w - 1) 0 + 10 * getD w (length w - 2) 0 + 100 * getD w (length w - 3) 0) % headCells))
 
 abbrev pub keyIn : Record → ℕ
-keyIn r = keyOf (upNumber (r .parent)) (r .label)
+keyIn r = listKey (upNumber (r .parent)) (r .label)
 
 -- one more than the number of the first record from i on that is in list h; 0 where there is none
 unfoldable pub nextIn : ℕ → ℕ → List Record → ℕ
@@ -61,4 +61,4 @@ searchFrom t cs n p w (suc k) zero = schema.nowhere
 searchFrom t cs n p w (suc k) (suc q) = pick (ltb q n) (pick (isTaggedAs p w (recordIn t cs q)) (schema.found q) (searchFrom t cs n p w k (cellIn cs q 10))) schema.nowhere
 
 abbrev pub searched : List ℕ → List ℕ → ℕ → ℕ → List ℕ → schema.Found
-searched t cs n p w = searchFrom t cs n p w n (getD cs (keyOf p w) 0)
+searched t cs n p w = searchFrom t cs n p w n (getD cs (listKey p w) 0)

@@ -7,7 +7,7 @@ ghost use Rattle.numbers.specs.Limits.{parameterLimit};
 ghost use Rattle.reading_rules.specs.Schema.{isTaggedAs};
 ghost use Rattle.definition_rules.specs.Faults.{tagRepeated};
 ghost use Rattle.table_records.specs.Stored.{headCells, recordCells, recordIn, recordsAt};
-ghost use Rattle.table_tags.specs.Lists.{foundOf, keyOf, keyIn, inFront, Cleared, Linked, Links, searched};
+ghost use Rattle.table_tags.specs.Lists.{foundOf, listKey, keyIn, inFront, Cleared, Linked, Links, searched};
 
 // What a search finds.
 pub enum Found {
@@ -27,7 +27,7 @@ fn wide(b: u8) -> usize
 
 // The number of the list for a label in the body of p, by p and the label's length and last bytes.
 fn key(p: usize, word: &[u8]) -> usize
-    ensures { λ r. ⌜ r ≡ keyOf p (now (word .entry)) ⌝ }
+    ensures { λ r. ⌜ r ≡ listKey p (now (word .entry)) ⌝ }
 {
     let n = word.len();
     if n == 0 {

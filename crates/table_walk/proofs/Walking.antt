@@ -15,7 +15,7 @@ use Rattle.definition_rules.specs.Table.{Maybe, none, just, decodeRecord, decod
 use Rattle.definition_rules.proofs.TableLaws.{none-just}
 use Rattle.table_records.specs.Stored.{headCells, recordCells, storedAt, recordsFrom, recordsAt, Unpacked}
 use Rattle.table_records.proofs.Laws.{length-records, records-one-more, records-unpacked}
-use Rattle.table_walk.specs.Walked.{isWhole, lengthAt, Enough, Counted, Uncounted}
+use Rattle.table_walk.specs.Walked.{isWhole, lengthAt, Enough, RecordsCounted, Uncounted}
 use Rattle.table_walk.proofs.Decoding.{short-record, whole-record, wrong-length, wrong-flags, cut-label}
 
 -- ---- the length that the code finds
@@ -134,7 +134,7 @@ along-start t unpacked = record {
     e = omega arith
 
 module _ (t unpacked : List ℕ) (n at : ℕ) (a : Along t unpacked n at) where
-  pub along-end : length t ≤ at → Enough (length t) (length unpacked) → Counted t unpacked n
+  pub along-end : length t ≤ at → Enough (length t) (length unpacked) → RecordsCounted t unpacked n
   along-end h r = record {
     few = a .few;
     long = omega (arith, a .least, a .inside);

@@ -28,7 +28,7 @@ abbrev pub Enough : ℕ → ℕ → Type 0
 Enough bytes room = (n : ℕ) → n ≤ parameterLimit → 24 * n ≤ bytes → headCells + recordCells * n ≤ room
 
 -- what a walk says: the table is these records, no more than there may be
-pub record Counted (t unpacked : List ℕ) (n : ℕ) : Type 0 where
+pub record RecordsCounted (t unpacked : List ℕ) (n : ℕ) : Type 0 where
   pub few : n ≤ parameterLimit
   pub long : 24 * n ≤ length t
   pub these : decode t ≡ just (recordsAt t unpacked n)
@@ -38,5 +38,5 @@ abbrev pub Uncounted : List ℕ → Type 0
 Uncounted t = (rs : List Record) → decode t ≡ just rs → parameterLimit < length rs
 
 unfoldable pub Walked : List ℕ → List ℕ → Walk → Type 0
-Walked t unpacked (Count n) = Counted t unpacked n
+Walked t unpacked (Count n) = RecordsCounted t unpacked n
 Walked t unpacked Bad = Uncounted t

@@ -3,7 +3,7 @@ use mathlib.Core.List.{List, [], _∷_}
 use mathlib.Core.Path.{_≡_, refl}
 use Prim.Native.Nat.{ℕ}
 use Rattle.test_frames.specs.declared.Front.the-variants.{Part, Long, Whole}
-use Rattle.test_frames.specs.Frame.{headOf, frontBy}
+use Rattle.test_frames.specs.Frame.{frameHead, frontBy}
 use Rattle.classes.specs.Lists.{every}
 use Rattle.text.specs.Text.{each, hexByte, placesFrom, decimal, spaced}
 use Rattle.test_frames.specs.Lines.{keptText, okText, refusedText, tableLine, rowsLine, refusedLine, bytesLine}
@@ -40,8 +40,8 @@ whole = 3 ∷ 0 ∷ 0 ∷ 0 ∷ 0 ∷ 2 ∷ 0 ∷ 0 ∷ 0 ∷ 0 ∷ 0 ∷ 0 ∷ 
 long : List ℕ
 long = 3 ∷ 0xA1 ∷ 0x86 ∷ 1 ∷ 0 ∷ 2 ∷ 0 ∷ 0 ∷ 0 ∷ 0 ∷ 0 ∷ 0 ∷ 0 ∷ 97 ∷ []
 
-fronts : (frontBy cut (headOf cut) ≡ Part)
-    × (frontBy whole (headOf whole) ≡ Whole (record { kind = 3; room = 0; a = 2; b = 0 }))
-    × (frontBy long (headOf long) ≡ Long 15)
-unfolding frontBy headOf cut whole long
+fronts : (frontBy cut (frameHead cut) ≡ Part)
+    × (frontBy whole (frameHead whole) ≡ Whole (record { kind = 3; room = 0; a = 2; b = 0 }))
+    × (frontBy long (frameHead long) ≡ Long 15)
+unfolding frontBy frameHead cut whole long
 fronts = (refl, refl, refl)

@@ -10,8 +10,8 @@ use Rattle.test_frames.specs.declared.Front.{Front}
 use Rattle.test_frames.specs.declared.Front.the-variants.{Part, Long, Whole}
 
 -- kind u8, room u32, a u32, b u32
-unfoldable pub headOf : List ℕ → Head
-headOf s = record { kind = getD s 0 0; room = le32 s 1; a = le32 s 5; b = le32 s 9 }
+unfoldable pub frameHead : List ℕ → Head
+frameHead s = record { kind = getD s 0 0; room = le32 s 1; a = le32 s 5; b = le32 s 9 }
 
 -- the head, the a bytes and the b bytes
 abbrev pub lengthOf : Head → ℕ

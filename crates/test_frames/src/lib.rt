@@ -5,7 +5,7 @@ ghost use mathlib.Core.Path.{_≡_};
 ghost use Prim.Native.Nat.{_+_, _*_, min, max};
 ghost use lib.ListN.{length, replicate};
 ghost use lib.Seq.{sets};
-ghost use Rattle.test_frames.specs.Frame.{headOf, lengthOf, frontBy};
+ghost use Rattle.test_frames.specs.Frame.{frameHead, lengthOf, frontBy};
 ghost use Rattle.test_frames.specs.Lent.{keptFrom, Words};
 ghost use Rattle.text.specs.Text.{partOf, Wrote, each, spaced};
 ghost use Rattle.test_frames.specs.Lines.{keptText, refusedText, tableLine, rowsLine, refusedLine, yesLine, bytesLine};
@@ -39,7 +39,7 @@ pub enum Front {
 }
 
 fn head_of(s: &[u8]) -> Head
-    ensures { λ r. ⌜ r ≡ headOf (now (s .entry)) ⌝ }
+    ensures { λ r. ⌜ r ≡ frameHead (now (s .entry)) ⌝ }
 {
     Head {
         kind: numbers::byte_at(s, 0),
@@ -66,7 +66,7 @@ fn largest(h: Head) -> usize
 }
 
 pub fn next(s: &[u8]) -> Front
-    ensures { λ r. ⌜ r ≡ frontBy (now (s .entry)) (headOf (now (s .entry))) ⌝ }
+    ensures { λ r. ⌜ r ≡ frontBy (now (s .entry)) (frameHead (now (s .entry))) ⌝ }
 {
     let h = head_of(s);
     let length = length_of(h);

@@ -1,5 +1,5 @@
 use Rattle.text.proofs.Writing.{both}
-use Rattle.cli_wording.specs.Sayings.{refusedLine, bytes}
+use Rattle.cli_wording.specs.Sayings.{meaningLine, bytes}
 use borrow.Author.Needs.{needs}
 use Rattle.cli_wording.proofs.put_refused.Statement.{statement}
 use Rattle.cli_wording.proofs.put_refused.Tie as tie
@@ -29,7 +29,7 @@ same-length : tie.Need-same-length
 same-length c = search needs
 
 returns : tie.Need-returns
-unfolding refusedLine bytes
+unfolding meaningLine bytes
 returns c = both (both (both (both (c .before .before .before .before .before .before .before .before .before .before .before .before .before .before .before .before .before .before .before .put-text .ensures) (c .before .before .before .before .before .before .before .before .before .before .before .before .before .before .before .put-decimal .ensures)) (c .before .before .before .before .before .before .before .before .before .before .put-text2 .ensures)) (c .before .before .before .before .before .before .put-meaning .ensures)) (c .before .before .put-byte .ensures)
 
 pub put-refused-spec : {M : Type 1} → statement M

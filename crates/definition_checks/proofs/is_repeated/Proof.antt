@@ -1,7 +1,7 @@
 use borrow.Author.Needs.{needs}
 use mathlib.Core.Path.{_≡_, refl, sym, ap, _∙_}
 use mathlib.Core.Bool.{not}
-use Rattle.definition_rules.specs.Faults.{isNew}
+use Rattle.definition_rules.specs.Faults.{isNewKey}
 use Rattle.definition_checks.specs.Checks.{keyAt, keysBelow}
 use Rattle.definition_checks.proofs.CheckLaws.{below-same, below-other, below-end}
 use Rattle.definition_checks.proofs.is_repeated.Statement.{statement}
@@ -11,7 +11,7 @@ use Rattle.definition_checks.proofs.is_repeated.Lts as lts
 use Rattle.definition_checks.proofs.same_key.Reads as same-key-reads
 
 abbrev Inv-loop : tie.InvT-loop
-Inv-loop text cells i j₀ j = not (isNew (keyAt text cells i) (keysBelow text cells i)) ≡ not (isNew (keyAt text cells i) (keysBelow text cells j))
+Inv-loop text cells i j₀ j = not (isNewKey (keyAt text cells i) (keysBelow text cells i)) ≡ not (isNewKey (keyAt text cells i) (keysBelow text cells j))
 
 abbrev μ-loop : tie.MeasureT-loop
 μ-loop text cells i j₀ j = j

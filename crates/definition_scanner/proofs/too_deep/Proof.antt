@@ -1,14 +1,14 @@
 use borrow.Author.Tests.{eq-eqb, ne-eqb}
-use Rattle.definition_rules.specs.Scan.{tooDeep}
+use Rattle.definition_rules.specs.Scan.{isDeepBrace}
 use Rattle.definition_scanner.proofs.too_deep.Statement.{statement}
 use Rattle.definition_scanner.proofs.too_deep.Tie as tie
 
 returns : tie.Need-returns
-unfolding tooDeep
+unfolding isDeepBrace
 returns c = rw (eq-eqb _ _ (c .if1 .taken))
 
 returns-2 : tie.Need-returns-2
-unfolding tooDeep
+unfolding isDeepBrace
 returns-2 c = rw (ne-eqb _ _ (c .if1 .left))
 
 pub too-deep-spec : {M : Type 1} → statement M

@@ -1,6 +1,6 @@
 use mathlib.Core.Path.{_≡_, refl, sym, ap, _∙_}
 use native.Mathlib.Omega.{arith}
-use Rattle.definition_writer.specs.Written.{cutBytes, recordAt}
+use Rattle.definition_writer.specs.Written.{cutBytes, recordWritten}
 use Rattle.definition_writer.proofs.WriteLaws.{sets-out, record-is}
 use borrow.Author.Needs.{needs}
 use Rattle.definition_writer.proofs.write_record.Statement.{statement}
@@ -22,7 +22,7 @@ use Rattle.definition_writer.proofs.put_limit.Reads as put-limit-reads
 
 -- src/lib.rt:77:9
 returns : tie.Need-returns
-returns c = sym (sets-out (cutBytes (recordAt (c .before .before .before .before .args .text .now) (c .before .before .before .before .args .cells .now) (c .before .before .before .before .args .n) (c .before .before .before .before .args .i))) (c .before .before .before .before .args .table .now) (c .before .before .before .before .args .at) (c .if1 .taken))
+returns c = sym (sets-out (cutBytes (recordWritten (c .before .before .before .before .args .text .now) (c .before .before .before .before .args .cells .now) (c .before .before .before .before .args .n) (c .before .before .before .before .args .i))) (c .before .before .before .before .args .table .now) (c .before .before .before .before .args .at) (c .if1 .taken))
 
 -- src/lib.rt:79:9
 label-requires : tie.Need-label-requires

@@ -7,7 +7,7 @@ use lib.ListN.{length}
 use lib.Seq.{sets}
 use Rattle.reading_rules.specs.Record.{Record}
 use Rattle.definition_rules.specs.Table.{encode}
-use Rattle.definition_writer.specs.Written.{recordsIn, recordsAfter, encodeCut}
+use Rattle.definition_writer.specs.Written.{recordsWritten, recordsAfter, encodeCut}
 use Rattle.definition_writer.proofs.WriteLaws.{records-start, length-start, bytes-more, length-more, bytes-end, length-end}
 use Rattle.definition_writer.proofs.write_records.Statement.{statement}
 use Rattle.definition_writer.proofs.write_records.Tie as tie
@@ -17,7 +17,7 @@ use Rattle.definition_writer.proofs.record_length.Reads as record-lengt
 use Rattle.definition_writer.proofs.write_record.Reads as write-record-reads
 
 abbrev Inv-loop : tie.InvT-loop
-Inv-loop text cells n table₀ i₀ at₀ table i at = (length (encode (recordsIn text cells n)) ≡ at + length (encode (recordsAfter text cells n i))) × (sets table₀ 0 (encodeCut (recordsIn text cells n)) ≡ sets table at (encodeCut (recordsAfter text cells n i))) × (at ≤ 65559 * i) × (i ≤ n) × (length table ≡ length table₀)
+Inv-loop text cells n table₀ i₀ at₀ table i at = (length (encode (recordsWritten text cells n)) ≡ at + length (encode (recordsAfter text cells n i))) × (sets table₀ 0 (encodeCut (recordsWritten text cells n)) ≡ sets table at (encodeCut (recordsAfter text cells n i))) × (at ≤ 65559 * i) × (i ≤ n) × (length table ≡ length table₀)
 
 abbrev μ-loop : tie.MeasureT-loop
 μ-loop text cells n table₀ i₀ at₀ table i at = n - i

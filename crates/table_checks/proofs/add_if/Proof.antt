@@ -1,6 +1,6 @@
 use mathlib.Core.Path.{refl, sym, _∙_}
 use Rattle.classes.specs.Lists.{pick}
-use Rattle.table_checks.specs.Sweeps.{isNew, addIf}
+use Rattle.table_checks.specs.Sweeps.{isNewlyFinite, addIf}
 use borrow.Author.Needs.{needs}
 use Rattle.table_checks.proofs.add_if.Statement.{statement}
 use Rattle.table_checks.proofs.add_if.Tie as tie
@@ -12,7 +12,7 @@ same-length : tie.Need-same-length
 same-length c = search needs
 
 returns : tie.Need-returns
-unfolding isNew addIf pick
+unfolding isNewlyFinite addIf pick
 returns c = rw (sym (c .before .has .ensures) ∙ c .if1 .taken) (refl, refl)
 
 has-value-requires : tie.Need-has-value-requires
@@ -25,14 +25,14 @@ same-length-2 : tie.Need-same-length-2
 same-length-2 c = search needs
 
 returns-2 : tie.Need-returns-2
-unfolding isNew addIf pick
+unfolding isNewlyFinite addIf pick
 returns-2 c = rw (c .before .before .put .ensures, sym (c .before .before .before .before .before .before .before .before .has .ensures) ∙ c .before .before .before .before .before .before .before .if1 .left, sym (c .before .before .before .before .before .has-value .ensures) ∙ c .before .before .before .before .if2 .taken) (refl, refl)
 
 same-length-3 : tie.Need-same-length-3
 same-length-3 c = search needs
 
 returns-3 : tie.Need-returns-3
-unfolding isNew addIf pick
+unfolding isNewlyFinite addIf pick
 returns-3 c = rw (sym (c .before .before .before .before .has .ensures) ∙ c .before .before .before .if1 .left, sym (c .before .has-value .ensures) ∙ c .if2 .left) (refl, refl)
 
 pub add-if-spec : {M : Type 1} → statement M
