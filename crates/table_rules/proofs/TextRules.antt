@@ -22,10 +22,10 @@ use Rattle.definition_rules.specs.Finite.{finites, isEndless}
 use Rattle.definition_rules.specs.Table.{upNumber, encode, decode, Maybe, none, just}
 use Rattle.definition_rules.specs.Records.{kindLeast, kindMost, limitsOf, countRangeOf, topName, topNames, isNamed, findTop, orNone, targetOf, isTagless, labelOf, recordFor, recordsFor, recordsOf}
 use Rattle.definition_rules.specs.Faults.{spotsWhere, recordSpots, nameSpots, faults4, nameBroken, referenceBroken, tagBrokenIn, tagBroken, faults5, withinKind, countFine, rangeBroken, countBroken, kindOfDeclaration, kindsOf, isUnionAt, isAlternative, isGiven, countOnAlternative, voidMany, faults6, rule7Broken, faults7, nameKey, repeatedNames, tagRepeated, faults8, rootNoStruct, dangling, faults9, faults10, Key, key}
-use Rattle.definition_rules.specs.Compile.{faults2, faults3, notedOf, checksOf, outcomeOf, recordsOfText, checksAfter, checksFrom, checks, verdict, verdictOf, clean, refused, table, Check, check, Finding, fault, findingOf, firstFault, tokenPlaces, faults1}
+use Rattle.definition_rules.specs.Compile.{faults2, faults3, notedOf, checksOf, outcomeOf, recordsOfText, checksAfter, checksFrom, checks, verdict, verdictOf, clean, refused, table, Check, check, Finding, fault, findingOf, firstFault, tokenPlaces, faults1, Empty, AllEmpty}
 use Rattle.table_rules.specs.RecordRules.{isOpen, closedTo, inExtension, pushIf, mayStand, standsIn, ordered, kindsOfRecords, isSingleValue, isTopAt, targetFine, showsName, labelFine, topFine, recordFine, everyRecord, noneBroken, keyIf, shownNames, recordChecks, recordRules, rulesOf, tableRules}
 use Rattle.definition_rules.proofs.TableLaws.{All, Storable, decode-encode, Byte, encode-decode}
-use Rattle.definition_rules.proofs.FirstFault.{Empty, AllEmpty, table-clean}
+use Rattle.definition_rules.proofs.FirstFault.{table-clean}
 use Rattle.definition_rules.proofs.FormSound.{complete-fits}
 use Rattle.table_rules.proofs.Spelling.{nest, deep-nest}
 use Rattle.table_rules.proofs.FlatPrint.{pushed, FitsOn, InOrder, closed-top}

@@ -17,7 +17,6 @@ use Rattle.reading_rules.specs.Record.{Up, top}
 use Rattle.definition_rules.specs.Declarations.{Declaration, declaration, BodyMode, inFields, groupOpened, inGroup, groupsClosed, Frame, frame}
 use Rattle.table_rules.specs.RecordRules.{isOpen, closedTo, inExtension, pushIf}
 use Rattle.definition_rules.proofs.TableLaws.{All}
-use Rattle.definition_rules.proofs.Stuck.{token}
 use Rattle.table_rules.proofs.Numerals.{writeDigits, writeNat, writeInt}
 use Rattle.table_rules.proofs.Spelling.{printToken, printTokens}
 use Rattle.table_rules.proofs.FlatPrint.{putEndOf, putHeading, pushed, putClose, putCloses, putOpen, printFlat}
