@@ -87,6 +87,12 @@ unfolding firstFault findingOf AllEmpty Empty
 empty-clean [] a = refl
 empty-clean (check n ps ∷ cs) a = rw (a .0) (empty-clean cs (a .1))
 
+-- a number other than that of the first check is a later one's
+pub pass : (n m p : ℕ) (ps : List ℕ) (cs : List Check) → firstFault (check n ps ∷ cs) ≡ fault m p → (n ≡ m → ⊥) → (ps ≡ []) × (firstFault cs ≡ fault m p)
+unfolding firstFault findingOf
+pass n m p [] cs e f = (refl, e)
+pass n m p (q ∷ r) cs e f = let x : n ≡ m = cc in absurd (f x)
+
 -- ---- the verdict
 
 refused-is : (n m p q : ℕ) → refused n p ≡ refused m q → (n ≡ m) × (p ≡ q)

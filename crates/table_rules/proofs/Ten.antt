@@ -18,10 +18,10 @@ use Rattle.definition_rules.specs.Records.{topNames, recordsOf}
 use Rattle.definition_rules.specs.Faults.{recordSpots, nameSpots, faults10}
 use Rattle.definition_rules.specs.Finite.{finites, isEndless}
 use Rattle.definition_rules.specs.Compile.{Check, check, Finding, clean, fault, leastOf, findingOf, firstFault, tokenPlace, tokenPlaces, notedOf, outcomeOf, recordsOfText, checks, checksFrom, checksAfter, checksOf, verdictOf, Verdict, refused, table, verdict, CompileAnswer, compiled, refusal, answerWithRoom, compileAnswer, IsPlace, Least}
-use Rattle.definition_rules.proofs.FirstFault.{least-of}
+use Rattle.definition_rules.proofs.FirstFault.{least-of, pass}
 use Rattle.table_rules.specs.RecordRules.{noneBroken}
 use Rattle.table_rules.specs.Endless.{LawfulValue, Compound, namePlace, FirstEndless, EndlessPromise}
-use Rattle.table_rules.proofs.TextRules.{pass, length-records, noted-length, text-ten, text-rules-records}
+use Rattle.table_rules.proofs.TextRules.{length-records, noted-length, text-ten, text-rules-records}
 use Rattle.table_rules.proofs.Facts.{Formed}
 use Rattle.table_rules.proofs.Values.{endless-iff, rules-values}
 

@@ -25,7 +25,7 @@ use Rattle.definition_rules.specs.Faults.{spotsWhere, recordSpots, nameSpots, f
 use Rattle.definition_rules.specs.Compile.{faults2, faults3, notedOf, checksOf, outcomeOf, recordsOfText, checksAfter, checksFrom, checks, verdict, verdictOf, clean, refused, table, Check, check, Finding, fault, findingOf, firstFault, tokenPlaces, faults1, Empty, AllEmpty}
 use Rattle.table_rules.specs.RecordRules.{isOpen, closedTo, inExtension, pushIf, mayStand, standsIn, ordered, kindsOfRecords, isSingleValue, isTopAt, targetFine, showsName, labelFine, topFine, recordFine, everyRecord, noneBroken, keyIf, shownNames, recordChecks, recordRules, rulesOf, tableRules}
 use Rattle.definition_rules.proofs.TableLaws.{All, Storable, decode-encode, Byte, encode-decode}
-use Rattle.definition_rules.proofs.FirstFault.{table-clean}
+use Rattle.definition_rules.proofs.FirstFault.{pass, table-clean}
 use Rattle.definition_rules.proofs.FormSound.{complete-fits}
 use Rattle.table_rules.proofs.Spelling.{nest, deep-nest}
 use Rattle.table_rules.proofs.FlatPrint.{pushed, FitsOn, InOrder, closed-top}
@@ -491,11 +491,6 @@ module _ (items : List Item) (ns : List Noted) (e : parseTokens (textTokensOf it
   storable = storables T rs (isUnionAt (kindsOf ds)) ds [] 0 (unfold Desc in tt) (standing .0 .0) (omega (arith, few)) fines
 
 -- ---- number 10 is given: what the other checks leave
-
-pub pass : (n m p : ℕ) (ps : List ℕ) (cs : List Check) → firstFault (check n ps ∷ cs) ≡ fault m p → (n ≡ m → ⊥) → (ps ≡ []) × (firstFault cs ≡ fault m p)
-unfolding firstFault findingOf
-pass n m p [] cs e f = (refl, e)
-pass n m p (q ∷ r) cs e f = let x : n ≡ m = cc in absurd (f x)
 
 cleared-ten : (text : List ℕ) (items : List Item) (o : Outcome (List Noted)) (ns : List Noted) (rs : List Record) (p : ℕ) → firstFault (checksOf text items o ns rs) ≡ fault 10 p → Cleared items ns rs × (faults3 o ≡ []) × (faults10 rs ns ≡ [] → ⊥)
 unfolding checksOf
