@@ -10,6 +10,7 @@ pub mod CutLaws
 pub mod RowLaws
 pub mod Spans
 pub mod Nest
+pub mod Rising
 -- T9, T11 to T14, T17
 pub mod Promises
 pub mod Compiled

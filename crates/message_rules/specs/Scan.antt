@@ -160,6 +160,13 @@ Faulty at bytes (l ∷ ls) bad =
     × (l .end ≡ l .start + spelledLength (l .token))
     × Faulty (l .end) rest ls bad
 
+-- "Tokens: a word .., a string .., and `= , { }`": a message is its tokens in one way, or has a first bad byte
+pub data Cutting (message : List ℕ) : Type 0 where
+  -- it spells these tokens and no others
+  whole : (ls : List Lexeme) → Spelled 0 message ls → ((ms : List Lexeme) → Spelled 0 message ms → ls ≡ ms) → Cutting message
+  -- it spells none: after these tokens stands a byte with which no token begins
+  broken : (ls : List Lexeme) (bad : ℕ) → Faulty 0 message ls bad → ((ms : List Lexeme) → Spelled 0 message ms → ⊥) → ((ms : List Lexeme) (place : ℕ) → Faulty 0 message ms place → (ls ≡ ms) × (bad ≡ place)) → Cutting message
+
 unfoldable pub tokensOf : List Lexeme → List Token
 tokensOf [] = []
 tokensOf (l ∷ ls) = l .token ∷ tokensOf ls
