@@ -6,6 +6,7 @@ pub mod Places
 -- T10: tokens
 pub mod Spelling
 pub mod CutLaws
+pub mod TokenFaults
 -- T18: rows
 pub mod RowLaws
 pub mod Spans

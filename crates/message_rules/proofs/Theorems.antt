@@ -16,7 +16,7 @@ use Rattle.reading_rules.specs.Reading.{Tree, body, leaves}
 use Rattle.reading_rules.proofs.CountLaws.{clash-bool, and-both}
 use Rattle.table_rules.specs.Compilable.{Compilable}
 use Rattle.table_rules.proofs.Theorems.{rules-iff}
-use Rattle.message_rules.specs.Scan.{Lexeme, Spelled, Faulty, Cutting, whole, broken, CutResult, cut, tokensOf, scanFault}
+use Rattle.message_rules.specs.Scan.{Lexeme, Spelled, Faulty, Cutting, whole, broken, CutResult, cut, tokensOf, scanFault, TokenFault}
 use Rattle.message_rules.specs.Rows.{messageRows, rowsOf, RowsStand}
 use Rattle.message_rules.specs.RowBytes.{rowBytes}
 use Rattle.reading_rules.specs.Parse.{refused, parse}
@@ -26,6 +26,7 @@ use Rattle.message_rules.proofs.RowLaws.{parents-first}
 use Rattle.message_rules.proofs.Spans.{message-inside}
 use Rattle.message_rules.proofs.Rising.{message-rises}
 use Rattle.message_rules.proofs.Nest.{message-nested}
+use Rattle.message_rules.proofs.TokenFaults.{token-fault-iff}
 use Rattle.message_rules.proofs.Promises.{long-21, fault-22, refused-21, refused-22, refused-parse, parse-refused}
 use Rattle.message_rules.proofs.Compiled.{table-reading, good-answer}
 
@@ -60,11 +61,11 @@ module _ (table message : List ℕ) (room : ℕ) (bytes : IsBytes table) (some :
         λ x. ok-answer ∙ (long-21 (recordsIn table) R message room (x .0) ∙ ap (refusal 21) (sym (x .1))),
       )
 
-  pub is-22 : (place : ℕ) → (readAnswer table message room ≡ refusal 22 place) ↔ ((length message ≤ messageLimit) × (scanFault (cut message) ≡ found place))
+  pub is-22 : (place : ℕ) → (readAnswer table message room ≡ refusal 22 place) ↔ ((length message ≤ messageLimit) × TokenFault message place)
   is-22 place =
       let R = table-reading table (rules-iff table bytes .1 some) in (
-        (λ e. refused-22 (recordsIn table) R message room place (sym ok-answer ∙ e)),
-        λ x. ok-answer ∙ fault-22 (recordsIn table) R message room place (x .0) (x .1),
+        (λ e. let x = refused-22 (recordsIn table) R message room place (sym ok-answer ∙ e) in (x .0, token-fault-iff message place .0 (x .1))),
+        λ x. ok-answer ∙ fault-22 (recordsIn table) R message room place (x .0) (token-fault-iff message place .1 (x .1)),
       )
 
   -- 23 to 28: the one that the rows of the decision table give, at the first token that is left, or the length
