@@ -8,14 +8,13 @@ use lib.Dec.{eqb}
 use lib.ListN.{length, take, drop, length-append, length-drop, take-append-drop}
 use lib.Seq.{length-take-le}
 use borrow.Author.Tests.{eqb-true, eqb-false, eq-eqb, ne-eqb, not-true, not-false}
-use Rattle.classes.specs.Lists.{pick, every, runOf}
+use Rattle.classes.specs.Lists.{pick, every, runOf, All}
 use Rattle.classes.specs.Bytes.{isRunByte, isBlank, isMark}
 use Rattle.classes.proofs.Rows.{run-within}
 use Rattle.definition_rules.specs.Words.{ByteClass, inRun, classOf}
 use Rattle.definition_rules.specs.Words as words
 use Rattle.definition_rules.specs.Scan.{run, mark, Item, gap, item, bad, outside, lineComment, opening, comment, star, startsWith, scan, itemsOf}
 use mathlib.Core.Logic.{_⊎_, inl, inr}
-use Rattle.definition_rules.proofs.TableLaws.{All}
 use Rattle.definition_rules.proofs.ScanLaws.{at-blank, at-single, at-other, at-slash, at-longest-run, StartsNoRun}
 use Rattle.definition_scanner.specs.Live.{live, liveFrom}
 use Rattle.definition_scanner.proofs.Steps.{class-run, not-run, class-blank, class-single, class-other, class-slash, comment-step, comment-stop}

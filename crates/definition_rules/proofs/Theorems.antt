@@ -8,14 +8,15 @@ use native.Mathlib.Omega.{arith}
 use lib.Dec.{ltb}
 use lib.ListN.{length, drop}
 use borrow.Author.Tests.{ltb-true, ltb-false, lt-ltb, le-ltb}
-use Rattle.classes.specs.Lists.{pick}
+use Rattle.classes.specs.Bytes.{Byte}
+use Rattle.classes.specs.Lists.{pick, All}
 use Rattle.definition_rules.specs.Scan.{TextToken}
 use Rattle.definition_rules.specs.Forms.{tops, Form, printForm, Fits, StuckBy}
 use Rattle.reading_rules.specs.Record.{Record}
 use Rattle.definition_rules.specs.Declarations.{Noted, complete, stuckAt, parseTokens, declarationsOf, treeDeclarations}
-use Rattle.definition_rules.specs.Table.{Maybe, just, encode, decode}
+use Rattle.definition_rules.specs.Table.{Maybe, just, encode, decode, Storable}
 use Rattle.definition_rules.specs.Compile.{checks, Verdict, refused, table, verdict, CompileAnswer, compiled, refusal, answerWithRoom, compileAnswer, lentAfter, tableAfter, FirstFaultIs}
-use Rattle.definition_rules.proofs.TableLaws.{All, Storable, Byte, decode-encode, encode-decode}
+use Rattle.definition_rules.proofs.TableLaws.{decode-encode, encode-decode}
 use Rattle.definition_rules.proofs.FirstFault.{refused-found, found-refused}
 use Rattle.definition_rules.proofs.FormComplete.{fits-complete}
 use Rattle.definition_rules.proofs.FormSound.{complete-fits}
