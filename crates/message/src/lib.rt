@@ -1,6 +1,6 @@
 // A message read by a compiled table, and a row's bytes.
 ghost use mathlib.Core.Path.{_≡_};
-ghost use mathlib.Core.List.{List};
+ghost use mathlib.Core.List.{List, []};
 ghost use Prim.Native.Nat.{_≤_, _<_};
 ghost use lib.ListN.{length};
 ghost use lib.Seq.{sets};
@@ -37,21 +37,28 @@ fn wide(x: u32) -> usize
     x as usize
 }
 
+fn empty_part<'a>(message: &'a [u8]) -> &'a [u8]
+    ensures { λ r. ⌜ now r ≡ [] ⌝ }
+    ensures { λ r. ⌜ r .ptr ≡ further ((message .entry) .ptr) 0 ⌝ }
+{
+    &message[0..0]
+}
+
 // A row's part of the message itself, empty where the row or its span isn't there. Any row may be asked for.
 pub fn row_bytes<'a>(message: &'a [u8], rows: &[u32], row: usize) -> &'a [u8]
     ensures { λ r. ⌜ now r ≡ rowBytes (now (message .entry)) (now (rows .entry)) row ⌝ }
     ensures { λ r. ⌜ r .ptr ≡ further ((message .entry) .ptr) (rowStart (now (message .entry)) (now (rows .entry)) row) ⌝ }
 {
     if rows.len() / ROW_WIDTH <= row {
-        return &message[0..0];
+        return empty_part(message);
     }
     let start = wide(rows[ROW_WIDTH * row + 2]);
     let end = wide(rows[ROW_WIDTH * row + 3]);
     if end < start {
-        return &message[0..0];
+        return empty_part(message);
     }
     if message.len() < end {
-        return &message[0..0];
+        return empty_part(message);
     }
     &message[start..end]
 }

@@ -21,7 +21,7 @@ part-result-end : tie.Need-part-result-end
 part-result-end c = search needs
 -- src/lib.rt:46:9
 returns : tie.Need-returns
-returns c = let x = bytes-lost _ _ _ (c .before .if1 .taken) in (x .0, ap (further (c .before .before .before .before .args .message .ptr)) (x .1))
+returns c = let x = bytes-lost _ _ _ (c .before .if1 .taken) in (c .empty-part .ensures .0 ∙ x .0, c .empty-part .ensures .1 ∙ ap (further (c .before .before .before .before .args .message .ptr)) (x .1))
 -- src/lib.rt:48:27
 mul-wide : tie.Need-mul-wide
 mul-wide c = search needs
@@ -63,7 +63,7 @@ part-result-end-2 : tie.Need-part-result-end-2
 part-result-end-2 c = search needs
 -- src/lib.rt:51:9
 returns-2 : tie.Need-returns-2
-returns-2 c = let x = bytes-back _ _ _ (c .before .before .before .before .before .before .if1 .left) (rw (c .before .before .wide2 .ensures, c .before .before .before .before .wide .ensures) at (c .before .if2 .taken)) in (x .0, ap (further (c .before .before .before .before .before .before .before .before .before .args .message .ptr)) (x .1))
+returns-2 c = let x = bytes-back _ _ _ (c .before .before .before .before .before .before .if1 .left) (rw (c .before .before .wide2 .ensures, c .before .before .before .before .wide .ensures) at (c .before .if2 .taken)) in (c .empty-part2 .ensures .0 ∙ x .0, c .empty-part2 .ensures .1 ∙ ap (further (c .before .before .before .before .before .before .before .before .before .args .message .ptr)) (x .1))
 -- src/lib.rt:54:16
 sub-result-3 : tie.Need-sub-result-3
 sub-result-3 c = search needs
@@ -75,7 +75,7 @@ part-result-end-3 : tie.Need-part-result-end-3
 part-result-end-3 c = search needs
 -- src/lib.rt:54:9
 returns-3 : tie.Need-returns-3
-returns-3 c = let x = bytes-over _ _ _ (c .before .before .before .before .before .before .before .if1 .left) (rw (c .before .before .before .wide2 .ensures, c .before .before .before .before .before .wide .ensures) at (c .before .before .if2 .left)) (rw (c .before .before .before .wide2 .ensures) at (c .before .if3 .taken)) in (x .0, ap (further (c .before .before .before .before .before .before .before .before .before .before .args .message .ptr)) (x .1))
+returns-3 c = let x = bytes-over _ _ _ (c .before .before .before .before .before .before .before .if1 .left) (rw (c .before .before .before .wide2 .ensures, c .before .before .before .before .before .wide .ensures) at (c .before .before .if2 .left)) (rw (c .before .before .before .wide2 .ensures) at (c .before .if3 .taken)) in (c .empty-part3 .ensures .0 ∙ x .0, c .empty-part3 .ensures .1 ∙ ap (further (c .before .before .before .before .before .before .before .before .before .before .args .message .ptr)) (x .1))
 -- src/lib.rt:56:5
 part-result-start-4 : tie.Need-part-result-start-4
 part-result-start-4 c = search needs
