@@ -5,6 +5,9 @@ use Prim.Native.Nat.{ℕ, _<_}
 use lib.Dec.{eqb, leb}
 use lib.ListN.{getD}
 
+abbrev pub Byte : ℕ → Type 0
+Byte b = b < 256
+
 -- a row of bytes: each number in it is under 256
 abbrev pub IsBytes : List ℕ → Type 0
 IsBytes l = (i : ℕ) → getD l i 0 < 256

@@ -9,6 +9,11 @@ unfoldable pub pick : {A : Type 0} → Bool → A → A → A
 pick true a b = a
 pick false a b = b
 
+-- each of a list is so
+unfoldable pub All : {A : Type 0} → (A → Type 0) → List A → Type 0
+All P [] = Unit {0}
+All P (a ∷ l) = P a × All P l
+
 -- all bytes are of the class
 unfoldable pub every : (ℕ → Bool) → List ℕ → Bool
 every f [] = true

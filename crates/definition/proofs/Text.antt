@@ -16,6 +16,8 @@ use Rattle.definition_rules.specs.Records.{recordsOf, topNames}
 use Rattle.definition_rules.specs.Finite.{finites, isEndless}
 use Rattle.definition_rules.specs.Faults.{spotsWhere, recordSpots, nameSpots, repeatedNames, nameBroken, referenceBroken, tagBroken, rangeBroken, countBroken, voidMany, countOnAlternative, kindsOf, rule7Broken, tagRepeated, rootNoStruct, dangling, faults4, faults5, faults6, faults7, faults8, faults9, faults10}
 use Rattle.definition_rules.specs.Compile.{Check, check, Finding, clean, fault, leastOf, firstFault, tokenPlace, tokenPlaces, faults1, faults2, faults3, notedOf, outcomeOf, recordsOfText, checksOf, checksAfter, checksFrom, checks, Verdict, refused, table, verdictOf, verdict, CompileAnswer, refusal, answerWithRoom, compileAnswer, lentAfter, tableAfter}
+use Rattle.definition_rules.specs.Stuck.{StuckPromise}
+use Rattle.definition_cutting.proofs.Stuck.{stuck-promise}
 use Rattle.table_rules.specs.Endless.{EndlessPromise}
 use Rattle.table_rules.proofs.Ten.{endless-promise}
 use Rattle.definition_cells.specs.declared.Place.{Place}
@@ -171,13 +173,13 @@ module _ (text : List ℕ) where
 -- ---- the promise
 
 abbrev pub Promised : List ℕ → List ℕ → List ℕ → CompileAnswer → Type 0
-Promised text lent after a = (a ≡ compileAnswer text (length lent)) × ((after ≡ tableAfter text lent) × EndlessPromise text a)
+Promised text lent after a = (a ≡ compileAnswer text (length lent)) × ((after ≡ tableAfter text lent) × (StuckPromise text a × EndlessPromise text a))
 
 pub keeps : (text lent after : List ℕ) (a : CompileAnswer) (v : Verdict) → verdict text ≡ v → (a ≡ answerWithRoom (length lent) v) × (after ≡ lentAfter v lent) → Promised text lent after a
 unfolding compileAnswer tableAfter
 keeps text lent after a v e x =
     let q : a ≡ compileAnswer text (length lent) = x .0 ∙ ap (answerWithRoom (length lent)) (sym e) in
-    (q, (x .1 ∙ ap (λ w. lentAfter w lent) (sym e), subst (EndlessPromise text) (sym q) (endless-promise text (length lent))))
+    (q, (x .1 ∙ ap (λ w. lentAfter w lent) (sym e), (subst (StuckPromise text) (sym q) (stuck-promise text (length lent)), subst (EndlessPromise text) (sym q) (endless-promise text (length lent)))))
 
 pub keeps-refused : (text lent : List ℕ) (k p : ℕ) → verdict text ≡ refused k p → Promised text lent lent (refusal k p)
 keeps-refused text lent k p e = keeps text lent lent (refusal k p) (refused k p) e (refuses (refused k p) lent k p refl)

@@ -10,6 +10,7 @@ ghost use Rattle.numbers.specs.Limits.{parameterLimit, textLimit};
 ghost use Rattle.reading_rules.specs.Record.{Record, Before, Nested};
 ghost use Rattle.definition_rules.specs.Table.{numberUp, just, decode};
 ghost use Rattle.definition_rules.specs.Compile.{firstFault, answerWithRoom, lentAfter, compileAnswer, tableAfter};
+ghost use Rattle.definition_rules.specs.Stuck.{StuckPromise};
 ghost use Rattle.table_rules.specs.Endless.{EndlessPromise};
 ghost use Rattle.definition_cells.specs.Cells.{cellAt, notedFrom};
 ghost use Rattle.table_records.specs.Stored.{recordsAt};
@@ -142,11 +143,13 @@ fn compile_declarations(text: &[u8], cells: &[u32], n: usize, table: &mut [u8]) 
     Compiled::Table(len)
 }
 
-// Compiles a definition into the lent table. The answer and the lent bytes after are those of the definitions; a text free of
-// every fault before number 10 is refused as endless exactly when one of its structs or unions has no lawful value, at its name.
+// Compiles a definition into the lent table. The answer and the lent bytes after are those of the definitions. A text free of
+// 1 and 2 is refused with 3 exactly when its tokens don't fit the forms, at the first that can't go on; one free of every
+// fault before 10 is refused as endless exactly when one of its structs or unions has no lawful value, at its name.
 pub fn compile(text: &[u8], table: &mut [u8]) -> Compiled
     ensures { λ r. ⌜ answerOfCompile r ≡ compileAnswer (now (text .entry)) (length (now (table .entry))) ⌝ }
     ensures { λ _. ⌜ now (table .exit) ≡ tableAfter (now (text .entry)) (now (table .entry)) ⌝ }
+    ensures { λ r. ⌜ StuckPromise (now (text .entry)) (answerOfCompile r) ⌝ }
     ensures { λ r. ⌜ EndlessPromise (now (text .entry)) (answerOfCompile r) ⌝ }
 {
     if 65535 < text.len() {

@@ -1,2 +1,3 @@
--- T1
+-- T1 and, over texts, T3
 pub mod UniqueCut
+pub mod Stuck

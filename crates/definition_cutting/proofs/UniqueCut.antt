@@ -8,18 +8,17 @@ use lib.Dec.{eqb}
 use lib.ListN.{length, take, drop, length-append, length-drop, take-append-drop}
 use lib.Seq.{length-take-le}
 use borrow.Author.Tests.{eqb-true, eqb-false, eq-eqb, ne-eqb, not-true, not-false}
-use Rattle.classes.specs.Lists.{pick, every, runOf}
+use Rattle.classes.specs.Lists.{pick, every, runOf, All}
 use Rattle.classes.specs.Bytes.{isRunByte, isBlank, isMark}
 use Rattle.classes.proofs.Rows.{run-within}
 use Rattle.definition_rules.specs.Words.{ByteClass, inRun, classOf}
 use Rattle.definition_rules.specs.Words as words
 use Rattle.definition_rules.specs.Scan.{run, mark, Item, gap, item, bad, outside, lineComment, opening, comment, star, startsWith, scan, itemsOf}
-use Rattle.definition_rules.proofs.FirstFault.{Either, left, right}
-use Rattle.definition_rules.proofs.TableLaws.{All}
+use mathlib.Core.Logic.{_⊎_, inl, inr}
 use Rattle.definition_rules.proofs.ScanLaws.{at-blank, at-single, at-other, at-slash, at-longest-run, StartsNoRun}
 use Rattle.definition_scanner.specs.Live.{live, liveFrom}
 use Rattle.definition_scanner.proofs.Steps.{class-run, not-run, class-blank, class-single, class-other, class-slash, comment-step, comment-stop}
-use Rattle.definition_cutting.specs.Cut.{StopsRun, NoLf, NoClose, Stray, Cut, ends, blank, line, lastLine, block, endless, longest, single, other}
+use Rattle.definition_rules.specs.Cut.{StopsRun, NoLf, NoClose, Stray, Cut, ends, blank, line, lastLine, block, endless, longest, single, other}
 
 -- ---- the scan of each part
 
@@ -176,15 +175,15 @@ record LineSplit (s : List ℕ) : Type 0 where
   none : NoLf front
   less : length rest < length s
 
-split-line : (s : List ℕ) → Either (NoLf s) (LineSplit s)
+split-line : (s : List ℕ) → _⊎_ (NoLf s) (LineSplit s)
 unfolding every
-split-line [] = left refl
+split-line [] = inl refl
 split-line (b ∷ s) = by (eqb b 10) refl (split-line s)
   where
-    by : (t : Bool) → eqb b 10 ≡ t → Either (NoLf s) (LineSplit s) → Either (NoLf (b ∷ s)) (LineSplit (b ∷ s))
-    by true e x = let q = eqb-true b 10 e in right (record { front = []; rest = s; is = rw q; none = refl; less = omega arith })
-    by false e (left n) = left (rw e n)
-    by false e (right x) = right (record { front = b ∷ x .front; rest = x .rest; is = ap (λ l. b ∷ l) (x .is); none = rw e (x .none); less = omega (arith, x .less) })
+    by : (t : Bool) → eqb b 10 ≡ t → _⊎_ (NoLf s) (LineSplit s) → _⊎_ (NoLf (b ∷ s)) (LineSplit (b ∷ s))
+    by true e x = let q = eqb-true b 10 e in inr (record { front = []; rest = s; is = rw q; none = refl; less = omega arith })
+    by false e (inl n) = inl (rw e n)
+    by false e (inr x) = inr (record { front = b ∷ x .front; rest = x .rest; is = ap (λ l. b ∷ l) (x .is); none = rw e (x .none); less = omega (arith, x .less) })
 
 record BlockSplit (s : List ℕ) : Type 0 where
   front : List ℕ
@@ -201,16 +200,16 @@ unfolding NoClose
 more-close b c s [] r h e n = tt
 more-close b c s (d ∷ w) r h e n = let q : c ≡ d = cc in (rw q at h, n)
 
-split-block : (s : List ℕ) → Either (NoClose s) (BlockSplit s)
+split-block : (s : List ℕ) → _⊎_ (NoClose s) (BlockSplit s)
 unfolding NoClose
-split-block [] = left tt
-split-block (b ∷ []) = left tt
+split-block [] = inl tt
+split-block (b ∷ []) = inl tt
 split-block (b ∷ c ∷ s) = by (eqb b 42 && eqb c 47) refl (split-block (c ∷ s))
   where
-    by : (t : Bool) → (eqb b 42 && eqb c 47) ≡ t → Either (NoClose (c ∷ s)) (BlockSplit (c ∷ s)) → Either (NoClose (b ∷ c ∷ s)) (BlockSplit (b ∷ c ∷ s))
-    by true e x = let q = pair-is b c e in right (record { front = []; rest = s; is = rw (q .0, q .1); none = tt; less = omega arith })
-    by false e (left n) = left (e, n)
-    by false e (right x) = right (record { front = b ∷ x .front; rest = x .rest; is = ap (λ l. b ∷ l) (x .is); none = more-close b c s (x .front) (x .rest) e (x .is) (x .none); less = omega (arith, x .less) })
+    by : (t : Bool) → (eqb b 42 && eqb c 47) ≡ t → _⊎_ (NoClose (c ∷ s)) (BlockSplit (c ∷ s)) → _⊎_ (NoClose (b ∷ c ∷ s)) (BlockSplit (b ∷ c ∷ s))
+    by true e x = let q = pair-is b c e in inr (record { front = []; rest = s; is = rw (q .0, q .1); none = tt; less = omega arith })
+    by false e (inl n) = inl (e, n)
+    by false e (inr x) = inr (record { front = b ∷ x .front; rest = x .rest; is = ap (λ l. b ∷ l) (x .is); none = more-close b c s (x .front) (x .rest) e (x .is) (x .none); less = omega (arith, x .less) })
 
 abbrev Cuts : ℕ → List ℕ → Type 0
 Cuts at s = (is : List Item) × Cut at s is
@@ -250,16 +249,16 @@ module _ (n : ℕ) (f : (at : ℕ) (s : List ℕ) → length s ≤ n → Cuts at
   cut-line : (b c : ℕ) (s : List ℕ) → suc (length s) ≤ n → b ≡ 47 → c ≡ 47 → Cuts at (b ∷ c ∷ s)
   cut-line b c s h e g = by (split-line s)
     where
-      by : Either (NoLf s) (LineSplit s) → Cuts at (b ∷ c ∷ s)
-      by (left q) = ([], lastLine {t = b ∷ c ∷ s} s (rw (e, g)) q)
-      by (right x) = let d = f (at + 3 + length (x .front)) (x .rest) (omega (arith, x .less)) in (d .0, line {t = b ∷ c ∷ s} (x .front) (x .rest) (rw (e, g) (ap (λ l. 47 ∷ 47 ∷ l) (x .is))) (x .none) (d .1))
+      by : _⊎_ (NoLf s) (LineSplit s) → Cuts at (b ∷ c ∷ s)
+      by (inl q) = ([], lastLine {t = b ∷ c ∷ s} s (rw (e, g)) q)
+      by (inr x) = let d = f (at + 3 + length (x .front)) (x .rest) (omega (arith, x .less)) in (d .0, line {t = b ∷ c ∷ s} (x .front) (x .rest) (rw (e, g) (ap (λ l. 47 ∷ 47 ∷ l) (x .is))) (x .none) (d .1))
 
   cut-block : (b c : ℕ) (s : List ℕ) → suc (length s) ≤ n → b ≡ 47 → c ≡ 42 → Cuts at (b ∷ c ∷ s)
   cut-block b c s h e g = by (split-block s)
     where
-      by : Either (NoClose s) (BlockSplit s) → Cuts at (b ∷ c ∷ s)
-      by (left q) = (bad at ∷ [], endless {t = b ∷ c ∷ s} s (rw (e, g)) q)
-      by (right x) = let d = f (at + 4 + length (x .front)) (x .rest) (omega (arith, x .less)) in (d .0, block {t = b ∷ c ∷ s} (x .front) (x .rest) (rw (e, g) (ap (λ l. 47 ∷ 42 ∷ l) (x .is))) (x .none) (d .1))
+      by : _⊎_ (NoClose s) (BlockSplit s) → Cuts at (b ∷ c ∷ s)
+      by (inl q) = (bad at ∷ [], endless {t = b ∷ c ∷ s} s (rw (e, g)) q)
+      by (inr x) = let d = f (at + 4 + length (x .front)) (x .rest) (omega (arith, x .less)) in (d .0, block {t = b ∷ c ∷ s} (x .front) (x .rest) (rw (e, g) (ap (λ l. 47 ∷ 42 ∷ l) (x .is))) (x .none) (d .1))
 
   cut-slash : (b : ℕ) (s : List ℕ) → length s ≤ n → isRunByte b ≡ false → isBlank b ≡ false → isMark b ≡ false → b ≡ 47 → Cuts at (b ∷ s)
   unfolding Stray

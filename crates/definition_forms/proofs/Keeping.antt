@@ -10,12 +10,11 @@ use lib.Dec.{eqb, ltb}
 use lib.ListN.{length, getD, set, drop, length-append, length-set}
 use lib.Seq.{sets, getD-set-same, getD-set-other, length-sets, drop-append-le}
 use Rattle.numbers.specs.Limits.{none16}
-use Rattle.classes.specs.Lists.{pick}
+use Rattle.classes.specs.Lists.{pick, All}
 use Rattle.reading_rules.specs.Record.{Up, top, under}
 use Rattle.definition_rules.specs.Declarations.{Declaration, declaration, Spots, Noted, noted}
 use Rattle.definition_rules.specs.Table.{numberUp}
 use Rattle.definition_rules.specs.Faults.{nameSpots}
-use Rattle.definition_rules.proofs.TableLaws.{All}
 use Rattle.definition_cells.specs.Cells.{cellAt, part, runAt, maybeRunAt, tagAt, notedAt, notedFrom}
 use Rattle.definition_scanner.proofs.LiveLaws.{AtLeast}
 use Rattle.definition_automaton.specs.Noting.{runCells, restCells, cellsOf}

@@ -9,16 +9,10 @@ use lib.ListN.{length, getD, replicate}
 use Rattle.classes.specs.Lists.{pick}
 use Rattle.reading_rules.specs.Record.{Record}
 use Rattle.reading_rules.specs.Schema.{isUnder}
-use Rattle.definition_rules.specs.Finite.{canDoWithout, endsNeeds, structStep, unionStep, finiteStep, round, rounds, finites}
-use Rattle.definition_rules.proofs.FirstFault.{Either, left, right}
+use Rattle.definition_rules.specs.Finite.{Sub, Closed, canDoWithout, endsNeeds, structStep, unionStep, finiteStep, round, rounds, finites}
+use mathlib.Core.Logic.{_⊎_, inl, inr}
 
--- ---- sets of parameters, as lists of one length
-
-unfoldable pub Sub : List Bool → List Bool → Type 0
-Sub [] [] = Unit {0}
-Sub [] (b ∷ t) = ⊥
-Sub (a ∷ s) [] = ⊥
-Sub (a ∷ s) (b ∷ t) = (a ≡ true → b ≡ true) × Sub s t
+-- ---- sets of parameters
 
 clash : {X : Type 0} → _≡_ {A = Bool} false true → X
 clash e = let x : _≡_ {A = ℕ} 0 1 = cc in absurd (omega arith)
@@ -100,16 +94,13 @@ module _ (rs : List Record) where
   next have = round rs have 0 rs
 
   -- "Simple types have one. A reference has one if .. A union .. A struct .."
-  abbrev pub Closed : List Bool → Type 0
-  Closed s = Sub (next s) s
-
-  rounds-in : (n : ℕ) (have s : List Bool) → Sub have s → Closed s → Sub (rounds n rs have) s
+  rounds-in : (n : ℕ) (have s : List Bool) → Sub have s → Closed rs s → Sub (rounds n rs have) s
   unfolding rounds
   rounds-in zero have s h c = h
   rounds-in (suc n) have s h c = rounds-in n (next have) s (sub-trans (next have) (next s) s (round-grows have s h rs 0 rs) c) c
 
   -- least: what is found lies in every closed set
-  pub finites-least : (s : List Bool) → length s ≡ length rs → Closed s → Sub (finites rs) s
+  pub finites-least : (s : List Bool) → length s ≡ length rs → Closed rs s → Sub (finites rs) s
   unfolding finites
   finites-least s l c = rounds-in (length rs) (replicate (length rs) false) s (subst (λ n. Sub (replicate n false) s) l (none-sub s)) c
 
@@ -123,27 +114,27 @@ unfoldable count : List Bool → ℕ
 count [] = 0
 count (b ∷ s) = bit b + count s
 
-sub-count : (s t : List Bool) → Sub s t → Either (s ≡ t) (count s < count t)
+sub-count : (s t : List Bool) → Sub s t → _⊎_ (s ≡ t) (count s < count t)
 unfolding Sub count bit
-sub-count [] [] h = left refl
+sub-count [] [] h = inl refl
 sub-count [] (b ∷ t) h = absurd h
 sub-count (a ∷ s) [] h = absurd h
 sub-count (true ∷ s) (true ∷ t) h = by (sub-count s t (h .1))
   where
-    by : Either (s ≡ t) (count s < count t) → Either (true ∷ s ≡ true ∷ t) (1 + count s < 1 + count t)
-    by (left e) = left (ap (λ q. true ∷ q) e)
-    by (right l) = right (omega arith)
+    by : _⊎_ (s ≡ t) (count s < count t) → _⊎_ (true ∷ s ≡ true ∷ t) (1 + count s < 1 + count t)
+    by (inl e) = inl (ap (λ q. true ∷ q) e)
+    by (inr l) = inr (omega arith)
 sub-count (true ∷ s) (false ∷ t) h = clash (h .0 refl)
-sub-count (false ∷ s) (true ∷ t) h = right (by (sub-count s t (h .1)))
+sub-count (false ∷ s) (true ∷ t) h = inr (by (sub-count s t (h .1)))
   where
-    by : Either (s ≡ t) (count s < count t) → 0 + count s < 1 + count t
-    by (left e) = rw e (omega arith)
-    by (right l) = omega arith
+    by : _⊎_ (s ≡ t) (count s < count t) → 0 + count s < 1 + count t
+    by (inl e) = rw e (omega arith)
+    by (inr l) = omega arith
 sub-count (false ∷ s) (false ∷ t) h = by (sub-count s t (h .1))
   where
-    by : Either (s ≡ t) (count s < count t) → Either (false ∷ s ≡ false ∷ t) (0 + count s < 0 + count t)
-    by (left e) = left (ap (λ q. false ∷ q) e)
-    by (right l) = right (omega arith)
+    by : _⊎_ (s ≡ t) (count s < count t) → _⊎_ (false ∷ s ≡ false ∷ t) (0 + count s < 0 + count t)
+    by (inl e) = inl (ap (λ q. false ∷ q) e)
+    by (inr l) = inr (omega arith)
 
 count-le : (s : List Bool) → count s ≤ length s
 unfolding count bit
@@ -175,17 +166,17 @@ module _ (rs : List Record) where
   rounds-fixed zero have e = refl
   rounds-fixed (suc n) have e = ap (rounds n rs) (sym e) ∙ rounds-fixed n have e
 
-  settles : (n : ℕ) (have : List Bool) → Sub have (next rs have) → Either (Closed rs (rounds n rs have)) (n + count have ≤ count (rounds n rs have))
+  settles : (n : ℕ) (have : List Bool) → Sub have (next rs have) → _⊎_ (Closed rs (rounds n rs have)) (n + count have ≤ count (rounds n rs have))
   unfolding rounds
-  settles zero have h = right (omega arith)
+  settles zero have h = inr (omega arith)
   settles (suc n) have h = by (sub-count have (next rs have) h) (settles n (next rs have) (round-grows have (next rs have) h rs 0 rs))
     where
-      by : Either (have ≡ next rs have) (count have < count (next rs have)) → Either (Closed rs (rounds n rs (next rs have))) (n + count (next rs have) ≤ count (rounds n rs (next rs have))) → Either (Closed rs (rounds n rs (next rs have))) (suc n + count have ≤ count (rounds n rs (next rs have)))
-      by x (left c) = left c
-      by (left e) (right l) =
+      by : _⊎_ (have ≡ next rs have) (count have < count (next rs have)) → _⊎_ (Closed rs (rounds n rs (next rs have))) (n + count (next rs have) ≤ count (rounds n rs (next rs have))) → _⊎_ (Closed rs (rounds n rs (next rs have))) (suc n + count have ≤ count (rounds n rs (next rs have)))
+      by x (inl c) = inl c
+      by (inl e) (inr l) =
           let q : rounds n rs (next rs have) ≡ have = ap (rounds n rs) (sym e) ∙ rounds-fixed n have e in
-          left (subst (λ s. Closed rs s) (sym q) (subst (λ s. Sub s have) e (sub-self have)))
-      by (right g) (right l) = right (omega arith)
+          inl (subst (λ s. Closed rs s) (sym q) (subst (λ s. Sub s have) e (sub-self have)))
+      by (inr g) (inr l) = inr (omega arith)
 
   -- closed: nothing can be added
   pub finites-closed : Closed rs (finites rs)
@@ -199,9 +190,9 @@ module _ (rs : List Record) where
       none-length zero = refl
       none-length (suc n) = ap suc (none-length n)
 
-      by : Either (Closed rs (rounds (length rs) rs (replicate (length rs) false))) (length rs + count (replicate (length rs) false) ≤ count (rounds (length rs) rs (replicate (length rs) false))) → Closed rs (rounds (length rs) rs (replicate (length rs) false))
-      by (left c) = c
-      by (right l) =
+      by : _⊎_ (Closed rs (rounds (length rs) rs (replicate (length rs) false))) (length rs + count (replicate (length rs) false) ≤ count (rounds (length rs) rs (replicate (length rs) false))) → Closed rs (rounds (length rs) rs (replicate (length rs) false))
+      by (inl c) = c
+      by (inr l) =
           let f = rounds (length rs) rs (replicate (length rs) false) in
           let q = rounds-length (length rs) (replicate (length rs) false) (none-length (length rs)) in
           full-sub (next rs f) f (round-length rs f 0 rs ∙ sym q) (omega arith)

@@ -8,37 +8,8 @@ use lib.Dec.{eqb, leb}
 use borrow.Author.Tests.{leb-true, leb-false}
 use Rattle.reading_rules.specs.Record.{Record}
 use Rattle.definition_rules.specs.Table.{encode}
-use Rattle.definition_rules.specs.Compile.{Check, check, Finding, clean, fault, leastOf, findingOf, firstFault, checks, Verdict, refused, table, verdictOf, verdict, recordsOfText}
-
-pub data Either (A B : Type 0) : Type 0 where
-  left : A → Either A B
-  right : B → Either A B
-
--- p is one of the places
-unfoldable pub In : ℕ → List ℕ → Type 0
-In p [] = ⊥
-In p (q ∷ r) = Either (p ≡ q) (In p r)
-
--- "at its smallest place"
-abbrev pub Least : ℕ → List ℕ → Type 0
-Least p ps = In p ps × ((q : ℕ) → In q ps → p ≤ q)
-
-unfoldable pub Empty : Check → Type 0
-Empty (check n ps) = ps ≡ []
-
-unfoldable pub AllEmpty : List Check → Type 0
-AllEmpty [] = Unit {0}
-AllEmpty (c ∷ cs) = Empty c × AllEmpty cs
-
--- "The lowest number that applies is given, at its smallest place": the check of n has p as its least place,
--- and those before it have none
-pub record Found (n p : ℕ) (cs : List Check) : Type 0 where
-  pub before : List Check
-  pub places : List ℕ
-  pub after : List Check
-  pub split : cs ≡ before ++ (check n places ∷ after)
-  pub earlier : AllEmpty before
-  pub least : Least p places
+use mathlib.Core.Logic.{_⊎_, inl, inr}
+use Rattle.definition_rules.specs.Compile.{Check, check, IsPlace, Least, Empty, AllEmpty, FirstFaultIs, Finding, clean, fault, leastOf, findingOf, firstFault, checks, Verdict, refused, table, verdictOf, verdict, recordsOfText}
 
 min-case : {X : Type 0} (p q : ℕ) → (min p q ≡ p → X) → (min p q ≡ q → X) → X
 min-case {X} p q f g = by (leb p q) refl
@@ -47,26 +18,26 @@ min-case {X} p q f g = by (leb p q) refl
     by true e = let x = leb-true p q e in f (omega arith)
     by false e = let x = leb-false p q e in g (omega arith)
 
-least-in : (p : ℕ) (r : List ℕ) → In (leastOf p r) (p ∷ r)
-unfolding In leastOf
-least-in p [] = left refl
+least-in : (p : ℕ) (r : List ℕ) → IsPlace (leastOf p r) (p ∷ r)
+unfolding IsPlace leastOf
+least-in p [] = inl refl
 least-in p (q ∷ r) = by (least-in (min p q) r)
   where
-    by : In (leastOf (min p q) r) (min p q ∷ r) → In (leastOf (min p q) r) (p ∷ q ∷ r)
-    by (left e) = min-case p q (λ x. left (e ∙ x)) (λ x. right (left (e ∙ x)))
-    by (right i) = right (right i)
+    by : IsPlace (leastOf (min p q) r) (min p q ∷ r) → IsPlace (leastOf (min p q) r) (p ∷ q ∷ r)
+    by (inl e) = min-case p q (λ x. inl (e ∙ x)) (λ x. inr (inl (e ∙ x)))
+    by (inr i) = inr (inr i)
 
 least-head : (p : ℕ) (r : List ℕ) → leastOf p r ≤ p
 unfolding leastOf
 least-head p [] = omega arith
 least-head p (q ∷ r) = omega (arith, least-head (min p q) r)
 
-least-le : (p : ℕ) (r : List ℕ) (q : ℕ) → In q (p ∷ r) → leastOf p r ≤ q
-unfolding In leastOf
-least-le p r q (left e) = omega (arith, least-head p r)
-least-le p [] q (right i) = absurd i
-least-le p (s ∷ r) q (right (left e)) = omega (arith, least-head (min p s) r)
-least-le p (s ∷ r) q (right (right i)) = least-le (min p s) r q (right i)
+least-le : (p : ℕ) (r : List ℕ) (q : ℕ) → IsPlace q (p ∷ r) → leastOf p r ≤ q
+unfolding IsPlace leastOf
+least-le p r q (inl e) = omega (arith, least-head p r)
+least-le p [] q (inr i) = absurd i
+least-le p (s ∷ r) q (inr (inl e)) = omega (arith, least-head (min p s) r)
+least-le p (s ∷ r) q (inr (inr i)) = least-le (min p s) r q (inr i)
 
 pub least-of : (p : ℕ) (r : List ℕ) → Least (leastOf p r) (p ∷ r)
 least-of p r = (least-in p r, least-le p r)
@@ -74,7 +45,7 @@ least-of p r = (least-in p r, least-le p r)
 least-one : (p q : ℕ) (ps : List ℕ) → Least p ps → Least q ps → p ≡ q
 least-one p q ps a b = omega (arith, a .1 q (b .0), b .1 p (a .0))
 
-found-more : (n p m : ℕ) (cs : List Check) → Found n p cs → Found n p (check m [] ∷ cs)
+found-more : (n p m : ℕ) (cs : List Check) → FirstFaultIs n p cs → FirstFaultIs n p (check m [] ∷ cs)
 unfolding AllEmpty Empty
 found-more n p m cs f = record { before = check m [] ∷ f .before; places = f .places; after = f .after; split = ap (λ x. check m [] ∷ x) (f .split); earlier = (refl, f .earlier); least = f .least }
 
@@ -84,7 +55,7 @@ fault-is n m p q e = let x : n ≡ m = cc in let y : p ≡ q = cc in (x, y)
 clean-fault : {X : Type 0} {n p : ℕ} → clean ≡ fault n p → X
 clean-fault e = let z : _≡_ {A = ℕ} 0 1 = cc in absurd (omega arith)
 
-pub fault-found : (cs : List Check) (n p : ℕ) → firstFault cs ≡ fault n p → Found n p cs
+pub fault-found : (cs : List Check) (n p : ℕ) → firstFault cs ≡ fault n p → FirstFaultIs n p cs
 unfolding firstFault findingOf AllEmpty
 fault-found [] n p e = clean-fault e
 fault-found (check m [] ∷ cs) n p e = found-more n p m cs (fault-found cs n p e)
@@ -98,11 +69,11 @@ skip [] cs e = refl
 skip (check n ps ∷ bs) cs e = rw (e .0) (skip bs cs (e .1))
 
 hit : (n p : ℕ) (ps : List ℕ) (cs : List Check) → Least p ps → firstFault (check n ps ∷ cs) ≡ fault n p
-unfolding firstFault findingOf In
+unfolding firstFault findingOf IsPlace
 hit n p [] cs l = absurd (l .0)
 hit n p (q ∷ r) cs l = ap (fault n) (least-one (leastOf q r) p (q ∷ r) (least-of q r) l)
 
-pub found-fault : (cs : List Check) (n p : ℕ) → Found n p cs → firstFault cs ≡ fault n p
+pub found-fault : (cs : List Check) (n p : ℕ) → FirstFaultIs n p cs → firstFault cs ≡ fault n p
 found-fault cs n p f = ap firstFault (f .split) ∙ (skip (f .before) (check n (f .places) ∷ f .after) (f .earlier) ∙ hit n p (f .places) (f .after) (f .least))
 
 pub clean-empty : (cs : List Check) → firstFault cs ≡ clean → AllEmpty cs
@@ -116,6 +87,12 @@ unfolding firstFault findingOf AllEmpty Empty
 empty-clean [] a = refl
 empty-clean (check n ps ∷ cs) a = rw (a .0) (empty-clean cs (a .1))
 
+-- a number other than that of the first check is a later one's
+pub pass : (n m p : ℕ) (ps : List ℕ) (cs : List Check) → firstFault (check n ps ∷ cs) ≡ fault m p → (n ≡ m → ⊥) → (ps ≡ []) × (firstFault cs ≡ fault m p)
+unfolding firstFault findingOf
+pass n m p [] cs e f = (refl, e)
+pass n m p (q ∷ r) cs e f = let x : n ≡ m = cc in absurd (f x)
+
 -- ---- the verdict
 
 refused-is : (n m p q : ℕ) → refused n p ≡ refused m q → (n ≡ m) × (p ≡ q)
@@ -125,15 +102,15 @@ pub table-refused : {X : Type 0} {b : List ℕ} {n p : ℕ} → table b ≡ refu
 table-refused e = let z : _≡_ {A = ℕ} 0 1 = cc in absurd (omega arith)
 
 -- refused n p exactly when p is the least place of n and every earlier check has none
-pub refused-found : (text : List ℕ) (n p : ℕ) → verdict text ≡ refused n p → Found n p (checks text)
+pub refused-found : (text : List ℕ) (n p : ℕ) → verdict text ≡ refused n p → FirstFaultIs n p (checks text)
 unfolding verdict
 refused-found text n p e = by (firstFault (checks text)) refl e
   where
-    by : (f : Finding) → firstFault (checks text) ≡ f → verdictOf f (recordsOfText text) ≡ refused n p → Found n p (checks text)
+    by : (f : Finding) → firstFault (checks text) ≡ f → verdictOf f (recordsOfText text) ≡ refused n p → FirstFaultIs n p (checks text)
     by clean q e = unfold verdictOf in table-refused e
     by (fault m r) q e = unfold verdictOf in (let x = refused-is m n r p e in fault-found (checks text) n p (q ∙ (rw (x .0, x .1))))
 
-pub found-refused : (text : List ℕ) (n p : ℕ) → Found n p (checks text) → verdict text ≡ refused n p
+pub found-refused : (text : List ℕ) (n p : ℕ) → FirstFaultIs n p (checks text) → verdict text ≡ refused n p
 unfolding verdict verdictOf
 found-refused text n p f = rw (found-fault (checks text) n p f)
 

@@ -13,12 +13,12 @@ use Rattle.definition_rules.specs.Scan.{TextToken, run, mark}
 use Rattle.definition_rules.specs.Forms.{MaybeRun, absent, given, Tag, ownName, tagless, explicit, Heading, heading, typeRun, putRange, putCard, putTag, putPlugin, putHead, FormSort, parameter, fields, groups, tops, Form, plain, compound, noField, field, noGroup, group, lastTop, moreTops, printForm, Level, topLevel, fieldLevel, RangeAllowed, HeadAllowed, Allowed, Fits}
 use Rattle.reading_rules.specs.Record.{Up, top, under}
 use Rattle.definition_rules.specs.Declarations.{Declaration, declaration, countForm, declare, treeDeclarations, Spots, spotsOf, cardSpot, tagSpot, Noted, noted, BodyMode, inFields, groupOpened, inGroup, groupsClosed, Frame, frame, Stage, afterName, afterCard, afterTag, afterPlugin, Phase, atStart, dueSemicolon, afterType, dueRange, dueRangeEnd, dueName, inHeading, dueCard, dueTag, dueCardEnd, Action, stop, move, note, allow, withCard, withTag, withPlugin, takesField, takesClose, takesGroupEnd, isExtension, afterField, fieldDone, parentOf, isUnderExtension, isInBody, startRun, startMark, headingEnd, headingRun, headingMark, step, Outcome, stuckAt, complete, mapOutcome, endIf, atEnd, parseForms, parseTokens, declarationsOf}
-use Rattle.definition_rules.proofs.FirstFault.{Either, left, right}
+use mathlib.Core.Logic.{_⊎_, inl, inr}
 
 -- ---- what can follow where a parameter can start: n is the number of the next declaration
 
 unfoldable pub After : List Frame → ℕ → List TextToken → List Declaration → Type 0
-After [] n ts ds = Either ((1 ≤ n) × (ts ≡ []) × (ds ≡ [])) ((d : Form tops) × Allowed topLevel d × (printForm d [] ≡ ts) × (declare d top false n [] ≡ ds))
+After [] n ts ds = _⊎_ ((1 ≤ n) × (ts ≡ []) × (ds ≡ [])) ((d : Form tops) × Allowed topLevel d × (printForm d [] ≡ ts) × (declare d top false n [] ≡ ds))
 After (frame p inFields ∷ σ) n ts ds =
     (f : Form fields) × (g : Form groups) × Allowed fieldLevel f × Allowed fieldLevel g × (r : List TextToken) × (es : List Declaration) × (m : ℕ)
     × (printForm f (printForm g (mark 125 ∷ mark 59 ∷ r)) ≡ ts)
@@ -45,7 +45,7 @@ After (frame p groupsClosed ∷ σ) n ts ds =
 unfoldable pub Ends : List Frame → ℕ → Heading → List TextToken → List Declaration → Type 0
 Ends σ n h ts ds =
     (r : List TextToken) × (es : List Declaration) × (ds ≡ declaration (parentOf σ) (isUnderExtension σ) h ∷ es)
-    × Either ((mark 59 ∷ r ≡ ts) × (isCompound (typeRun h) ≡ false) × After (fieldDone σ) (suc n) r es)
+    × _⊎_ ((mark 59 ∷ r ≡ ts) × (isCompound (typeRun h) ≡ false) × After (fieldDone σ) (suc n) r es)
     ((mark 123 ∷ r ≡ ts) × (isCompound (typeRun h) ≡ true) × After (frame n inFields ∷ fieldDone σ) (suc n) r es)
 
 -- ---- the rest of a heading after its name
@@ -87,7 +87,7 @@ Rest σ n (dueRangeEnd y g w u) ts ds = (v : List ℕ) × (us : List TextToken) 
 Rest σ n (dueName y g w x) ts ds = (v : List ℕ) × (us : List TextToken) × (run v ∷ us ≡ ts) × Tail afterName σ n (heading w x v absent ownName false) us ds
 Rest σ n (inHeading l s h) ts ds = Tail l σ n h ts ds
 Rest σ n (dueCard s h) ts ds = (v : List ℕ) × (us : List TextToken) × (run v ∷ mark 93 ∷ us ≡ ts) × Tail afterCard σ n (withCard v h) us ds
-Rest σ n (dueTag s h) ts ds = Either ((v : List ℕ) × (us : List TextToken) × (run v ∷ us ≡ ts) × Tail afterTag σ n (withTag (explicit v) h) us ds) ((us : List TextToken) × (mark 63 ∷ us ≡ ts) × Tail afterTag σ n (withTag tagless h) us ds)
+Rest σ n (dueTag s h) ts ds = _⊎_ ((v : List ℕ) × (us : List TextToken) × (run v ∷ us ≡ ts) × Tail afterTag σ n (withTag (explicit v) h) us ds) ((us : List TextToken) × (mark 63 ∷ us ≡ ts) × Tail afterTag σ n (withTag tagless h) us ds)
 Rest σ n (dueCardEnd s h) ts ds = (us : List TextToken) × (mark 93 ∷ us ≡ ts) × Tail afterCard σ n h us ds
 
 -- ---- a parameter in front
@@ -102,8 +102,8 @@ bool-no e = let x : _≡_ {A = ℕ} 0 1 = cc in absurd (omega arith)
 
 in-front : (σ : List Frame) (n m : ℕ) (x : Form parameter) (r : List TextToken) (es : List Declaration) → Stands σ x → m ≡ n + countForm x → After (fieldDone σ) m r es → After σ n (printForm x r) (declare x (parentOf σ) (isUnderExtension σ) n es)
 unfolding After Stands fieldDone afterField parentOf isUnderExtension isExtension takesField printForm declare countForm Allowed
-in-front [] n m x r es s e (left a) = right (lastTop x, s, ap (printForm x) (sym (a .1)), ap (declare x top false n) (sym (a .2)))
-in-front [] n m x r es s e (right a) = right (moreTops x (a .0), (s, a .1), ap (printForm x) (a .2), ap (declare x top false n) (ap (λ q. declare (a .0) top false q []) (sym e) ∙ a .3))
+in-front [] n m x r es s e (inl a) = inr (lastTop x, s, ap (printForm x) (sym (a .1)), ap (declare x top false n) (sym (a .2)))
+in-front [] n m x r es s e (inr a) = inr (moreTops x (a .0), (s, a .1), ap (printForm x) (a .2), ap (declare x top false n) (ap (λ q. declare (a .0) top false q []) (sym e) ∙ a .3))
 in-front (frame p inFields ∷ σ) n m x r es s e a = (
   field x (a .0),
   a .1,
@@ -190,11 +190,11 @@ parameter-front : (σ : List Frame) (n : ℕ) (w : List ℕ) (h : Heading) (us :
 unfolding Ends
 parameter-front σ n w h us ds b a e = by (e .3)
   where
-    by : Either ((mark 59 ∷ e .0 ≡ us) × (isCompound (typeRun h) ≡ false) × After (fieldDone σ) (suc n) (e .0) (e .1)) ((mark 123 ∷ e .0 ≡ us) × (isCompound (typeRun h) ≡ true) × After (frame n inFields ∷ fieldDone σ) (suc n) (e .0) (e .1)) → After σ n (putHead h us) ds
-    by (left z) =
+    by : _⊎_ ((mark 59 ∷ e .0 ≡ us) × (isCompound (typeRun h) ≡ false) × After (fieldDone σ) (suc n) (e .0) (e .1)) ((mark 123 ∷ e .0 ≡ us) × (isCompound (typeRun h) ≡ true) × After (frame n inFields ∷ fieldDone σ) (suc n) (e .0) (e .1)) → After σ n (putHead h us) ds
+    by (inl z) =
         after-as σ n _ _ _ _ (ap (putHead h) (z .0)) (sym (e .2))
         (unfold printForm declare countForm Allowed in (in-front σ n (suc n) (plain h) (e .0) (e .1) (stands σ w (plain h) b (a, z .1)) (omega arith) (z .2)))
-    by (right z) = inside z (unfold After in (z .2))
+    by (inr z) = inside z (unfold After in (z .2))
       where
         inside : (z : (mark 123 ∷ e .0 ≡ us) × (isCompound (typeRun h) ≡ true) × After (frame n inFields ∷ fieldDone σ) (suc n) (e .0) (e .1))
             → (f : Form fields) × (g : Form groups) × Allowed fieldLevel f × Allowed fieldLevel g × (r : List TextToken) × (es : List Declaration) × (m : ℕ)
@@ -260,8 +260,8 @@ end-back : (σ : List Frame) (n : ℕ) (s : Spots) (h : Heading) (m : ℕ) (p : 
 unfolding headingEnd Back Rest
 end-back σ n s h m p xs f =
     pick-back σ n p (mark m) xs (eqb m 59) _ _
-    (λ e. allow-back σ n p (mark m) xs (not (isCompound (typeRun h))) _ (λ c ds a. f _ (unfold Ends in (xs, ds, refl, left (is-mark 59 m xs e, not-true (isCompound (typeRun h)) c, a)))))
-    (allow-back σ n p (mark m) xs (eqb m 123 && isCompound (typeRun h)) _ (λ c ds a. let y = and-both (eqb m 123) (isCompound (typeRun h)) c in f _ (unfold Ends in (xs, ds, refl, right (is-mark 123 m xs (y .0), y .1, a)))))
+    (λ e. allow-back σ n p (mark m) xs (not (isCompound (typeRun h))) _ (λ c ds a. f _ (unfold Ends in (xs, ds, refl, inl (is-mark 59 m xs e, not-true (isCompound (typeRun h)) c, a)))))
+    (allow-back σ n p (mark m) xs (eqb m 123 && isCompound (typeRun h)) _ (λ c ds a. let y = and-both (eqb m 123) (isCompound (typeRun h)) c in f _ (unfold Ends in (xs, ds, refl, inr (is-mark 123 m xs (y .0), y .1, a)))))
 
 -- an end from each stage
 ends-tail : (l : Stage) (σ : List Frame) (n : ℕ) (h : Heading) (ts : List TextToken) (ds : List Declaration) → Ends σ n h ts ds → Tail l σ n h ts ds
@@ -278,12 +278,12 @@ module _ (σ : List Frame) (n : ℕ) (s : Spots) (h : Heading) (w : List ℕ) (x
   as-back : (l : Stage) → ((t : Tag) (p : Bool) (us : List TextToken) (ds : List Declaration) → isInBody σ ≡ true → putTag t (putPlugin p us) ≡ run w ∷ xs → Ends σ n (pluginOn p (tagOn t h)) us ds → Tail l σ n h (run w ∷ xs) ds) → sameBytes w kwAs ≡ true → Back σ n (inHeading l s h) (run w) xs (allow (isInBody σ) (move σ (dueTag s h)))
   as-back l f e = allow-back σ n (inHeading l s h) (run w) xs (isInBody σ) _ (λ b. unfold Back Rest in (λ ds z. by ds b z))
     where
-      by : (ds : List Declaration) → isInBody σ ≡ true → Either ((v : List ℕ) × (us : List TextToken) × (run v ∷ us ≡ xs) × Tail afterTag σ n (withTag (explicit v) h) us ds) ((us : List TextToken) × (mark 63 ∷ us ≡ xs) × Tail afterTag σ n (withTag tagless h) us ds) → Tail l σ n h (run w ∷ xs) ds
-      by ds b (left z) = go (unfold Tail in (z .3))
+      by : (ds : List Declaration) → isInBody σ ≡ true → _⊎_ ((v : List ℕ) × (us : List TextToken) × (run v ∷ us ≡ xs) × Tail afterTag σ n (withTag (explicit v) h) us ds) ((us : List TextToken) × (mark 63 ∷ us ≡ xs) × Tail afterTag σ n (withTag tagless h) us ds) → Tail l σ n h (run w ∷ xs) ds
+      by ds b (inl z) = go (unfold Tail in (z .3))
         where
           go : (p : Bool) × (us : List TextToken) × Bare σ absent ownName p × (putPlugin p us ≡ z .1) × Ends σ n (pluginOn p (withTag (explicit (z .0)) h)) us ds → Tail l σ n h (run w ∷ xs) ds
           go y = f (explicit (z .0)) (y .0) (y .1) ds b (unfold putTag in (ap (λ q. run kwAs ∷ run (z .0) ∷ q) (y .3) ∙ (ap (λ q. run kwAs ∷ q) (z .2) ∙ ap (λ q. run q ∷ xs) (sym (same-true w kwAs e))))) (unfold tagOn in (y .4))
-      by ds b (right z) = go (unfold Tail in (z .2))
+      by ds b (inr z) = go (unfold Tail in (z .2))
         where
           go : (p : Bool) × (us : List TextToken) × Bare σ absent ownName p × (putPlugin p us ≡ z .0) × Ends σ n (pluginOn p (withTag tagless h)) us ds → Tail l σ n h (run w ∷ xs) ds
           go y = f tagless (y .0) (y .1) ds b (unfold putTag in (ap (λ q. run kwAs ∷ mark 63 ∷ q) (y .3) ∙ (ap (λ q. run kwAs ∷ q) (z .1) ∙ ap (λ q. run q ∷ xs) (sym (same-true w kwAs e))))) (unfold tagOn in (y .4))
@@ -363,8 +363,8 @@ step-back σ n i (inHeading l s h) (run w) xs = run-back σ n s h w xs l
 step-back σ n i (inHeading l s h) (mark m) xs = mark-back σ n s h m xs l
 step-back σ n i (dueCard s h) (run v) xs = unfold Back Rest in (λ ds z. (v, z .0, ap (λ q. run v ∷ q) (z .1), z .2))
 step-back σ n i (dueCard s h) (mark m) xs = unfold Back in tt
-step-back σ n i (dueTag s h) (run v) xs = unfold Back Rest in (λ ds z. left (v, xs, refl, z))
-step-back σ n i (dueTag s h) (mark m) xs = allow-back σ n (dueTag s h) (mark m) xs (eqb m 63) _ (λ e. unfold Back Rest in (λ ds z. right (xs, is-mark 63 m xs e, z)))
+step-back σ n i (dueTag s h) (run v) xs = unfold Back Rest in (λ ds z. inl (v, xs, refl, z))
+step-back σ n i (dueTag s h) (mark m) xs = allow-back σ n (dueTag s h) (mark m) xs (eqb m 63) _ (λ e. unfold Back Rest in (λ ds z. inr (xs, is-mark 63 m xs e, z)))
 step-back σ n i (dueCardEnd s h) (run w) xs = unfold Back in tt
 step-back σ n i (dueCardEnd s h) (mark m) xs = allow-back σ n (dueCardEnd s h) (mark m) xs (eqb m 93) _ (λ e. unfold Back Rest in (λ ds z. (xs, is-mark 93 m xs e, z)))
 
@@ -384,7 +384,7 @@ end-rest [] n i atStart ns e = by (eqb n 0) refl e
   where
     by : (b : Bool) → eqb n 0 ≡ b → endIf b i ≡ complete ns → Rest [] n atStart [] (declarationsOf ns)
     by true q e = unfold endIf in (stuck-complete e)
-    by false q e = unfold endIf in (let z : [] ≡ ns = cc in rw (← z) (unfold Rest After declarationsOf in (left (omega (arith, eqb-false n 0 q), refl, refl))))
+    by false q e = unfold endIf in (let z : [] ≡ ns = cc in rw (← z) (unfold Rest After declarationsOf in (inl (omega (arith, eqb-false n 0 q), refl, refl))))
 end-rest [] n i dueSemicolon ns e = stuck-complete e
 end-rest [] n i (afterType y w) ns e = stuck-complete e
 end-rest [] n i (dueRange y w) ns e = stuck-complete e
@@ -417,6 +417,6 @@ parse-sound (x ∷ xs) σ n i p ns e = sound-step x xs (parse-sound xs) σ n i p
 pub complete-fits : (ts : List TextToken) (ns : List Noted) → parseTokens ts ≡ complete ns → (f : Fits ts) × (treeDeclarations (f .0) ≡ declarationsOf ns)
 complete-fits ts ns e = by (unfold Rest After in (parse-sound ts [] 0 0 atStart ns e))
   where
-    by : Either ((1 ≤ 0) × (ts ≡ []) × (declarationsOf ns ≡ [])) ((d : Form tops) × Allowed topLevel d × (printForm d [] ≡ ts) × (declare d top false 0 [] ≡ declarationsOf ns)) → (f : Fits ts) × (treeDeclarations (f .0) ≡ declarationsOf ns)
-    by (left z) = absurd (omega (arith, z .0))
-    by (right z) = ((z .0, z .1, z .2), z .3)
+    by : _⊎_ ((1 ≤ 0) × (ts ≡ []) × (declarationsOf ns ≡ [])) ((d : Form tops) × Allowed topLevel d × (printForm d [] ≡ ts) × (declare d top false 0 [] ≡ declarationsOf ns)) → (f : Fits ts) × (treeDeclarations (f .0) ≡ declarationsOf ns)
+    by (inl z) = absurd (omega (arith, z .0))
+    by (inr z) = ((z .0, z .1, z .2), z .3)

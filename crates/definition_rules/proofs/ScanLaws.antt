@@ -6,10 +6,9 @@ use Prim.Native.Nat.{ℕ, zero, suc, _+_}
 use native.Mathlib.Omega.{arith}
 use lib.Dec.{eqb}
 use lib.ListN.{length}
-use Rattle.classes.specs.Lists.{pick}
+use Rattle.classes.specs.Lists.{pick, All}
 use Rattle.definition_rules.specs.Words.{ByteClass, inRun, blank, single, slash, other, classOf}
 use Rattle.definition_rules.specs.Scan.{TextToken, run, mark, Item, gap, item, bad, outside, lineComment, opening, comment, star, joinRun, startsWith, scan}
-use Rattle.definition_rules.proofs.TableLaws.{All}
 
 pub at-blank : (b p : ℕ) (s : List ℕ) → classOf b ≡ blank → scan outside p (b ∷ s) ≡ gap ∷ scan outside (suc p) s
 unfolding scan

@@ -6,12 +6,11 @@ use Prim.Native.Nat.{ℕ, zero, suc, _+_, _≤_, _<_}
 use native.Mathlib.Omega.{arith}
 use lib.Dec.{eqb}
 use lib.ListN.{length, getD}
-use Rattle.classes.specs.Lists.{pick, sameBytes}
+use Rattle.classes.specs.Lists.{pick, sameBytes, All}
 use Rattle.definition_rules.specs.Words.{kwAs, kwPlugin, takesRange, isCompound, isReference}
 use Rattle.definition_rules.specs.Scan.{TextToken, run, mark}
 use Rattle.definition_rules.specs.Forms.{MaybeRun, absent, given, Tag, ownName, tagless, explicit, Heading, heading, typeRun, tagOf}
 use Rattle.definition_rules.specs.Declarations.{Declaration, declaration, Spots, spotsOf, cardSpot, tagSpot, Noted, noted, BodyMode, inFields, groupOpened, inGroup, groupsClosed, Frame, frame, Stage, afterName, afterCard, afterTag, afterPlugin, Phase, atStart, dueSemicolon, afterType, dueRange, dueRangeEnd, dueName, inHeading, dueCard, dueTag, dueCardEnd, Action, stop, move, note, allow, withCard, withTag, withPlugin, takesField, takesClose, takesGroupEnd, fieldDone, parentOf, isUnderExtension, isInBody, startRun, startMark, headingEnd, headingRun, headingMark, step, Outcome, stuckAt, complete, mapOutcome, endIf, atEnd, parseForms, parseTokens}
-use Rattle.definition_rules.proofs.TableLaws.{All}
 
 -- the i-th token
 abbrev pub tokenAt : List TextToken → ℕ → TextToken

@@ -10,9 +10,9 @@ use borrow.Author.Tests.{ne-eqb}
 use Rattle.classes.specs.Lists.{sameBytes, pick}
 use Rattle.definition_rules.specs.Words.{kwInt, numberIf, numberIn, kindOfRun, takesRange, isCompound, isReference}
 use Rattle.definition_rules.specs.Scan.{TextToken, run, mark}
-use Rattle.definition_rules.specs.Forms.{MaybeRun, absent, given, Tag, ownName, tagless, explicit, Heading, heading, typeRun, Fits, Viable}
+use Rattle.definition_rules.specs.Forms.{MaybeRun, absent, given, Tag, ownName, tagless, explicit, Heading, heading, typeRun, Fits, Viable, StuckBy, token, ending-due}
 use Rattle.definition_rules.specs.Declarations.{Declaration, declaration, Spots, spotsOf, cardSpot, tagSpot, Noted, noted, BodyMode, inFields, groupOpened, inGroup, groupsClosed, Frame, frame, Stage, afterName, afterCard, afterTag, afterPlugin, Phase, atStart, dueSemicolon, afterType, dueRange, dueRangeEnd, dueName, inHeading, dueCard, dueTag, dueCardEnd, Action, stop, move, note, allow, withCard, withTag, withPlugin, takesField, takesClose, takesGroupEnd, isExtension, afterField, fieldDone, parentOf, isUnderExtension, isInBody, startRun, startMark, headingEnd, headingRun, headingMark, step, Outcome, stuckAt, complete, mapOutcome, endIf, atEnd, parseForms, parseTokens}
-use Rattle.definition_rules.proofs.FirstFault.{Either, left, right}
+use mathlib.Core.Logic.{_⊎_, inl, inr}
 use Rattle.definition_rules.proofs.FormComplete.{parse-move, parse-note, parse-stop, fits-complete}
 use Rattle.definition_rules.proofs.FormSound.{stuck-complete, complete-fits}
 
@@ -107,23 +107,23 @@ unfolding mapOutcome
 map-stuck f i = refl
 
 -- a state at the end of the row
-at-end : (σ : List Frame) (k j : ℕ) (p : Phase) → Either (parseForms σ k j p [] ≡ stuckAt j) (parseForms σ k j p [] ≡ complete [])
+at-end : (σ : List Frame) (k j : ℕ) (p : Phase) → _⊎_ (parseForms σ k j p [] ≡ stuckAt j) (parseForms σ k j p [] ≡ complete [])
 unfolding parseForms atEnd endIf
 at-end [] k j atStart = by (eqb k 0)
   where
-    by : (b : Bool) → Either (endIf b j ≡ stuckAt j) (endIf b j ≡ complete [])
-    by true = left refl
-    by false = right refl
-at-end (f ∷ σ) k j p = left refl
-at-end [] k j dueSemicolon = left refl
-at-end [] k j (afterType y w) = left refl
-at-end [] k j (dueRange y w) = left refl
-at-end [] k j (dueRangeEnd y g w v) = left refl
-at-end [] k j (dueName y g w x) = left refl
-at-end [] k j (inHeading l s h) = left refl
-at-end [] k j (dueCard s h) = left refl
-at-end [] k j (dueTag s h) = left refl
-at-end [] k j (dueCardEnd s h) = left refl
+    by : (b : Bool) → _⊎_ (endIf b j ≡ stuckAt j) (endIf b j ≡ complete [])
+    by true = inl refl
+    by false = inr refl
+at-end (f ∷ σ) k j p = inl refl
+at-end [] k j dueSemicolon = inl refl
+at-end [] k j (afterType y w) = inl refl
+at-end [] k j (dueRange y w) = inl refl
+at-end [] k j (dueRangeEnd y g w v) = inl refl
+at-end [] k j (dueName y g w x) = inl refl
+at-end [] k j (inHeading l s h) = inl refl
+at-end [] k j (dueCard s h) = inl refl
+at-end [] k j (dueTag s h) = inl refl
+at-end [] k j (dueCardEnd s h) = inl refl
 
 -- ---- over a beginning
 
@@ -155,26 +155,26 @@ at-number : (σ : List Frame) (k i j : ℕ) (p : Phase) (ts : List TextToken) �
 at-number σ k i j p ts e = rw e
 
 abbrev Over : List TextToken → Type 0
-Over ps = (σ : List Frame) (k i : ℕ) (p : Phase) → Either (Halted σ k i p ps) (Reached σ k i p ps)
+Over ps = (σ : List Frame) (k i : ℕ) (p : Phase) → _⊎_ (Halted σ k i p ps) (Reached σ k i p ps)
 
 over-step : (x : TextToken) (ps : List TextToken) → Over ps → Over (x ∷ ps)
 over-step x ps f σ k i p = by (step σ k i p x) refl
   where
-    by : (a : Action) → step σ k i p x ≡ a → Either (Halted σ k i p (x ∷ ps)) (Reached σ k i p (x ∷ ps))
-    by stop e = left (record { at = i; inside = omega arith; halts = λ ts. parse-stop σ k i p x (ps ++ ts) e })
+    by : (a : Action) → step σ k i p x ≡ a → _⊎_ (Halted σ k i p (x ∷ ps)) (Reached σ k i p (x ∷ ps))
+    by stop e = inl (record { at = i; inside = omega arith; halts = λ ts. parse-stop σ k i p x (ps ++ ts) e })
     by (move τ q) e = go (f τ k (suc i) q)
       where
-        go : Either (Halted τ k (suc i) q ps) (Reached τ k (suc i) q ps) → Either (Halted σ k i p (x ∷ ps)) (Reached σ k i p (x ∷ ps))
-        go (left h) = left (record { at = h .at; inside = omega (arith, h .inside); halts = λ ts. parse-move σ τ k i p q x (ps ++ ts) e ∙ h .halts ts })
-        go (right r) = right (record { stack = r .stack; count = r .count; phase = r .phase; before = r .before; goes = λ ts. parse-move σ τ k i p q x (ps ++ ts) e ∙ (r .goes ts ∙ ap (mapOutcome (r .before)) (at-number (r .stack) (r .count) (suc i + length ps) (i + suc (length ps)) (r .phase) ts (omega arith))) })
+        go : _⊎_ (Halted τ k (suc i) q ps) (Reached τ k (suc i) q ps) → _⊎_ (Halted σ k i p (x ∷ ps)) (Reached σ k i p (x ∷ ps))
+        go (inl h) = inl (record { at = h .at; inside = omega (arith, h .inside); halts = λ ts. parse-move σ τ k i p q x (ps ++ ts) e ∙ h .halts ts })
+        go (inr r) = inr (record { stack = r .stack; count = r .count; phase = r .phase; before = r .before; goes = λ ts. parse-move σ τ k i p q x (ps ++ ts) e ∙ (r .goes ts ∙ ap (mapOutcome (r .before)) (at-number (r .stack) (r .count) (suc i + length ps) (i + suc (length ps)) (r .phase) ts (omega arith))) })
     by (note d τ q) e = go (f τ (suc k) (suc i) q)
       where
-        go : Either (Halted τ (suc k) (suc i) q ps) (Reached τ (suc k) (suc i) q ps) → Either (Halted σ k i p (x ∷ ps)) (Reached σ k i p (x ∷ ps))
-        go (left h) = left (record { at = h .at; inside = omega (arith, h .inside); halts = λ ts. parse-note σ τ k i p q x (ps ++ ts) d e ∙ (ap (mapOutcome (λ r. d ∷ r)) (h .halts ts) ∙ map-stuck (λ r. d ∷ r) (h .at)) })
-        go (right r) = right (record { stack = r .stack; count = r .count; phase = r .phase; before = λ l. d ∷ r .before l; goes = λ ts. parse-note σ τ k i p q x (ps ++ ts) d e ∙ (ap (mapOutcome (λ r. d ∷ r)) (r .goes ts ∙ ap (mapOutcome (r .before)) (at-number (r .stack) (r .count) (suc i + length ps) (i + suc (length ps)) (r .phase) ts (omega arith))) ∙ map-twice (λ l. d ∷ l) (r .before) _) })
+        go : _⊎_ (Halted τ (suc k) (suc i) q ps) (Reached τ (suc k) (suc i) q ps) → _⊎_ (Halted σ k i p (x ∷ ps)) (Reached σ k i p (x ∷ ps))
+        go (inl h) = inl (record { at = h .at; inside = omega (arith, h .inside); halts = λ ts. parse-note σ τ k i p q x (ps ++ ts) d e ∙ (ap (mapOutcome (λ r. d ∷ r)) (h .halts ts) ∙ map-stuck (λ r. d ∷ r) (h .at)) })
+        go (inr r) = inr (record { stack = r .stack; count = r .count; phase = r .phase; before = λ l. d ∷ r .before l; goes = λ ts. parse-note σ τ k i p q x (ps ++ ts) d e ∙ (ap (mapOutcome (λ r. d ∷ r)) (r .goes ts ∙ ap (mapOutcome (r .before)) (at-number (r .stack) (r .count) (suc i + length ps) (i + suc (length ps)) (r .phase) ts (omega arith))) ∙ map-twice (λ l. d ∷ l) (r .before) _) })
 
 over : (ps : List TextToken) → Over ps
-over [] σ k i p = right (record { stack = σ; count = k; phase = p; before = λ r. r; goes = λ ts. at-number σ k i (i + 0) p ts (omega arith) ∙ sym (map-same _) })
+over [] σ k i p = inr (record { stack = σ; count = k; phase = p; before = λ r. r; goes = λ ts. at-number σ k i (i + 0) p ts (omega arith) ∙ sym (map-same _) })
 over (x ∷ ps) σ k i p = over-step x ps (over ps) σ k i p
 
 -- ---- the theorem
@@ -190,18 +190,19 @@ reached-viable ps r =
 viable-reached : {X : Type 0} (ps : List TextToken) → Viable ps → (Start ps → X) → X
 viable-reached {X} ps v k = by (over ps [] 0 0 atStart)
   where
-    by : Either (Halted [] 0 0 atStart ps) (Start ps) → X
-    by (left h) = let f = fits-complete (ps ++ v .0) (v .1) in stuck-complete (sym (h .halts (v .0)) ∙ f .1)
-    by (right r) = k r
+    by : _⊎_ (Halted [] 0 0 atStart ps) (Start ps) → X
+    by (inl h) = let f = fits-complete (ps ++ v .0) (v .1) in stuck-complete (sym (h .halts (v .0)) ∙ f .1)
+    by (inr r) = k r
 
--- the token t after ps can't go on
-abbrev pub CannotGoOn : List TextToken → TextToken → Type 0
+-- the token t after ps can't go on, whatever follows
+abbrev CannotGoOn : List TextToken → TextToken → Type 0
 CannotGoOn ps t = (more : List TextToken) → Fits (ps ++ (t ∷ more)) → ⊥
 
--- "first token that can't go on, or the text's length": where number 3 stands
-pub data StuckBy (ts : List TextToken) (i : ℕ) : Type 0 where
-  token : (ps : List TextToken) (t : TextToken) (more : List TextToken) → ts ≡ ps ++ (t ∷ more) → i ≡ length ps → Viable ps → CannotGoOn ps t → StuckBy ts i
-  ending-due : i ≡ length ts → Viable ts → (Fits ts → ⊥) → StuckBy ts i
+not-viable : (ps : List TextToken) (t : TextToken) → CannotGoOn ps t → Viable (ps ++ (t ∷ [])) → ⊥
+not-viable ps t c v = c (v .0) (rw (append-assoc ps (t ∷ []) (v .0)) at (v .1))
+
+viable-not : (ps : List TextToken) (t : TextToken) → (Viable (ps ++ (t ∷ [])) → ⊥) → CannotGoOn ps t
+viable-not ps t c more f = c (more, rw (append-assoc ps (t ∷ []) more) f)
 
 fits-not-stuck : (ts : List TextToken) (i : ℕ) → parseTokens ts ≡ stuckAt i → Fits ts → ⊥
 fits-not-stuck ts i e f = let c = fits-complete ts f in stuck-complete (sym e ∙ c .1)
@@ -227,9 +228,9 @@ fate-on ps t ts (passes r) = passes (subst Start (append-assoc ps (t ∷ []) ts)
 one-more : (ps : List TextToken) (t : TextToken) (r : Start ps) (a : Action) → step (r .stack) (r .count) (0 + length ps) (r .phase) t ≡ a → (a ≡ stop → ⊥) → Start (ps ++ (t ∷ []))
 one-more ps t r a e n = by (over (ps ++ (t ∷ [])) [] 0 0 atStart)
   where
-    by : Either (Halted [] 0 0 atStart (ps ++ (t ∷ []))) (Start (ps ++ (t ∷ []))) → Start (ps ++ (t ∷ []))
-    by (right s) = s
-    by (left h) = absurd (go a e n)
+    by : _⊎_ (Halted [] 0 0 atStart (ps ++ (t ∷ []))) (Start (ps ++ (t ∷ []))) → Start (ps ++ (t ∷ []))
+    by (inr s) = s
+    by (inl h) = absurd (go a e n)
       where
         halted : (ts : List TextToken) → mapOutcome (r .before) (parseForms (r .stack) (r .count) (0 + length ps) (r .phase) (t ∷ ts)) ≡ stuckAt (h .at)
         halted ts = sym (r .goes (t ∷ ts)) ∙ (ap parseTokens (sym (append-assoc ps (t ∷ []) ts)) ∙ h .halts ts)
@@ -272,9 +273,9 @@ end-stuck ts r i e = by (at-end (r .stack) (r .count) (0 + length ts) (r .phase)
     ended : mapOutcome (r .before) (parseForms (r .stack) (r .count) (0 + length ts) (r .phase) []) ≡ stuckAt i
     ended = sym (r .goes []) ∙ (ap parseTokens (nil-right ts) ∙ e)
 
-    by : Either (parseForms (r .stack) (r .count) (0 + length ts) (r .phase) [] ≡ stuckAt (0 + length ts)) (parseForms (r .stack) (r .count) (0 + length ts) (r .phase) [] ≡ complete []) → i ≡ length ts
-    by (left q) = let z = stuck-number {i = i} {j = 0 + length ts} (sym ended ∙ (ap (mapOutcome (r .before)) q ∙ map-stuck (r .before) (0 + length ts))) in omega arith
-    by (right q) = stuck-complete (sym ended ∙ (ap (mapOutcome (r .before)) q ∙ map-done (r .before) []))
+    by : _⊎_ (parseForms (r .stack) (r .count) (0 + length ts) (r .phase) [] ≡ stuckAt (0 + length ts)) (parseForms (r .stack) (r .count) (0 + length ts) (r .phase) [] ≡ complete []) → i ≡ length ts
+    by (inl q) = let z = stuck-number {i = i} {j = 0 + length ts} (sym ended ∙ (ap (mapOutcome (r .before)) q ∙ map-stuck (r .before) (0 + length ts))) in omega arith
+    by (inr q) = stuck-complete (sym ended ∙ (ap (mapOutcome (r .before)) q ∙ map-done (r .before) []))
 
 -- number 3 at token i exactly when i is the first token that can't go on, or more is due at the end
 pub stuck-by : (ts : List TextToken) (i : ℕ) → parseTokens ts ≡ stuckAt i → StuckBy ts i
@@ -283,7 +284,7 @@ stuck-by ts i e = by (fate ts [] begun)
     by : Fate [] ts → StuckBy ts i
     by (stops ps t more r q s) =
         let z = stuck-number {i = i} {j = 0 + length ps} (sym e ∙ (ap parseTokens q ∙ halt-at ps r t more s)) in
-        token ps t more q (omega arith) (reached-viable ps r) (λ us f. fits-not-stuck (ps ++ (t ∷ us)) (0 + length ps) (halt-at ps r t us s) f)
+        token ps t more q (omega arith) (reached-viable ps r) (not-viable ps t (λ us f. fits-not-stuck (ps ++ (t ∷ us)) (0 + length ps) (halt-at ps r t us s) f))
     by (passes r) = ending-due (end-stuck ts r i e) (reached-viable ts r) (fits-not-stuck ts i e)
 
 outcome-case : {X : Type 0} (ts : List TextToken) → ((i : ℕ) → parseTokens ts ≡ stuckAt i → X) → ((ns : List Noted) → parseTokens ts ≡ complete ns → X) → X
@@ -308,7 +309,7 @@ dead-token ps t v c = viable-reached ps v (λ r. (r, by r (step (r .stack) (r .c
 
 pub by-stuck : (ts : List TextToken) (i : ℕ) → StuckBy ts i → parseTokens ts ≡ stuckAt i
 by-stuck ts i (token ps t more e n v c) =
-    let d = dead-token ps t v c in
+    let d = dead-token ps t v (viable-not ps t c) in
     ap parseTokens e ∙ (halt-at ps (d .0) t more (d .1) ∙ ap stuckAt (omega arith))
 by-stuck ts i (ending-due n v f) =
     outcome-case ts

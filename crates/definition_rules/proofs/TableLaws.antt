@@ -8,15 +8,12 @@ use native.Mathlib.Omega.{arith}
 use lib.Dec.{leb, eqb, ltb}
 use lib.ListN.{length, length-append}
 use borrow.Author.Tests.{eqb-true, eqb-false, eq-eqb, ltb-true, ltb-false, lt-ltb, le-ltb}
+use Rattle.classes.specs.Bytes.{Byte}
 use Rattle.numbers.specs.Limits.{none16, bias}
-use Rattle.classes.specs.Lists.{pick}
+use Rattle.classes.specs.Lists.{pick, All}
 use Rattle.reading_rules.specs.Record.{Record, Up, top, under}
-use Rattle.definition_rules.specs.Table.{Maybe, none, just, upNumber, numberUp, bit, flagsNumber, flag1, flag2, flag4, encodeRecord, encode, get16, get32, getBytes, want, recordOf, decodeRecord, mapMaybe, decodeUpTo, decode}
+use Rattle.definition_rules.specs.Table.{Maybe, none, just, upNumber, numberUp, bit, flagsNumber, flag1, flag2, flag4, encodeRecord, encode, get16, get32, getBytes, want, recordOf, decodeRecord, mapMaybe, decodeUpTo, decode, Storable}
 use Rattle.numbers.specs.LittleEndian.{put16, put32, signed}
-
-unfoldable pub All : {A : Type 0} → (A → Type 0) → List A → Type 0
-All P [] = Unit {0}
-All P (a ∷ l) = P a × All P l
 
 -- ---- numbers
 
@@ -63,10 +60,6 @@ of-flags (suc (suc (suc (suc (suc zero))))) h = refl
 of-flags (suc (suc (suc (suc (suc (suc zero)))))) h = refl
 of-flags (suc (suc (suc (suc (suc (suc (suc zero))))))) h = refl
 of-flags (suc (suc (suc (suc (suc (suc (suc (suc k)))))))) h = absurd (omega arith)
-
--- what the bytes can hold: no parent numbered 65,535, ranges of ints
-abbrev pub Storable : Record → Type 0
-Storable r = (upNumber (r .parent) ≡ none16 → r .parent ≡ top) × (r .least < bias + bias) × (r .most < bias + bias)
 
 up-of : (u : Up) → (upNumber u ≡ none16 → u ≡ top) → numberUp (upNumber u) ≡ u
 unfolding numberUp upNumber pick
@@ -117,9 +110,6 @@ unfolding decode
 decode-encode rs a = decode-upto rs (length (encode rs)) a (encode-length rs)
 
 -- ---- encode after decode, for bytes
-
-abbrev pub Byte : ℕ → Type 0
-Byte b = b < 256
 
 split16 : (a b : ℕ) (r : List ℕ) → a < 256 → put16 (a + 256 * b) r ≡ a ∷ b ∷ r
 unfolding put16

@@ -8,21 +8,22 @@ use native.Mathlib.Omega.{arith}
 use lib.Dec.{ltb}
 use lib.ListN.{length, drop}
 use borrow.Author.Tests.{ltb-true, ltb-false, lt-ltb, le-ltb}
-use Rattle.classes.specs.Lists.{pick}
+use Rattle.classes.specs.Bytes.{Byte}
+use Rattle.classes.specs.Lists.{pick, All}
 use Rattle.definition_rules.specs.Scan.{TextToken}
-use Rattle.definition_rules.specs.Forms.{tops, Form, printForm, Fits}
+use Rattle.definition_rules.specs.Forms.{tops, Form, printForm, Fits, StuckBy}
 use Rattle.reading_rules.specs.Record.{Record}
 use Rattle.definition_rules.specs.Declarations.{Noted, complete, stuckAt, parseTokens, declarationsOf, treeDeclarations}
-use Rattle.definition_rules.specs.Table.{Maybe, just, encode, decode}
-use Rattle.definition_rules.specs.Compile.{checks, Verdict, refused, table, verdict, CompileAnswer, compiled, refusal, answerWithRoom, compileAnswer, lentAfter, tableAfter}
-use Rattle.definition_rules.proofs.TableLaws.{All, Storable, Byte, decode-encode, encode-decode}
-use Rattle.definition_rules.proofs.FirstFault.{Found, refused-found, found-refused}
+use Rattle.definition_rules.specs.Table.{Maybe, just, encode, decode, Storable}
+use Rattle.definition_rules.specs.Compile.{checks, Verdict, refused, table, verdict, CompileAnswer, compiled, refusal, answerWithRoom, compileAnswer, lentAfter, tableAfter, FirstFaultIs}
+use Rattle.definition_rules.proofs.TableLaws.{decode-encode, encode-decode}
+use Rattle.definition_rules.proofs.FirstFault.{refused-found, found-refused}
 use Rattle.definition_rules.proofs.FormComplete.{fits-complete}
 use Rattle.definition_rules.proofs.FormSound.{complete-fits}
 use Rattle.definition_rules.proofs.FormUnique.{form-unique}
-use Rattle.definition_rules.proofs.Stuck.{StuckBy, stuck-by, by-stuck}
-use Rattle.definition_rules.specs.Finite.{finites}
-use Rattle.definition_rules.proofs.FiniteLaws.{Sub, Closed, finites-closed, finites-least}
+use Rattle.definition_rules.proofs.Stuck.{stuck-by, by-stuck}
+use Rattle.definition_rules.specs.Finite.{finites, Sub, Closed}
+use Rattle.definition_rules.proofs.FiniteLaws.{finites-closed, finites-least}
 
 -- T2. "the tokens .. fit the forms" exactly when they are read
 pub fits-read : (ts : List TextToken) → Fits ts ↔ ((ns : List Noted) × (parseTokens ts ≡ complete ns))
@@ -44,7 +45,7 @@ pub stuck-iff : (ts : List TextToken) (i : ℕ) → (parseTokens ts ≡ stuckAt 
 stuck-iff ts i = (stuck-by ts i, by-stuck ts i)
 
 -- T4. "The lowest number that applies is given, at its smallest place."
-pub refused-iff : (text : List ℕ) (n p : ℕ) → (verdict text ≡ refused n p) ↔ Found n p (checks text)
+pub refused-iff : (text : List ℕ) (n p : ℕ) → (verdict text ≡ refused n p) ↔ FirstFaultIs n p (checks text)
 refused-iff text n p = (refused-found text n p, found-refused text n p)
 
 -- T5. "Success gives the table's length; bytes beyond it stay." "the table buffer is untouched"

@@ -1,7 +1,9 @@
 -- The checks in their order, the answer, and the lent table after.
+use mathlib.Core.Path.{_≡_}
 use mathlib.Core.Bool.{Bool, true, false}
 use mathlib.Core.List.{List, [], _∷_, _++_}
-use Prim.Native.Nat.{ℕ, zero, suc, _+_, min}
+use mathlib.Core.Logic.{_⊎_}
+use Prim.Native.Nat.{ℕ, zero, suc, _+_, _≤_, min}
 use lib.Dec.{leb, ltb, eqb}
 use lib.ListN.{length, drop, getD}
 use Rattle.numbers.specs.Limits.{textLimit, parameterLimit}
@@ -34,6 +36,31 @@ findingOf n (p ∷ r) f = fault n (leastOf p r)
 unfoldable pub firstFault : List Check → Finding
 firstFault [] = clean
 firstFault (check n ps ∷ cs) = findingOf n ps (firstFault cs)
+
+-- p is one of the places
+unfoldable pub IsPlace : ℕ → List ℕ → Type 0
+IsPlace p [] = ⊥
+IsPlace p (q ∷ r) = (p ≡ q) ⊎ IsPlace p r
+
+-- "at its smallest place"
+abbrev pub Least : ℕ → List ℕ → Type 0
+Least p ps = IsPlace p ps × ((q : ℕ) → IsPlace q ps → p ≤ q)
+
+unfoldable pub Empty : Check → Type 0
+Empty (check n ps) = ps ≡ []
+
+unfoldable pub AllEmpty : List Check → Type 0
+AllEmpty [] = Unit {0}
+AllEmpty (c ∷ cs) = Empty c × AllEmpty cs
+
+-- the same said of the checks, without a search: the check of n has p as its least place, and those before it have none
+pub record FirstFaultIs (n p : ℕ) (cs : List Check) : Type 0 where
+  pub before : List Check
+  pub places : List ℕ
+  pub after : List Check
+  pub split : cs ≡ before ++ (check n places ∷ after)
+  pub earlier : AllEmpty before
+  pub least : Least p places
 
 -- ---- places
 

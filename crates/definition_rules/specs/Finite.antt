@@ -1,4 +1,5 @@
 -- Number 10: "the least outcome of these steps".
+use mathlib.Core.Path.{_≡_}
 use mathlib.Core.Bool.{Bool, true, false, not, _&&_, _||_}
 use mathlib.Core.List.{List, [], _∷_}
 use Prim.Native.Nat.{ℕ, zero, suc}
@@ -48,6 +49,19 @@ rounds (suc n) rs have = rounds n rs (round rs have 0 rs)
 -- as many rounds as there are parameters: then nothing can be added
 unfoldable pub finites : List Record → List Bool
 finites rs = rounds (length rs) rs (replicate (length rs) false)
+
+-- ---- what the rounds come to (T6): the least set that is closed under the steps
+
+-- sets of parameters, as lists of one length: one lies in the other
+unfoldable pub Sub : List Bool → List Bool → Type 0
+Sub [] [] = Unit {0}
+Sub [] (b ∷ t) = ⊥
+Sub (a ∷ s) [] = ⊥
+Sub (a ∷ s) (b ∷ t) = (a ≡ true → b ≡ true) × Sub s t
+
+-- no step adds anything
+abbrev pub Closed : List Record → List Bool → Type 0
+Closed rs s = Sub (round rs s 0 rs) s
 
 -- "a struct or union with no finite value"
 unfoldable pub isEndless : List Bool → ℕ → Record → Bool

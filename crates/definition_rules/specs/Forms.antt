@@ -3,6 +3,7 @@ use mathlib.Core.Path.{_≡_}
 use mathlib.Core.Bool.{Bool, true, false}
 use mathlib.Core.List.{List, [], _∷_, _++_}
 use Prim.Native.Nat.{ℕ, zero, suc, _+_}
+use lib.ListN.{length}
 use Rattle.definition_rules.specs.Words.{kwAs, kwPlugin, takesRange, isCompound, isReference}
 use Rattle.definition_rules.specs.Scan.{TextToken, run, mark}
 
@@ -117,3 +118,9 @@ Fits ts = (d : Form tops) × Allowed topLevel d × (printForm d [] ≡ ts)
 -- the beginning of some row that fits
 abbrev pub Viable : List TextToken → Type 0
 Viable ts = (more : List TextToken) × Fits (ts ++ more)
+
+-- "first token that can't go on, or the text's length": where number 3 stands, as the number of a token. The tokens before it
+-- begin some row that fits, and those with it don't; or they all do, and more is due at the end.
+pub data StuckBy (ts : List TextToken) (i : ℕ) : Type 0 where
+  token : (ps : List TextToken) (t : TextToken) (more : List TextToken) → ts ≡ ps ++ (t ∷ more) → i ≡ length ps → Viable ps → (Viable (ps ++ (t ∷ [])) → ⊥) → StuckBy ts i
+  ending-due : i ≡ length ts → Viable ts → (Fits ts → ⊥) → StuckBy ts i

@@ -1,6 +1,7 @@
 -- The definition's text
 pub mod Words
 pub mod Scan
+pub mod Cut
 pub mod Forms
 pub mod Declarations
 -- The compiled table
@@ -10,3 +11,4 @@ pub mod Table
 pub mod Finite
 pub mod Faults
 pub mod Compile
+pub mod Stuck

@@ -1,10 +1,11 @@
 -- The compiled table: records to bytes and back.
+use mathlib.Core.Path.{_≡_}
 use mathlib.Core.Bool.{Bool, true, false}
 use mathlib.Core.List.{List, [], _∷_, _++_}
-use Prim.Native.Nat.{ℕ, zero, suc, _+_, _*_, _-_, _/_, _%_}
+use Prim.Native.Nat.{ℕ, zero, suc, _+_, _*_, _-_, _/_, _%_, _<_}
 use lib.Dec.{leb, ltb, eqb}
 use lib.ListN.{length}
-use Rattle.numbers.specs.Limits.{none16}
+use Rattle.numbers.specs.Limits.{none16, bias}
 use Rattle.numbers.specs.LittleEndian.{put16, put32, signed}
 use Rattle.classes.specs.Lists.{pick}
 use Rattle.reading_rules.specs.Record.{Record, Up, top, under}
@@ -82,6 +83,10 @@ want false m = none
 abbrev pub recordOf : ℕ → ℕ → ℕ → ℕ → ℕ → ℕ → ℕ → ℕ → List ℕ → Record
 recordOf k p f c d a b t l =
     record { kind = k; parent = numberUp p; untagged = flag1 f; extension = flag2 f; plugin = flag4 f; loCount = c; hiCount = d; least = signed a; most = signed b; target = t; label = l }
+
+-- what the bytes can hold: no parent numbered 65,535, ranges of ints
+abbrev pub Storable : Record → Type 0
+Storable r = (upNumber (r .parent) ≡ none16 → r .parent ≡ top) × (r .least < bias + bias) × (r .most < bias + bias)
 
 unfoldable pub decodeRecord : {A : Type 0} → List ℕ → (Record → List ℕ → Maybe A) → Maybe A
 decodeRecord s g =

@@ -8,10 +8,9 @@ use lib.Dec.{eqb, leb}
 use lib.ListN.{length}
 use borrow.Author.Tests.{leb-false}
 use Rattle.numbers.specs.Limits.{depthLimit}
-use Rattle.classes.specs.Lists.{pick}
+use Rattle.classes.specs.Lists.{pick, All}
 use Rattle.definition_rules.specs.Scan.{Item, item, bad, mark, badPlaces, deepPlaces, placeIf, isDeepBrace, bracesAfter, itemsOf}
 use Rattle.definition_rules.specs.Compile.{leastOf, faults2}
-use Rattle.definition_rules.proofs.TableLaws.{All}
 use Rattle.definition_scanner.specs.Live.{liveFrom}
 use Rattle.definition_scanner.specs.Lexed.{RunAt, MarkAt, BadAt}
 use Rattle.definition_scanner.specs.First.{faultsFrom}

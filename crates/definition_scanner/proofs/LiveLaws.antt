@@ -6,10 +6,9 @@ use Prim.Native.Nat.{ℕ, zero, suc, _+_, _≤_, _<_}
 use native.Mathlib.Omega.{arith}
 use lib.Dec.{eqb}
 use lib.ListN.{length, drop}
-use Rattle.classes.specs.Lists.{pick}
+use Rattle.classes.specs.Lists.{pick, All}
 use Rattle.definition_rules.specs.Words.{ByteClass, inRun, blank, single, slash, other, classOf}
 use Rattle.definition_rules.specs.Scan.{TextToken, run, mark, Item, gap, item, bad, ScanState, outside, lineComment, opening, comment, star, joinRun, startsWith, scan, textTokensOf, placesOf, badPlaces, isDeepBrace, bracesAfter, placeIf, deepPlaces}
-use Rattle.definition_rules.proofs.TableLaws.{All}
 use Rattle.definition_rules.proofs.ScanLaws.{at-blank, at-single, at-other, at-slash, at-run}
 use Rattle.definition_scanner.specs.Live.{live, liveFrom, Ahead}
 

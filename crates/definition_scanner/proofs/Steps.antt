@@ -9,12 +9,11 @@ use lib.Dec.{eqb}
 use lib.ListN.{length, getD, take, drop, length-drop, length-take, drop-of-length-le, take-append-drop}
 use lib.Seq.{drop-cons, drop-drop, take-all, length-take-le}
 use borrow.Author.Tests.{eq-eqb, ne-eqb}
-use Rattle.classes.specs.Lists.{pick, runOf}
+use Rattle.classes.specs.Lists.{pick, runOf, All}
 use Rattle.classes.specs.Bytes.{isRunByte, isBlank, isMark}
 use Rattle.classes.proofs.Rows.{run-within}
 use Rattle.definition_rules.specs.Words.{ByteClass, inRun, blank, single, slash, other, classOf}
 use Rattle.definition_rules.specs.Scan.{run, mark, Item, gap, item, bad, outside, lineComment, opening, comment, star, startsWith, scan}
-use Rattle.definition_rules.proofs.TableLaws.{All}
 use Rattle.definition_rules.proofs.ScanLaws.{at-blank, at-single, at-other, at-slash, at-longest-run, StartsNoRun}
 use Rattle.definition_cells.specs.Cells.{part}
 use Rattle.definition_scanner.specs.Live.{live, liveFrom, Ahead}

@@ -6,6 +6,7 @@ use Prim.Native.Nat.{ℕ, zero, suc, _+_, _*_, _%_, _≤_}
 use native.Mathlib.Omega.{arith}
 use lib.ListN.{length, take, drop}
 use lib.Seq.{take-at}
+use Rattle.classes.specs.Lists.{All}
 use Rattle.numbers.specs.Limits.{none16}
 use Rattle.numbers.specs.LittleEndian.{put16, put32}
 use Rattle.reading_rules.specs.Record.{Record}
@@ -14,7 +15,7 @@ use Rattle.definition_rules.specs.Declarations.{declarationsOf}
 use Rattle.definition_rules.specs.Records.{topNames, recordsFor, recordsOf}
 use Rattle.definition_cells.specs.Cells.{notedAt, notedFrom}
 use Rattle.definition_rules.specs.Table.{upNumber, bit, flagsNumber, encodeRecord, encode, just, decode}
-use Rattle.definition_rules.proofs.TableLaws.{All, decode-encode}
+use Rattle.definition_rules.proofs.TableLaws.{decode-encode}
 use Rattle.definition_writer.specs.Written.{recordsWritten, low16, cutBytes, encodeCut, WroteRecords}
 use Rattle.definition_writer.proofs.WriteLaws.{sets-front, encode-length}
 use Rattle.definition_writer.proofs.Widths.{Fit, Narrow, all-narrow, all-storable}

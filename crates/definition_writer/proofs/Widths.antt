@@ -8,7 +8,7 @@ use native.Mathlib.Omega.{arith}
 use lib.Dec.{eqb, leb}
 use lib.ListN.{length}
 use borrow.Author.Tests.{eqb-false, leb-true, not-false}
-use Rattle.classes.specs.Lists.{pick, every, notEmpty, sameBytes}
+use Rattle.classes.specs.Lists.{pick, every, notEmpty, sameBytes, All}
 use Rattle.classes.specs.Bytes.{isNameByte, isTagByte}
 use Rattle.numbers.specs.Limits.{none16, labelLimit, bias, intMost, countLimit}
 use Rattle.numbers.specs.Decimal.{isInt, isNatural, intWithin, biasedInt, numberOf}
@@ -20,9 +20,8 @@ use Rattle.definition_rules.specs.Scan.{placeIf}
 use Rattle.definition_rules.specs.Forms.{MaybeRun, absent, given, Tag, ownName, tagless, explicit}
 use Rattle.definition_rules.specs.Declarations.{Declaration, Spots, Noted, noted, declarationsOf}
 use Rattle.definition_rules.specs.Records.{kindLeast, kindMost, limitsOf, countRangeOf, topNames, isNamed, findTop, orNone, targetOf, labelOf, recordFor, recordsFor, recordsOf}
-use Rattle.definition_rules.specs.Table.{upNumber, numberUp}
+use Rattle.definition_rules.specs.Table.{upNumber, numberUp, Storable}
 use Rattle.definition_rules.specs.Faults.{spotsWhere, nameBroken, tagBroken, tagBrokenIn, referenceBroken, faults5}
-use Rattle.definition_rules.proofs.TableLaws.{All, Storable}
 use Rattle.definition_cells.specs.declared.Place.the-variants.{Nowhere}
 use Rattle.definition_cells.specs.Cells.{cellAt, runAt, tagAt, maybeRunAt, notedAt, notedFrom}
 use Rattle.definition_cells.specs.Places.{leastPlace}

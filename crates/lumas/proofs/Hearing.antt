@@ -6,6 +6,7 @@ use native.Mathlib.Omega.{arith}
 use lib.ListN.{length}
 use Rattle.definition_rules.specs.Compile.{compileAnswer}
 use Rattle.definition_rules.specs.Compile as compiler
+use Rattle.definition_rules.specs.Stuck.{StuckPromise}
 use Rattle.table_rules.specs.Endless.{EndlessPromise}
 use Rattle.message_rules.specs.Verdict.{readAnswer}
 use Rattle.message_rules.specs.Verdict as reader
@@ -24,19 +25,20 @@ pub record CompileTold (text : List ℕ) (room n v : ℕ) : Type 0 where
   pub number : n ≡ compiler.numberOfCompile (compileAnswer text room)
   pub value : v ≡ compileValue (compileAnswer text room)
   pub heard : compileHeard n v ≡ compileAnswer text room
+  pub stuck : StuckPromise text (compileHeard n v)
   pub endless : EndlessPromise text (compileHeard n v)
   pub fits : tableMost ≤ room → n ≡ 11 → ⊥
 
 module _ (text : List ℕ) (room : ℕ) where
-  pub told-table : (n : ℕ) → compiler.compiled n ≡ compileAnswer text room → EndlessPromise text (compiler.compiled n) → CompileTold text room 0 n
+  pub told-table : (n : ℕ) → compiler.compiled n ≡ compileAnswer text room → StuckPromise text (compiler.compiled n) × EndlessPromise text (compiler.compiled n) → CompileTold text room 0 n
   unfolding compileValue compiler.numberOfCompile compiler.lengthOfCompile compiler.placeOfCompile
-  told-table n e promise = record { number = rw (← e); value = rw (← e) (omega arith); heard = e; endless = promise; fits = λ _ z. omega (arith, z) }
+  told-table n e promise = record { number = rw (← e); value = rw (← e) (omega arith); heard = e; stuck = promise .0; endless = promise .1; fits = λ _ z. omega (arith, z) }
 
-  pub told-refusal : (n p : ℕ) → compiler.refusal n p ≡ compileAnswer text room → EndlessPromise text (compiler.refusal n p) → CompileTold text room n p
+  pub told-refusal : (n p : ℕ) → compiler.refusal n p ≡ compileAnswer text room → StuckPromise text (compiler.refusal n p) × EndlessPromise text (compiler.refusal n p) → CompileTold text room n p
   unfolding compileValue compiler.numberOfCompile compiler.lengthOfCompile compiler.placeOfCompile
   told-refusal n p e promise =
       let h : compileHeard n p ≡ compiler.refusal n p = heard-refusal n p (compile-number text room n p (sym e) .0) in
-      record { number = rw (← e); value = rw (← e) (omega arith); heard = h ∙ e; endless = rw h promise; fits = λ l z. never-eleven text room p l (sym e ∙ ap (λ k. compiler.refusal k p) z) }
+      record { number = rw (← e); value = rw (← e) (omega arith); heard = h ∙ e; stuck = rw h (promise .0); endless = rw h (promise .1); fits = λ l z. never-eleven text room p l (sym e ∙ ap (λ k. compiler.refusal k p) z) }
 
 -- ---- the reader
 

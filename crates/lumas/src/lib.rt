@@ -10,6 +10,7 @@ ghost use Prim.Native.Nat.{_≤_};
 ghost use lib.ListN.{length};
 ghost use Rattle.numbers.specs.Limits.{parameterLimit};
 ghost use Rattle.definition_rules.specs.Compile.{numberOfCompile, compileAnswer, tableAfter};
+ghost use Rattle.definition_rules.specs.Stuck.{StuckPromise};
 ghost use Rattle.table_rules.specs.Endless.{EndlessPromise};
 ghost use Rattle.table_rules.specs.Compilable.{Compilable};
 ghost use Rattle.table_rules.specs.RecordRules.{tableRules};
@@ -29,6 +30,7 @@ pub extern "C" fn lumas_compile(text: &[u8], table: &mut [u8], value: &mut usize
     ensures { λ _. ⌜ now (value .exit) ≡ compileValue (compileAnswer (now (text .entry)) (length (now (table .entry)))) ⌝ }
     ensures { λ _. ⌜ now (table .exit) ≡ tableAfter (now (text .entry)) (now (table .entry)) ⌝ }
     ensures { λ r. ⌜ compileHeard r (now (value .exit)) ≡ compileAnswer (now (text .entry)) (length (now (table .entry))) ⌝ }
+    ensures { λ r. ⌜ StuckPromise (now (text .entry)) (compileHeard r (now (value .exit))) ⌝ }
     ensures { λ r. ⌜ EndlessPromise (now (text .entry)) (compileHeard r (now (value .exit))) ⌝ }
     ensures { λ r. ⌜ (tableMost ≤ length (now (table .entry)) → r ≡ 11 → ⊥) ⌝ }
 {

@@ -13,7 +13,7 @@ use Rattle.numbers.specs.Limits.{messageLimit, openLimit, rowWidth, noRow, para
 use Rattle.reading_rules.specs.Schema.{schemaOf, Found, nowhere, found}
 use Rattle.reading_rules.specs.Reading.{Tree, body}
 use Rattle.table_records.specs.Stored.{recordsAt}
-use Rattle.message_rules.specs.RowBytes.{rowBytes}
+use Rattle.message_rules.specs.RowBytes.{startAt, endAt, rowLies, rowBytes, rowStart}
 use Rattle.message_rules.specs.Scan.{cut, scanFault, tokensOf}
 use Rattle.message_rules.specs.Scan.{Lexeme as Lex}
 use Rattle.reading_rules.specs.Parse.{Result, refused, bodyAt, parse}
@@ -48,21 +48,26 @@ row-lost : (len row : ℕ) → len / 4 ≤ row → len < 4 * row + 4
 row-lost len row h = let z : len % 4 < 4 = mod-lt len (omega arith) in omega (arith, div-add-mod' len 4, z)
 
 module _ (m lent : List ℕ) (row : ℕ) where
-  pub bytes-lost : length lent / 4 ≤ row → [] ≡ rowBytes m lent row
-  unfolding rowBytes
-  bytes-lost h = rw (lt-leb (4 * row + 4) (length lent) (row-lost (length lent) row h), rowBytes) refl
+  -- the empty part, at the message's start; or the row's part, at its own
+  not-lying : rowLies m lent row ≡ false → ([] ≡ rowBytes m lent row) × (0 ≡ rowStart m lent row)
+  unfolding rowBytes rowStart
+  not-lying e = rw (e, rowBytes, rowStart) (refl, refl)
 
-  pub bytes-back : row < length lent / 4 → getD lent (4 * row + 3) 0 < getD lent (4 * row + 2) 0 → [] ≡ rowBytes m lent row
-  unfolding rowBytes
-  bytes-back h e = rw (le-leb (4 * row + 4) (length lent) (row-there (length lent) row h), lt-leb (getD lent (4 * row + 2) 0) (getD lent (4 * row + 3) 0) e, rowBytes) refl
+  lying : rowLies m lent row ≡ true → (take (endAt lent row - startAt lent row) (drop (startAt lent row) m) ≡ rowBytes m lent row) × (startAt lent row ≡ rowStart m lent row)
+  unfolding rowBytes rowStart
+  lying e = rw (e, rowBytes, rowStart) (refl, refl)
 
-  pub bytes-over : row < length lent / 4 → getD lent (4 * row + 2) 0 ≤ getD lent (4 * row + 3) 0 → length m < getD lent (4 * row + 3) 0 → [] ≡ rowBytes m lent row
-  unfolding rowBytes
-  bytes-over h e f = rw (le-leb (4 * row + 4) (length lent) (row-there (length lent) row h), le-leb (getD lent (4 * row + 2) 0) (getD lent (4 * row + 3) 0) e, lt-leb (getD lent (4 * row + 3) 0) (length m) f, rowBytes) refl
+  pub bytes-lost : length lent / 4 ≤ row → ([] ≡ rowBytes m lent row) × (0 ≡ rowStart m lent row)
+  bytes-lost h = not-lying (rw (lt-leb (4 * row + 4) (length lent) (row-lost (length lent) row h)) refl)
 
-  pub bytes-there : row < length lent / 4 → getD lent (4 * row + 2) 0 ≤ getD lent (4 * row + 3) 0 → getD lent (4 * row + 3) 0 ≤ length m → take (getD lent (4 * row + 3) 0 - getD lent (4 * row + 2) 0) (drop (getD lent (4 * row + 2) 0) m) ≡ rowBytes m lent row
-  unfolding rowBytes
-  bytes-there h e f = rw (le-leb (4 * row + 4) (length lent) (row-there (length lent) row h), le-leb (getD lent (4 * row + 2) 0) (getD lent (4 * row + 3) 0) e, le-leb (getD lent (4 * row + 3) 0) (length m) f, rowBytes) refl
+  pub bytes-back : row < length lent / 4 → endAt lent row < startAt lent row → ([] ≡ rowBytes m lent row) × (0 ≡ rowStart m lent row)
+  bytes-back h e = not-lying (rw (le-leb (4 * row + 4) (length lent) (row-there (length lent) row h), lt-leb (startAt lent row) (endAt lent row) e) refl)
+
+  pub bytes-over : row < length lent / 4 → startAt lent row ≤ endAt lent row → length m < endAt lent row → ([] ≡ rowBytes m lent row) × (0 ≡ rowStart m lent row)
+  bytes-over h e f = not-lying (rw (le-leb (4 * row + 4) (length lent) (row-there (length lent) row h), le-leb (startAt lent row) (endAt lent row) e, lt-leb (endAt lent row) (length m) f) refl)
+
+  pub bytes-there : row < length lent / 4 → startAt lent row ≤ endAt lent row → endAt lent row ≤ length m → (take (endAt lent row - startAt lent row) (drop (startAt lent row) m) ≡ rowBytes m lent row) × (startAt lent row ≡ rowStart m lent row)
+  bytes-there h e f = lying (rw (le-leb (4 * row + 4) (length lent) (row-there (length lent) row h), le-leb (startAt lent row) (endAt lent row) e, le-leb (endAt lent row) (length m) f) refl)
 
   pub bytes-within : row < length lent / 4 → 4 * row + 4 ≤ length lent
   bytes-within h = row-there (length lent) row h

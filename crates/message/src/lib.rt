@@ -8,7 +8,7 @@ ghost use Rattle.numbers.specs.Limits.{messageLimit, parameterLimit};
 ghost use Rattle.table_records.specs.Stored.{recordsAt};
 ghost use Rattle.table_tags.specs.Lists.{Linked};
 ghost use Rattle.table_walk.specs.Walked.{Enough};
-ghost use Rattle.message_rules.specs.RowBytes.{rowBytes};
+ghost use Rattle.message_rules.specs.RowBytes.{rowBytes, rowStart, further};
 ghost use Rattle.message_rules.specs.Rows.{Row, cells};
 ghost use Rattle.message_rules.specs.Verdict.{roomFree, withRoom, written, readAnswer, rowsAfter};
 ghost use Rattle.message_rules.specs.Promise.{ReadPromise};
@@ -40,6 +40,7 @@ fn wide(x: u32) -> usize
 // A row's part of the message itself, empty where the row or its span isn't there. Any row may be asked for.
 pub fn row_bytes<'a>(message: &'a [u8], rows: &[u32], row: usize) -> &'a [u8]
     ensures { λ r. ⌜ now r ≡ rowBytes (now (message .entry)) (now (rows .entry)) row ⌝ }
+    ensures { λ r. ⌜ r .ptr ≡ further ((message .entry) .ptr) (rowStart (now (message .entry)) (now (rows .entry)) row) ⌝ }
 {
     if rows.len() / ROW_WIDTH <= row {
         return &message[0..0];

@@ -6,10 +6,12 @@ pub mod Places
 -- T10: tokens
 pub mod Spelling
 pub mod CutLaws
+pub mod TokenFaults
 -- T18: rows
 pub mod RowLaws
 pub mod Spans
 pub mod Nest
+pub mod Rising
 -- T9, T11 to T14, T17
 pub mod Promises
 pub mod Compiled

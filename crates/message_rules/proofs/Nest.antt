@@ -6,19 +6,11 @@ use native.Mathlib.Omega.{arith}
 use lib.ListN.{length, getD}
 use Rattle.reading_rules.specs.Reading.{TreeSort, body, Tree, unknownWord, unknownString, unknownBraces, unknownPair, unknownLast, unknownMore, leaf, braced, chosenVoid, chosen, chosenInt, last, more, listed, stopped, itemized, noItem, voidItem, listItem, unknownItem, unknownListItem, leavesThen, leaves}
 use Rattle.message_rules.specs.Scan.{Lexeme, Spelled, tokensOf}
-use Rattle.message_rules.specs.Rows.{Row, rowCount, lexemeAt, rowOver, rowsOf, messageRows}
+use Rattle.message_rules.specs.Rows.{Row, rowCount, lexemeAt, rowOver, rowsOf, messageRows, noSpan, Nested}
 use Rattle.reading_rules.specs.Reading.{width}
 use Rattle.message_rules.proofs.RowLaws.{rows-counted}
 use Rattle.message_rules.proofs.Spans.{Ordered, spelled-ordered, ordered-at, ordered-up, Covers, part, row-inside, tokens-length}
 use Rattle.reading_rules.proofs.Complete.{leaves-width}
-
-abbrev pub noSpan : Row
-noSpan = record { parameter = 0; parent = 0; start = 0; end = 0 }
-
--- each of these rows lies in the span of its parent, one of all the rows
-unfoldable pub Nested : List Row → List Row → Type 0
-Nested all [] = Unit {0}
-Nested all (r ∷ rs) = (getD all (r .parent) noSpan .start ≤ r .start) × (r .end ≤ getD all (r .parent) noSpan .end) × Nested all rs
 
 nested-append : (all a b : List Row) → Nested all a → Nested all b → Nested all (a ++ b)
 unfolding Nested

@@ -8,7 +8,7 @@ use Rattle.numbers.specs.Limits.{noRow, rowWidth}
 use Rattle.reading_rules.specs.Token.{Token}
 use Rattle.reading_rules.specs.Reading.{TreeSort, unknownValue, unknownList, value, list, body, items, Tree, unknownWord, unknownString, unknownBraces, unknownPair, unknownLast, unknownMore, leaf, braced, chosenVoid, chosen, chosenInt, last, more, listed, stopped, itemized, noItem, voidItem, listItem, unknownItem, unknownListItem, leavesThen, balancedFrom, count, fieldsOf, InRange, Full, For, Law}
 use Rattle.message_rules.specs.Scan.{Lexeme}
-use Rattle.message_rules.specs.Rows.{Row, rowCount, lexemeAt, rowOver, rowsOf, messageRows, cells}
+use Rattle.message_rules.specs.Rows.{Row, rowCount, lexemeAt, rowOver, rowsOf, messageRows, cells, ParentsFirst}
 use Rattle.reading_rules.specs.Reading.{width}
 
 -- a tree has as many rows as are counted
@@ -45,11 +45,6 @@ pub cells-counted : (rs : List Row) → length (cells rs) ≡ rowWidth * length 
 unfolding cells
 cells-counted [] = omega arith
 cells-counted (r ∷ rs) = omega (arith, cells-counted rs)
-
--- "parents first": rows from the n-th on, each with a parent row before it
-unfoldable pub ParentsFirst : ℕ → List Row → Type 0
-ParentsFirst n [] = Unit {0}
-ParentsFirst n (r ∷ rs) = (r .parent < n) × ParentsFirst (suc n) rs
 
 parents-append : (n : ℕ) (a b : List Row) → ParentsFirst n a → ParentsFirst (n + length a) b → ParentsFirst n (a ++ b)
 unfolding ParentsFirst

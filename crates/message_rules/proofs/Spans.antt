@@ -8,7 +8,7 @@ use Rattle.numbers.specs.Limits.{noRow}
 use Rattle.reading_rules.specs.Token.{Token, word, string, equals, comma, opening, closing}
 use Rattle.reading_rules.specs.Reading.{TreeSort, unknownValue, unknownList, value, list, body, items, Tree, unknownWord, unknownString, unknownBraces, unknownPair, unknownLast, unknownMore, leaf, braced, chosenVoid, chosen, chosenInt, last, more, listed, stopped, itemized, noItem, voidItem, listItem, unknownItem, unknownListItem, leavesThen, balancedFrom, count, fieldsOf, InRange, Full, For, Law}
 use Rattle.message_rules.specs.Scan.{Lexeme, lexeme, spelledThen, spelledLength, Spelled, tokensOf}
-use Rattle.message_rules.specs.Rows.{Row, rowCount, lexemeAt, rowOver, rowsOf, messageRows}
+use Rattle.message_rules.specs.Rows.{Row, rowCount, lexemeAt, rowOver, rowsOf, messageRows, Inside}
 use Rattle.reading_rules.specs.Reading.{width}
 use Rattle.reading_rules.proofs.Complete.{leaves-width, value-wide, list-wide}
 
@@ -53,11 +53,6 @@ ordered-up at end (l ∷ ls) h zero zero k m = (omega arith, omega arith)
 ordered-up at end (l ∷ ls) h zero (suc j) k m = let g = ordered-at (l .end) end ls (h .2) j (omega arith) in (omega (arith, h .1), omega arith)
 ordered-up at end (l ∷ ls) h (suc i) zero k m = absurd (omega arith)
 ordered-up at end (l ∷ ls) h (suc i) (suc j) k m = ordered-up (l .end) end ls (h .2) i j (omega arith) (omega arith)
-
--- every row's span lies between s and e, and does not end before it starts
-unfoldable pub Inside : ℕ → ℕ → List Row → Type 0
-Inside s e [] = Unit {0}
-Inside s e (r ∷ rs) = (s ≤ r .start) × (r .start ≤ r .end) × (r .end ≤ e) × Inside s e rs
 
 inside-append : (s e : ℕ) (a b : List Row) → Inside s e a → Inside s e b → Inside s e (a ++ b)
 unfolding Inside

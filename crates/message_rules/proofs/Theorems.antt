@@ -16,25 +16,21 @@ use Rattle.reading_rules.specs.Reading.{Tree, body, leaves}
 use Rattle.reading_rules.proofs.CountLaws.{clash-bool, and-both}
 use Rattle.table_rules.specs.Compilable.{Compilable}
 use Rattle.table_rules.proofs.Theorems.{rules-iff}
-use Rattle.message_rules.specs.Scan.{Lexeme, Spelled, Faulty, CutResult, cut, tokensOf, scanFault}
-use Rattle.message_rules.specs.Rows.{Row, messageRows, rowsOf}
+use Rattle.message_rules.specs.Scan.{Lexeme, Spelled, Faulty, Cutting, whole, broken, CutResult, cut, tokensOf, scanFault, TokenFault}
+use Rattle.message_rules.specs.Rows.{messageRows, rowsOf, RowsStand}
 use Rattle.message_rules.specs.RowBytes.{rowBytes}
 use Rattle.reading_rules.specs.Parse.{refused, parse}
 use Rattle.message_rules.specs.Verdict.{LawfulReading, placeOfLeft, refusal, recordsIn, readWith, readAnswer}
 use Rattle.message_rules.proofs.Spelling.{message-spelled, spelled-once, message-bad, message-faulty, bad-unspelled}
-use Rattle.message_rules.proofs.RowLaws.{ParentsFirst, parents-first}
-use Rattle.message_rules.proofs.Spans.{Inside, message-inside}
-use Rattle.message_rules.proofs.Nest.{Nested, message-nested}
+use Rattle.message_rules.proofs.RowLaws.{parents-first}
+use Rattle.message_rules.proofs.Spans.{message-inside}
+use Rattle.message_rules.proofs.Rising.{message-rises}
+use Rattle.message_rules.proofs.Nest.{message-nested}
+use Rattle.message_rules.proofs.TokenFaults.{token-fault-iff}
 use Rattle.message_rules.proofs.Promises.{long-21, fault-22, refused-21, refused-22, refused-parse, parse-refused}
 use Rattle.message_rules.proofs.Compiled.{table-reading, good-answer}
 
 -- ---- T10. "Tokens: a word .., a string .., and `= , { }`": a message is its tokens in one way, or has a first bad byte
-
-pub data Cutting (message : List ℕ) : Type 0 where
-  -- it spells these tokens and no others
-  whole : (ls : List Lexeme) → Spelled 0 message ls → ((ms : List Lexeme) → Spelled 0 message ms → ls ≡ ms) → Cutting message
-  -- it spells none: after these tokens stands a byte with which no token begins
-  broken : (ls : List Lexeme) (bad : ℕ) → Faulty 0 message ls bad → ((ms : List Lexeme) → Spelled 0 message ms → ⊥) → ((ms : List Lexeme) (place : ℕ) → Faulty 0 message ms place → (ls ≡ ms) × (bad ≡ place)) → Cutting message
 
 pub cutting : (message : List ℕ) → Cutting message
 cutting message = by (cut message .bad) refl
@@ -65,11 +61,11 @@ module _ (table message : List ℕ) (room : ℕ) (bytes : IsBytes table) (some :
         λ x. ok-answer ∙ (long-21 (recordsIn table) R message room (x .0) ∙ ap (refusal 21) (sym (x .1))),
       )
 
-  pub is-22 : (place : ℕ) → (readAnswer table message room ≡ refusal 22 place) ↔ ((length message ≤ messageLimit) × (scanFault (cut message) ≡ found place))
+  pub is-22 : (place : ℕ) → (readAnswer table message room ≡ refusal 22 place) ↔ ((length message ≤ messageLimit) × TokenFault message place)
   is-22 place =
       let R = table-reading table (rules-iff table bytes .1 some) in (
-        (λ e. refused-22 (recordsIn table) R message room place (sym ok-answer ∙ e)),
-        λ x. ok-answer ∙ fault-22 (recordsIn table) R message room place (x .0) (x .1),
+        (λ e. let x = refused-22 (recordsIn table) R message room place (sym ok-answer ∙ e) in (x .0, token-fault-iff message place .0 (x .1))),
+        λ x. ok-answer ∙ fault-22 (recordsIn table) R message room place (x .0) (token-fault-iff message place .1 (x .1)),
       )
 
   -- 23 to 28: the one that the rows of the decision table give, at the first token that is left, or the length
@@ -80,17 +76,14 @@ module _ (table message : List ℕ) (room : ℕ) (bytes : IsBytes table) (some :
         λ x. ok-answer ∙ parse-refused (recordsIn table) R message room n place (x .0) (x .1) (x .2 .0) (x .2 .1) (x .2 .2),
       )
 
--- ---- T18. Row 0 is the root's; parents come first; a row lies in its parent's span, all in the message
-
-pub record RowsStand (message : List ℕ) (ls : List Lexeme) (t : Tree body) : Type 0 where
-  pub root : (rest : List Row) × (messageRows message ls t ≡ record { parameter = 0; parent = noRow; start = 0; end = length message } ∷ rest) × ParentsFirst 1 rest × Nested (messageRows message ls t) rest
-  pub inside : Inside 0 (length message) (messageRows message ls t)
+-- ---- T18. Row 0 is the root's; parents come first; a row lies in its parent's span, all in the message; starts never fall
 
 pub rows-stand : (message : List ℕ) (ls : List Lexeme) (t : Tree body) → Spelled 0 message ls → leaves t ≡ tokensOf ls → RowsStand message ls t
 rows-stand message ls t h all =
     record {
       root = (rowsOf ls t 0 1 0 0, (unfold messageRows in refl), parents-first ls t 0 1 0 0 (omega arith), message-nested message ls t h all);
       inside = message-inside message ls t h all;
+      inOrder = message-rises message ls t h all;
     }
 
 -- ---- T19. "that part of the message itself", or the empty part

@@ -1,6 +1,7 @@
 -- The rows of a reading: a function of the tree and of the places of its leaves.
+use mathlib.Core.Path.{_≡_}
 use mathlib.Core.List.{List, [], _∷_, _++_}
-use Prim.Native.Nat.{ℕ, zero, suc, _+_, _-_}
+use Prim.Native.Nat.{ℕ, zero, suc, _+_, _-_, _≤_, _<_}
 use lib.ListN.{length, getD}
 use Rattle.numbers.specs.Limits.{noRow}
 use Rattle.reading_rules.specs.Token.{Token, word, string, equals, comma, opening, closing}
@@ -82,3 +83,34 @@ messageRows message ls t = record { parameter = 0; parent = noRow; start = 0; en
 unfoldable pub cells : List Row → List ℕ
 cells [] = []
 cells (r ∷ rs) = r .parameter ∷ r .parent ∷ r .start ∷ r .end ∷ cells rs
+
+-- ---- how rows stand (T18)
+
+-- "parents first": rows from the n-th on, each with a parent row before it
+unfoldable pub ParentsFirst : ℕ → List Row → Type 0
+ParentsFirst n [] = Unit {0}
+ParentsFirst n (r ∷ rs) = (r .parent < n) × ParentsFirst (suc n) rs
+
+-- "in order of place": no row starts before s or before the row above it
+unfoldable pub StartsRise : ℕ → List Row → Type 0
+StartsRise s [] = Unit {0}
+StartsRise s (r ∷ rs) = (s ≤ r .start) × StartsRise (r .start) rs
+
+abbrev pub noSpan : Row
+noSpan = record { parameter = 0; parent = 0; start = 0; end = 0 }
+
+-- each of these rows lies in the span of its parent, one of all the rows
+unfoldable pub Nested : List Row → List Row → Type 0
+Nested all [] = Unit {0}
+Nested all (r ∷ rs) = (getD all (r .parent) noSpan .start ≤ r .start) × (r .end ≤ getD all (r .parent) noSpan .end) × Nested all rs
+
+-- every row's span lies between s and e, and does not end before it starts
+unfoldable pub Inside : ℕ → ℕ → List Row → Type 0
+Inside s e [] = Unit {0}
+Inside s e (r ∷ rs) = (s ≤ r .start) × (r .start ≤ r .end) × (r .end ≤ e) × Inside s e rs
+
+-- row 0 is the root's; parents come first; a row lies in its parent's span, all in the message; starts never fall
+pub record RowsStand (message : List ℕ) (ls : List Lexeme) (t : Tree body) : Type 0 where
+  pub root : (rest : List Row) × (messageRows message ls t ≡ record { parameter = 0; parent = noRow; start = 0; end = length message } ∷ rest) × ParentsFirst 1 rest × Nested (messageRows message ls t) rest
+  pub inside : Inside 0 (length message) (messageRows message ls t)
+  pub inOrder : StartsRise 0 (messageRows message ls t)

@@ -2,6 +2,7 @@
 use mathlib.Core.Path.{_≡_}
 use mathlib.Core.Bool.{Bool, true, false, not, _&&_, _||_}
 use mathlib.Core.List.{List, [], _∷_, _++_}
+use mathlib.Core.Logic.{_⊎_}
 use Prim.Native.Nat.{ℕ, zero, suc, _+_, _-_}
 use lib.Dec.{eqb, leb, ltb}
 use lib.ListN.{length, take, drop, getD}
@@ -160,6 +161,13 @@ Faulty at bytes (l ∷ ls) bad =
     × (l .end ≡ l .start + spelledLength (l .token))
     × Faulty (l .end) rest ls bad
 
+-- "Tokens: a word .., a string .., and `= , { }`": a message is its tokens in one way, or has a first bad byte
+pub data Cutting (message : List ℕ) : Type 0 where
+  -- it spells these tokens and no others
+  whole : (ls : List Lexeme) → Spelled 0 message ls → ((ms : List Lexeme) → Spelled 0 message ms → ls ≡ ms) → Cutting message
+  -- it spells none: after these tokens stands a byte with which no token begins
+  broken : (ls : List Lexeme) (bad : ℕ) → Faulty 0 message ls bad → ((ms : List Lexeme) → Spelled 0 message ms → ⊥) → ((ms : List Lexeme) (place : ℕ) → Faulty 0 message ms place → (ls ≡ ms) × (bad ≡ place)) → Cutting message
+
 unfoldable pub tokensOf : List Lexeme → List Token
 tokensOf [] = []
 tokensOf (l ∷ ls) = l .token ∷ tokensOf ls
@@ -194,7 +202,18 @@ unfoldable pub shallow : ℕ → ℕ → List Token → Bool
 shallow limit n [] = true
 shallow limit n (t ∷ ts) = not (isOpening t && leb limit n) && shallow limit (openAfter n t) ts
 
--- 22 "at its smallest place": a brace too deep stands before the bad byte, as all the tokens do
+-- these are the message's tokens, up to its end or to its first bad byte
+abbrev pub TokensAre : List ℕ → List Lexeme → Type 0
+TokensAre message ls = Spelled 0 message ls ⊎ ((bad : ℕ) × Faulty 0 message ls bad)
+
+-- number 22, "at its smallest place", said without a scan
+pub data TokenFault (message : List ℕ) (place : ℕ) : Type 0 where
+  -- a byte with which no token begins; no brace before it is too deep
+  badByte : (ls : List Lexeme) → Faulty 0 message ls place → shallow openLimit 0 (tokensOf ls) ≡ true → TokenFault message place
+  -- the first `{` with 16 open
+  deepBrace : (ms : List Lexeme) (l : Lexeme) (rest : List Lexeme) → TokensAre message (ms ++ (l ∷ rest)) → shallow openLimit 0 (tokensOf ms) ≡ true → shallow openLimit 0 (tokensOf (ms ++ (l ∷ []))) ≡ false → place ≡ l .start → TokenFault message place
+
+-- the same found by a scan: a brace too deep stands before the bad byte, as all the tokens do
 unfoldable pub either : Found → Found → Found
 either nowhere f = f
 either (found at) f = found at

@@ -13,7 +13,7 @@ use Rattle.classes.specs.Lists.{pick}
 use Rattle.reading_rules.specs.Record.{Record, recordAt, blank, Nested}
 use Rattle.reading_rules.proofs.CountLaws.{clash-bool}
 use Rattle.definition_rules.specs.Finite.{finiteStep, round, rounds, finites}
-use Rattle.definition_rules.proofs.FirstFault.{Either, left, right}
+use mathlib.Core.Logic.{_⊎_, inl, inr}
 use Rattle.definition_rules.proofs.FiniteLaws.{sub-at, step-grows, finites-closed}
 use Rattle.table_records.specs.Stored.{recordIn, recordsAt}
 use Rattle.table_records.proofs.Laws.{length-records}
@@ -35,12 +35,12 @@ set-keeps (a ∷ s) zero (suc i) e = e
 set-keeps (a ∷ s) (suc k) zero e = e
 set-keeps (a ∷ s) (suc k) (suc i) e = set-keeps s k i e
 
-set-case : (s : List Bool) (k i : ℕ) → getD (set s k true) i false ≡ true → Either (i ≡ k) (getD s i false ≡ true)
+set-case : (s : List Bool) (k i : ℕ) → getD (set s k true) i false ≡ true → _⊎_ (i ≡ k) (getD s i false ≡ true)
 set-case s k i e = go (eqb i k) refl
   where
-    go : (b : Bool) → eqb i k ≡ b → Either (i ≡ k) (getD s i false ≡ true)
-    go true z = left (eqb-true i k z)
-    go false z = right (sym (getD-set-other s k i true false (eqb-false i k z)) ∙ e)
+    go : (b : Bool) → eqb i k ≡ b → _⊎_ (i ≡ k) (getD s i false ≡ true)
+    go true z = inl (eqb-true i k z)
+    go false z = inr (sym (getD-set-other s k i true false (eqb-false i k z)) ∙ e)
 
 -- ---- a round, place by place
 
@@ -112,9 +112,9 @@ module _ (rs : List Record) where
     unfolding added addIf isAdded
     added-within h w = go (getD have i false) (stepAt have i) refl
       where
-        new : stepAt have i ≡ true → (k : ℕ) → Either (k ≡ i) (getD have k false ≡ true) → getD (finites rs) k false ≡ true
-        new e k (left z) = rw z (closed-at i h (step-grows have (finites rs) w rs i (recordAt rs i) e))
-        new e k (right z) = w k z
+        new : stepAt have i ≡ true → (k : ℕ) → _⊎_ (k ≡ i) (getD have k false ≡ true) → getD (finites rs) k false ≡ true
+        new e k (inl z) = rw z (closed-at i h (step-grows have (finites rs) w rs i (recordAt rs i) e))
+        new e k (inr z) = w k z
 
         go : (b d : Bool) → stepAt have i ≡ d → In (pick (pick b false d) (set have i true) have) (finites rs)
         go true d e = unfold pick in w

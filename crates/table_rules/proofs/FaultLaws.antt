@@ -6,7 +6,7 @@ use Prim.Native.Nat.{ℕ, suc, _+_, _-_}
 use native.Mathlib.Omega.{arith}
 use lib.ListN.{length}
 use borrow.Author.Tests.{eq-eqb, eqb-true, not-true}
-use Rattle.classes.specs.Lists.{sameBytes}
+use Rattle.classes.specs.Lists.{sameBytes, All}
 use Rattle.numbers.specs.Range.{number}
 use Rattle.definition_rules.specs.Scan.{placeIf, Item}
 use Rattle.reading_rules.specs.Record.{Up, top, under, Record, sameUp}
@@ -14,7 +14,6 @@ use Rattle.definition_rules.specs.Declarations.{declarationsOf, Declaration, No
 use Rattle.definition_rules.specs.Faults.{spotsWhere, recordSpots, sameKey, isNewKey, nameKey, repeatedNames, Key, key}
 use Rattle.definition_rules.specs.Compile.{tokenPlaces}
 use Rattle.table_rules.specs.RecordRules.{noneBroken, allNew}
-use Rattle.definition_rules.proofs.TableLaws.{All}
 use Rattle.definition_rules.proofs.FormSound.{same-true}
 use Rattle.table_rules.proofs.Witness.{and-both, same-self, bool-no}
 use Rattle.table_rules.proofs.ShownNames.{Off, Uniq, declaredNames}

@@ -13,7 +13,7 @@ use Rattle.classes.specs.Bytes.{between, isLetter, isNameByte}
 use Rattle.definition_rules.specs.Words.{numberIf, numberIn, kindOfRun, isKeyword, startsWithLetter, nameForm}
 use Rattle.numbers.specs.Range.{number}
 use Rattle.definition_rules.specs.Table.{bit}
-use Rattle.definition_rules.proofs.FirstFault.{Either, left, right}
+use mathlib.Core.Logic.{_⊎_, inl, inr}
 
 unfoldable pub occ : ℕ → List ℕ → ℕ
 occ k [] = 0
@@ -52,21 +52,21 @@ pigeon (suc n) l h =
     let a = pigeon n (del n l) (λ i q. rw (del-occ i n l (λ e. omega arith)) (h i (omega arith))) in
     omega (arith, del-length n l, h n (omega arith))
 
-seek : (n : ℕ) (l : List ℕ) → Either ((i : ℕ) → i < n → 1 ≤ occ i l) ((i : ℕ) × (i < n) × (occ i l ≡ 0))
-seek zero l = left (λ i q. absurd (omega arith))
+seek : (n : ℕ) (l : List ℕ) → _⊎_ ((i : ℕ) → i < n → 1 ≤ occ i l) ((i : ℕ) × (i < n) × (occ i l ≡ 0))
+seek zero l = inl (λ i q. absurd (omega arith))
 seek (suc n) l = by (seek n l) (occ n l) refl
   where
-    by : Either ((i : ℕ) → i < n → 1 ≤ occ i l) ((i : ℕ) × (i < n) × (occ i l ≡ 0)) → (c : ℕ) → occ n l ≡ c → Either ((i : ℕ) → i < suc n → 1 ≤ occ i l) ((i : ℕ) × (i < suc n) × (occ i l ≡ 0))
-    by (right x) c e = right (x .0, omega (arith, x .1), x .2)
-    by (left f) zero e = right (n, omega arith, e)
-    by (left f) (suc c) e = left (λ i q. elim (eqb i n) as (λ b. eqb i n ≡ b → 1 ≤ occ i l) [ true ↦ λ y. rw (eqb-true i n y) (omega arith) | false ↦ λ y. f i (omega (arith, eqb-false i n y)) ] refl)
+    by : _⊎_ ((i : ℕ) → i < n → 1 ≤ occ i l) ((i : ℕ) × (i < n) × (occ i l ≡ 0)) → (c : ℕ) → occ n l ≡ c → _⊎_ ((i : ℕ) → i < suc n → 1 ≤ occ i l) ((i : ℕ) × (i < suc n) × (occ i l ≡ 0))
+    by (inr x) c e = inr (x .0, omega (arith, x .1), x .2)
+    by (inl f) zero e = inr (n, omega arith, e)
+    by (inl f) (suc c) e = inl (λ i q. elim (eqb i n) as (λ b. eqb i n ≡ b → 1 ≤ occ i l) [ true ↦ λ y. rw (eqb-true i n y) (omega arith) | false ↦ λ y. f i (omega (arith, eqb-false i n y)) ] refl)
 
 pub free : (l : List ℕ) → (i : ℕ) × (i ≤ length l) × (occ i l ≡ 0)
 free l = by (seek (suc (length l)) l)
   where
-    by : Either ((i : ℕ) → i < suc (length l) → 1 ≤ occ i l) ((i : ℕ) × (i < suc (length l)) × (occ i l ≡ 0)) → (i : ℕ) × (i ≤ length l) × (occ i l ≡ 0)
-    by (left f) = absurd (omega (arith, pigeon (suc (length l)) l f))
-    by (right x) = (x .0, omega (arith, x .1), x .2)
+    by : _⊎_ ((i : ℕ) → i < suc (length l) → 1 ≤ occ i l) ((i : ℕ) × (i < suc (length l)) × (occ i l ≡ 0)) → (i : ℕ) × (i ≤ length l) × (occ i l ≡ 0)
+    by (inl f) = absurd (omega (arith, pigeon (suc (length l)) l f))
+    by (inr x) = (x .0, omega (arith, x .1), x .2)
 
 -- the prefix of a name as a number, and the names made
 unfoldable pub code : List ℕ → ℕ

@@ -8,7 +8,7 @@ use lib.Dec.{leb, eqb, ltb}
 use lib.ListN.{length}
 use borrow.Author.Tests.{le-leb}
 use Rattle.numbers.specs.Limits.{bias}
-use Rattle.classes.specs.Lists.{every, pick, notEmpty}
+use Rattle.classes.specs.Lists.{every, pick, notEmpty, All}
 use Rattle.classes.specs.Bytes.{isLetter, isDigit, isRunByte, isBlank, isMark, isNameByte, isTagByte}
 use Rattle.definition_rules.specs.Words.{classOf, kwAs, kwPlugin, isCompound, isKeyword, startsWithLetter, nameForm, tagForm, inRun, single}
 use Rattle.definition_rules.specs.Scan.{TextToken, run, mark}
@@ -16,7 +16,6 @@ use Rattle.definition_rules.specs.Forms.{typeRun, putRange, putCard, putTag, pu
 use Rattle.reading_rules.specs.Record.{Up, top}
 use Rattle.definition_rules.specs.Declarations.{Declaration, declaration, BodyMode, inFields, groupOpened, inGroup, groupsClosed, Frame, frame}
 use Rattle.table_rules.specs.RecordRules.{isOpen, closedTo, inExtension}
-use Rattle.definition_rules.proofs.TableLaws.{All}
 use Rattle.table_rules.proofs.Numerals.{writeDigits, writeNat, Digit, writeInt, written-digits, in-range}
 use Rattle.table_rules.proofs.Spelling.{RunBytes, GoodToken}
 use Rattle.table_rules.proofs.FlatPrint.{putEndOf, putHeading, pushed, putClose, putCloses, putOpen, printFlat}

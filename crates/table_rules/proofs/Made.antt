@@ -8,7 +8,7 @@ use lib.Dec.{leb, eqb}
 use lib.ListN.{length}
 use borrow.Author.Tests.{ne-eqb, eqb-true, le-leb, leb-true}
 use Rattle.numbers.specs.Limits.{countLimit, none16}
-use Rattle.classes.specs.Lists.{every, pick, notEmpty}
+use Rattle.classes.specs.Lists.{every, pick, notEmpty, All}
 use Rattle.definition_rules.specs.Words.{kindTakesRange, isReference, isKeyword, startsWithLetter, nameForm, tagForm}
 use Rattle.classes.specs.Bytes.{isNameByte, isTagByte}
 use Rattle.definition_rules.specs.Forms.{MaybeRun, absent, given, Tag, ownName, tagless, explicit}
@@ -17,7 +17,6 @@ use Rattle.definition_rules.specs.Declarations.{Declaration, declaration}
 use Rattle.definition_rules.specs.Records.{kindLeast, kindMost, findTop, orNone}
 use Rattle.definition_rules.specs.Faults.{nameBroken, referenceBroken, tagBrokenIn, tagBroken, withinKind, countFine, rangeBroken, countBroken, kindOfDeclaration, kindsOf, dangling}
 use Rattle.table_rules.specs.RecordRules.{kindsOfRecords, isSingleValue, showsName, labelFine}
-use Rattle.definition_rules.proofs.TableLaws.{All}
 use Rattle.table_rules.proofs.FreshNames.{fresh, fresh-ok}
 use Rattle.table_rules.proofs.Spelling.{RunBytes}
 use Rattle.table_rules.proofs.Witness.{writeRange, runAt, keywordOf, runOf, typeFor, shows, tagFor, cardFor, rangeFor, and-both, DistinctTops, find-at, most-lt, count-is, range-is, declarationFor, RecordOk, type-kind, declarationsFor}

@@ -7,13 +7,12 @@ use lib.Dec.{ltb}
 use lib.ListN.{length}
 use borrow.Author.Tests.{not-true, ltb-true}
 use Rattle.numbers.specs.Limits.{depthLimit}
-use Rattle.classes.specs.Lists.{pick}
+use Rattle.classes.specs.Lists.{pick, All}
 use Rattle.definition_rules.specs.Words.{kindOfRun, kindTakesRange, kindIsCompound, takesRange, isCompound, isReference}
 use Rattle.definition_rules.specs.Forms.{typeRun, RangeAllowed, HeadAllowed, MaybeRun, absent, given, heading, topLevel}
 use Rattle.reading_rules.specs.Record.{top, Record, sameUp}
 use Rattle.definition_rules.specs.Declarations.{parentOf, inFields, groupOpened, inGroup, groupsClosed, Frame, frame}
 use Rattle.table_rules.specs.RecordRules.{closedTo, inExtension, pushIf, mayStand, standsIn, ordered, isSingleValue, topFine}
-use Rattle.definition_rules.proofs.TableLaws.{All}
 use Rattle.table_rules.proofs.FreshNames.{fresh}
 use Rattle.table_rules.proofs.FlatPrint.{pushed, FitsOn, InOrder}
 use Rattle.table_rules.proofs.Witness.{writeRange, typeFor, shows, tagFor, cardFor, rangeFor, and-both, bool-no, DistinctTops, declarationFor, SoundRecord, RecordOk, type-kind, declarationsFor}

@@ -7,13 +7,12 @@ use native.Mathlib.Nat.{div-add-mod', mod-lt, div-lt-self, le-div-iff-mul-le}
 use native.Mathlib.Omega.{arith}
 use lib.Dec.{eqb, leb, ltb}
 use borrow.Author.Tests.{ne-eqb, le-leb, leb-true, ltb-false, ltb-true, lt-ltb}
-use Rattle.classes.specs.Lists.{pick, every}
+use Rattle.classes.specs.Lists.{pick, every, All}
 use Rattle.classes.specs.Bytes.{between, isDigit}
 use Rattle.numbers.specs.Limits.{bias, intMost, countLimit}
 use Rattle.numbers.specs.Decimal.{readDigits, numberOf, isNatural, isMinus, isInt, intWithin, biasedInt}
 use Rattle.numbers.specs.Range.{numberWhen, readCount, readInt, beforeSides, secondDot, cutRange, number, sides}
 use Rattle.reading_rules.proofs.CountLaws.{clash-bool, and-both}
-use Rattle.definition_rules.proofs.TableLaws.{All}
 
 -- ---- written
 

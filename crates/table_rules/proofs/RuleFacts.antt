@@ -8,14 +8,13 @@ use lib.Dec.{leb, eqb}
 use lib.ListN.{length}
 use borrow.Author.Tests.{eqb-true, not-true, le-leb, leb-true}
 use Rattle.numbers.specs.Limits.{countLimit, noLimit, none16}
-use Rattle.classes.specs.Lists.{sameBytes, pick}
+use Rattle.classes.specs.Lists.{sameBytes, pick, All}
 use Rattle.definition_rules.specs.Words.{nameForm}
 use Rattle.definition_rules.specs.Forms.{MaybeRun, given, tops}
 use Rattle.reading_rules.specs.Record.{Up, top, under, Record, isTop}
 use Rattle.definition_rules.specs.Records.{kindLeast, kindMost, isNamed}
 use Rattle.definition_rules.specs.Faults.{Key, key}
 use Rattle.table_rules.specs.RecordRules.{isSingleValue, countsFine, rangeFine, isTopAt, targetFine, showsName, labelFine, topFine, recordFine, everyRecord, keyIf, shownNames}
-use Rattle.definition_rules.proofs.TableLaws.{All}
 use Rattle.definition_rules.proofs.FormSound.{same-true}
 use Rattle.table_rules.proofs.Witness.{runAt, and-both, bool-no, NotAmong, DistinctTops, RecordOk, topIf, recordTops}
 use Rattle.table_rules.proofs.ShownNames.{Off, Uniq}

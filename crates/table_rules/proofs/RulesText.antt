@@ -10,7 +10,7 @@ use borrow.Author.Tests.{leb-true, le-ltb}
 use Rattle.classes.specs.Bytes.{IsBytes}
 use Rattle.table_rules.proofs.TextBytes.{all-bytes, printed-bytes}
 use Rattle.numbers.specs.Limits.{textLimit}
-use Rattle.classes.specs.Lists.{every, pick}
+use Rattle.classes.specs.Lists.{every, pick, All}
 use Rattle.definition_rules.specs.Scan.{itemsOf, textTokensOf, placeIf, TextToken, Item}
 use Rattle.definition_rules.specs.Forms.{MaybeRun}
 use Rattle.reading_rules.specs.Record.{Up, top, under, Record}
@@ -19,10 +19,9 @@ use Rattle.definition_rules.specs.Finite.{finites, isEndless}
 use Rattle.definition_rules.specs.Table.{encode}
 use Rattle.definition_rules.specs.Records.{topNames, recordsOf}
 use Rattle.definition_rules.specs.Faults.{nameSpots, nameBroken, referenceBroken, tagBroken, rangeBroken, countBroken, kindsOf, isUnionAt, isAlternative, isGiven, countOnAlternative, voidMany, rule7Broken, tagRepeated, rootNoStruct, dangling}
-use Rattle.definition_rules.specs.Compile.{faults1, faults2, faults3, notedOf, checksOf, outcomeOf, recordsOfText, checksAfter, checksFrom, checks, verdict, check, table}
+use Rattle.definition_rules.specs.Compile.{faults1, faults2, faults3, notedOf, checksOf, outcomeOf, recordsOfText, checksAfter, checksFrom, checks, verdict, check, table, Empty, AllEmpty}
 use Rattle.table_rules.specs.RecordRules.{ordered, kindsOfRecords, isSingleValue, targetFine, labelFine, topFine, recordFine, everyRecord, noneBroken, shownNames, allNew, recordChecks, recordRules}
-use Rattle.definition_rules.proofs.TableLaws.{All}
-use Rattle.definition_rules.proofs.FirstFault.{Empty, AllEmpty, clean-table}
+use Rattle.definition_rules.proofs.FirstFault.{clean-table}
 use Rattle.definition_rules.proofs.FormComplete.{told, told-complete}
 use Rattle.table_rules.proofs.Spelling.{printTokens, GoodToken, spelled, scan-printed, spelled-tokens, spelled-bad, nest, nest-deep}
 use Rattle.table_rules.proofs.FlatPrint.{printFlat, Settled, InOrder, read-flat}

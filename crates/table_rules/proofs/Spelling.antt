@@ -6,10 +6,10 @@ use Prim.Native.Nat.{ℕ, suc, _+_, _-_}
 use native.Mathlib.Omega.{arith}
 use lib.Dec.{leb, eqb, ltb}
 use borrow.Author.Tests.{lt-leb, leb-false, ltb-true, lt-ltb}
+use Rattle.classes.specs.Lists.{All}
 use Rattle.numbers.specs.Limits.{depthLimit}
 use Rattle.definition_rules.specs.Words.{classOf, inRun, blank, single}
 use Rattle.definition_rules.specs.Scan.{joinRun, scan, textTokensOf, badPlaces, bracesAfter, isDeepBrace, placeIf, deepPlaces, TextToken, run, mark, Item, gap, item, bad, outside}
-use Rattle.definition_rules.proofs.TableLaws.{All}
 
 -- ---- tokens with a blank after each
 

@@ -13,8 +13,8 @@ use Rattle.reading_rules.specs.Count.{times, same, In, Once}
 use Rattle.reading_rules.proofs.CountLaws.{clash-bool, and-both, same-case, same-le, in-nil, in-head, in-tail, in-cons}
 use Rattle.classes.specs.Lists.{pick}
 use Rattle.definition_rules.specs.Faults.{anyBefore, parentKind, beside, misplacedField, misplacedAlternative, misplacedUntagged}
-use Rattle.definition_rules.specs.Finite.{canDoWithout, endsNeeds, structStep, unionStep, finiteStep, round, rounds, finites}
-use Rattle.definition_rules.proofs.FiniteLaws.{Sub, sub-at, finites-closed}
+use Rattle.definition_rules.specs.Finite.{canDoWithout, endsNeeds, structStep, unionStep, finiteStep, round, rounds, finites, Sub}
+use Rattle.definition_rules.proofs.FiniteLaws.{sub-at, finites-closed}
 use Rattle.table_rules.proofs.Facts.{Formed, or-none, and-off, before-none, untagged-is, tagged-is, seven-at, same-under}
 
 abbrev pub at : List Bool → ℕ → Bool

@@ -2,7 +2,7 @@
 use mathlib.Core.Path.{_≡_, refl, ap, sym, _∙_}
 use mathlib.Core.Bool.{Bool, true, false, not, _&&_}
 use mathlib.Core.List.{List, [], _∷_, _++_}
-use mathlib.Core.Logic.{_↔_}
+use mathlib.Core.Logic.{_↔_, _⊎_, inl, inr}
 use Prim.Native.Nat.{ℕ, zero, suc, _+_, _≤_, _<_}
 use native.Mathlib.Omega.{arith}
 use lib.Dec.{ltb}
@@ -17,11 +17,11 @@ use Rattle.definition_rules.specs.Declarations.{Spots, Noted, noted, Outcome, s
 use Rattle.definition_rules.specs.Records.{topNames, recordsOf}
 use Rattle.definition_rules.specs.Faults.{recordSpots, nameSpots, faults10}
 use Rattle.definition_rules.specs.Finite.{finites, isEndless}
-use Rattle.definition_rules.specs.Compile.{Check, check, Finding, clean, fault, leastOf, findingOf, firstFault, tokenPlace, tokenPlaces, notedOf, outcomeOf, recordsOfText, checks, checksFrom, checksAfter, checksOf, verdictOf, Verdict, refused, table, verdict, CompileAnswer, compiled, refusal, answerWithRoom, compileAnswer}
-use Rattle.definition_rules.proofs.FirstFault.{Either, left, right, In, Least, least-of}
+use Rattle.definition_rules.specs.Compile.{Check, check, Finding, clean, fault, leastOf, findingOf, firstFault, tokenPlace, tokenPlaces, notedOf, outcomeOf, recordsOfText, checks, checksFrom, checksAfter, checksOf, verdictOf, Verdict, refused, table, verdict, CompileAnswer, compiled, refusal, answerWithRoom, compileAnswer, IsPlace, Least}
+use Rattle.definition_rules.proofs.FirstFault.{least-of, pass}
 use Rattle.table_rules.specs.RecordRules.{noneBroken}
 use Rattle.table_rules.specs.Endless.{LawfulValue, Compound, namePlace, FirstEndless, EndlessPromise}
-use Rattle.table_rules.proofs.TextRules.{pass, length-records, noted-length, text-ten, text-rules-records}
+use Rattle.table_rules.proofs.TextRules.{length-records, noted-length, text-ten, text-rules-records}
 use Rattle.table_rules.proofs.Facts.{Formed}
 use Rattle.table_rules.proofs.Values.{endless-iff, rules-values}
 
@@ -31,8 +31,8 @@ module _ (text : List ℕ) (items : List Item) (f : ℕ → Record → Bool) whe
   abbrev named : List Noted → ℕ → ℕ
   named ns k = tokenPlace text items (getD (nameSpots ns) k 0)
 
-  spots-in : (i : ℕ) (rs : List Record) (ns : List Noted) (q : ℕ) → In q (tokenPlaces text items (recordSpots f (λ s. s .nameAt) i rs ns)) → (k : ℕ) × (k < length rs) × (f (i + k) (recordAt rs k) ≡ true) × (q ≡ named ns k)
-  unfolding recordSpots placeIf tokenPlaces In nameSpots recordAt
+  spots-in : (i : ℕ) (rs : List Record) (ns : List Noted) (q : ℕ) → IsPlace q (tokenPlaces text items (recordSpots f (λ s. s .nameAt) i rs ns)) → (k : ℕ) × (k < length rs) × (f (i + k) (recordAt rs k) ≡ true) × (q ≡ named ns k)
+  unfolding recordSpots placeIf tokenPlaces IsPlace nameSpots recordAt
   spots-in i [] ns q h = absurd h
   spots-in i (r ∷ rs) [] q h = absurd h
   spots-in i (r ∷ rs) (noted s d ∷ ns) q h = go (f i r) refl (λ h. later (spots-in (suc i) rs ns q h)) h
@@ -40,20 +40,20 @@ module _ (text : List ℕ) (items : List Item) (f : ℕ → Record → Bool) whe
       later : ((k : ℕ) × (k < length rs) × (f (suc i + k) (recordAt rs k) ≡ true) × (q ≡ named ns k)) → (k : ℕ) × (k < suc (length rs)) × (f (i + k) (recordAt (r ∷ rs) k) ≡ true) × (q ≡ named (noted s d ∷ ns) k)
       later g = let y : i + suc (g .0) ≡ suc i + g .0 = omega arith in (suc (g .0), omega (arith, g .1), ap (λ j. f j (recordAt rs (g .0))) y ∙ g .2, g .3)
 
-      go : (b : Bool) → f i r ≡ b → (In q (tokenPlaces text items (recordSpots f (λ s. s .nameAt) (suc i) rs ns)) → (k : ℕ) × (k < suc (length rs)) × (f (i + k) (recordAt (r ∷ rs) k) ≡ true) × (q ≡ named (noted s d ∷ ns) k)) → In q (tokenPlaces text items (placeIf b (s .nameAt) (recordSpots f (λ s. s .nameAt) (suc i) rs ns))) → (k : ℕ) × (k < suc (length rs)) × (f (i + k) (recordAt (r ∷ rs) k) ≡ true) × (q ≡ named (noted s d ∷ ns) k)
-      go true e k (left p) = let y : i + 0 ≡ i = omega arith in (0, omega arith, ap (λ j. f j r) y ∙ e, p)
-      go true e k (right h) = k h
+      go : (b : Bool) → f i r ≡ b → (IsPlace q (tokenPlaces text items (recordSpots f (λ s. s .nameAt) (suc i) rs ns)) → (k : ℕ) × (k < suc (length rs)) × (f (i + k) (recordAt (r ∷ rs) k) ≡ true) × (q ≡ named (noted s d ∷ ns) k)) → IsPlace q (tokenPlaces text items (placeIf b (s .nameAt) (recordSpots f (λ s. s .nameAt) (suc i) rs ns))) → (k : ℕ) × (k < suc (length rs)) × (f (i + k) (recordAt (r ∷ rs) k) ≡ true) × (q ≡ named (noted s d ∷ ns) k)
+      go true e k (inl p) = let y : i + 0 ≡ i = omega arith in (0, omega arith, ap (λ j. f j r) y ∙ e, p)
+      go true e k (inr h) = k h
       go false e k h = k h
 
-  in-spots : (i : ℕ) (rs : List Record) (ns : List Noted) → length rs ≡ length ns → (k : ℕ) → k < length rs → f (i + k) (recordAt rs k) ≡ true → In (named ns k) (tokenPlaces text items (recordSpots f (λ s. s .nameAt) i rs ns))
-  unfolding recordSpots placeIf tokenPlaces In nameSpots recordAt
+  in-spots : (i : ℕ) (rs : List Record) (ns : List Noted) → length rs ≡ length ns → (k : ℕ) → k < length rs → f (i + k) (recordAt rs k) ≡ true → IsPlace (named ns k) (tokenPlaces text items (recordSpots f (λ s. s .nameAt) i rs ns))
+  unfolding recordSpots placeIf tokenPlaces IsPlace nameSpots recordAt
   in-spots i [] ns l k h e = absurd (omega arith)
   in-spots i (r ∷ rs) [] l k h e = absurd (omega (arith, l))
-  in-spots i (r ∷ rs) (noted s d ∷ ns) l zero h e = rw ((let y : i ≡ i + 0 = omega arith in ap (λ j. f j r) y) ∙ e) (left refl)
+  in-spots i (r ∷ rs) (noted s d ∷ ns) l zero h e = rw ((let y : i ≡ i + 0 = omega arith in ap (λ j. f j r) y) ∙ e) (inl refl)
   in-spots i (r ∷ rs) (noted s d ∷ ns) l (suc k) h e = go (f i r) (in-spots (suc i) rs ns (omega (arith, l)) k (omega arith) ((let y : suc i + k ≡ i + suc k = omega arith in ap (λ j. f j (recordAt rs k)) y) ∙ e))
     where
-      go : (b : Bool) → In (named ns k) (tokenPlaces text items (recordSpots f (λ s. s .nameAt) (suc i) rs ns)) → In (named ns k) (tokenPlaces text items (placeIf b (s .nameAt) (recordSpots f (λ s. s .nameAt) (suc i) rs ns)))
-      go true h = right h
+      go : (b : Bool) → IsPlace (named ns k) (tokenPlaces text items (recordSpots f (λ s. s .nameAt) (suc i) rs ns)) → IsPlace (named ns k) (tokenPlaces text items (placeIf b (s .nameAt) (recordSpots f (λ s. s .nameAt) (suc i) rs ns)))
+      go true h = inr h
       go false h = h
 
 -- ---- a text refused with 10 or more: its number is 10, and its place the least of that check

@@ -7,11 +7,11 @@ use native.Mathlib.Omega.{arith}
 use lib.Dec.{eqb, leb}
 use lib.ListN.{getD}
 use borrow.Author.Tests.{eqb-true, leb-true}
-use Rattle.classes.specs.Bytes.{IsBytes, between, isLetter, isDigit, isRunByte, isMark, isBlank}
+use Rattle.classes.specs.Lists.{All}
+use Rattle.classes.specs.Bytes.{IsBytes, between, isLetter, isDigit, isRunByte, isMark, isBlank, Byte}
 use Rattle.reading_rules.proofs.CountLaws.{clash-bool, and-both}
 use Rattle.definition_rules.specs.Words.{ByteClass, inRun, blank, single, slash, other, classOf}
 use Rattle.definition_rules.specs.Scan.{TextToken, run, mark}
-use Rattle.definition_rules.proofs.TableLaws.{All, Byte}
 use Rattle.table_rules.proofs.Spelling.{printToken, printTokens, RunBytes, GoodToken}
 
 -- a row of bytes, by index and one after the other

@@ -7,9 +7,9 @@ use native.Mathlib.Omega.{arith}
 use lib.Dec.{leb, eqb, ltb}
 use lib.ListN.{length, drop, length-drop}
 use borrow.Author.Tests.{eq-eqb, le-leb, leb-true, lt-ltb, not-true}
-use Rattle.classes.specs.Bytes.{IsBytes}
+use Rattle.classes.specs.Bytes.{IsBytes, Byte}
 use Rattle.numbers.specs.Limits.{depthLimit, parameterLimit, countLimit, noLimit, none16}
-use Rattle.classes.specs.Lists.{sameBytes, every, pick, some, notEmpty}
+use Rattle.classes.specs.Lists.{sameBytes, every, pick, some, notEmpty, All}
 use Rattle.definition_rules.specs.Words.{numberIf, numberIn, kindOfRun, kindIsCompound, isCompound, isReference, isKeyword, startsWithLetter, nameForm, tagForm, other}
 use Rattle.classes.specs.Bytes.{isNameByte, isTagByte}
 use Rattle.numbers.specs.Decimal.{numberOf, isNatural}
@@ -19,13 +19,13 @@ use Rattle.definition_rules.specs.Forms.{typeRun, RangeAllowed, HeadAllowed, Ma
 use Rattle.reading_rules.specs.Record.{Up, top, under, Record, isTop, sameUp, recordAt, Before, Nested}
 use Rattle.definition_rules.specs.Declarations.{declare, treeDeclarations, parentOf, parseTokens, declarationsOf, Declaration, declaration, Noted, noted, inFields, groupOpened, inGroup, groupsClosed, Frame, frame, Outcome, stuckAt, complete, Spots}
 use Rattle.definition_rules.specs.Finite.{finites, isEndless}
-use Rattle.definition_rules.specs.Table.{upNumber, encode, decode, Maybe, none, just}
+use Rattle.definition_rules.specs.Table.{upNumber, encode, decode, Maybe, none, just, Storable}
 use Rattle.definition_rules.specs.Records.{kindLeast, kindMost, limitsOf, countRangeOf, topName, topNames, isNamed, findTop, orNone, targetOf, isTagless, labelOf, recordFor, recordsFor, recordsOf}
 use Rattle.definition_rules.specs.Faults.{spotsWhere, recordSpots, nameSpots, faults4, nameBroken, referenceBroken, tagBrokenIn, tagBroken, faults5, withinKind, countFine, rangeBroken, countBroken, kindOfDeclaration, kindsOf, isUnionAt, isAlternative, isGiven, countOnAlternative, voidMany, faults6, rule7Broken, faults7, nameKey, repeatedNames, tagRepeated, faults8, rootNoStruct, dangling, faults9, faults10, Key, key}
-use Rattle.definition_rules.specs.Compile.{faults2, faults3, notedOf, checksOf, outcomeOf, recordsOfText, checksAfter, checksFrom, checks, verdict, verdictOf, clean, refused, table, Check, check, Finding, fault, findingOf, firstFault, tokenPlaces, faults1}
+use Rattle.definition_rules.specs.Compile.{faults2, faults3, notedOf, checksOf, outcomeOf, recordsOfText, checksAfter, checksFrom, checks, verdict, verdictOf, clean, refused, table, Check, check, Finding, fault, findingOf, firstFault, tokenPlaces, faults1, Empty, AllEmpty}
 use Rattle.table_rules.specs.RecordRules.{isOpen, closedTo, inExtension, pushIf, mayStand, standsIn, ordered, kindsOfRecords, isSingleValue, isTopAt, targetFine, showsName, labelFine, topFine, recordFine, everyRecord, noneBroken, keyIf, shownNames, recordChecks, recordRules, rulesOf, tableRules}
-use Rattle.definition_rules.proofs.TableLaws.{All, Storable, decode-encode, Byte, encode-decode}
-use Rattle.definition_rules.proofs.FirstFault.{Empty, AllEmpty, table-clean}
+use Rattle.definition_rules.proofs.TableLaws.{decode-encode, encode-decode}
+use Rattle.definition_rules.proofs.FirstFault.{pass, table-clean}
 use Rattle.definition_rules.proofs.FormSound.{complete-fits}
 use Rattle.table_rules.proofs.Spelling.{nest, deep-nest}
 use Rattle.table_rules.proofs.FlatPrint.{pushed, FitsOn, InOrder, closed-top}
@@ -491,11 +491,6 @@ module _ (items : List Item) (ns : List Noted) (e : parseTokens (textTokensOf it
   storable = storables T rs (isUnionAt (kindsOf ds)) ds [] 0 (unfold Desc in tt) (standing .0 .0) (omega (arith, few)) fines
 
 -- ---- number 10 is given: what the other checks leave
-
-pub pass : (n m p : ℕ) (ps : List ℕ) (cs : List Check) → firstFault (check n ps ∷ cs) ≡ fault m p → (n ≡ m → ⊥) → (ps ≡ []) × (firstFault cs ≡ fault m p)
-unfolding firstFault findingOf
-pass n m p [] cs e f = (refl, e)
-pass n m p (q ∷ r) cs e f = let x : n ≡ m = cc in absurd (f x)
 
 cleared-ten : (text : List ℕ) (items : List Item) (o : Outcome (List Noted)) (ns : List Noted) (rs : List Record) (p : ℕ) → firstFault (checksOf text items o ns rs) ≡ fault 10 p → Cleared items ns rs × (faults3 o ≡ []) × (faults10 rs ns ≡ [] → ⊥)
 unfolding checksOf

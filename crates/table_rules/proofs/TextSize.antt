@@ -9,15 +9,13 @@ use lib.Dec.{eqb, ltb}
 use lib.ListN.{length, length-append}
 use borrow.Author.Tests.{ltb-false}
 use Rattle.numbers.specs.Limits.{bias}
-use Rattle.classes.specs.Lists.{pick}
+use Rattle.classes.specs.Lists.{pick, All}
 use Rattle.definition_rules.specs.Words.{kwAs, kwPlugin, isCompound}
 use Rattle.definition_rules.specs.Scan.{TextToken, run, mark}
 use Rattle.definition_rules.specs.Forms.{typeRun, putRange, putCard, putTag, putPlugin, putHead, MaybeRun, absent, given, Tag, ownName, tagless, explicit, Heading, heading}
 use Rattle.reading_rules.specs.Record.{Up, top}
 use Rattle.definition_rules.specs.Declarations.{Declaration, declaration, BodyMode, inFields, groupOpened, inGroup, groupsClosed, Frame, frame}
 use Rattle.table_rules.specs.RecordRules.{isOpen, closedTo, inExtension, pushIf}
-use Rattle.definition_rules.proofs.TableLaws.{All}
-use Rattle.definition_rules.proofs.Stuck.{token}
 use Rattle.table_rules.proofs.Numerals.{writeDigits, writeNat, writeInt}
 use Rattle.table_rules.proofs.Spelling.{printToken, printTokens}
 use Rattle.table_rules.proofs.FlatPrint.{putEndOf, putHeading, pushed, putClose, putCloses, putOpen, printFlat}

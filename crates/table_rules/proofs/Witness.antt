@@ -8,7 +8,7 @@ use lib.Dec.{leb, eqb, ltb}
 use lib.ListN.{length}
 use borrow.Author.Tests.{ne-eqb, eq-eqb, eqb-true, eqb-false, not-true, le-leb, ltb-false}
 use Rattle.numbers.specs.Limits.{countLimit, bias}
-use Rattle.classes.specs.Lists.{sameBytes, every, pick}
+use Rattle.classes.specs.Lists.{sameBytes, every, pick, All}
 use Rattle.definition_rules.specs.Words.{kwAs, kwPlugin, kwVoid, kwBool, kwInt, kwAscii, kwUnquoted, kwDate, kwTime, kwStruct, kwUnion, numberIf, numberIn, kindOfRun, kindTakesRange, isKeyword, startsWithLetter, nameForm}
 use Rattle.classes.specs.Bytes.{isNameByte}
 use Rattle.numbers.specs.Range.{onSides, lowOf, highOf, bothRead, readIntRange, readUpper, readCountRange, number, range}
@@ -19,7 +19,6 @@ use Rattle.definition_rules.specs.Table.{none}
 use Rattle.definition_rules.specs.Records.{kindLeast, kindMost, limitsOf, countRangeOf, topName, topNames, isNamed, findTop, orNone, targetOf, isTagless, labelOf, recordFor, recordsFor}
 use Rattle.definition_rules.specs.Compile.{table}
 use Rattle.table_rules.specs.RecordRules.{isSingleValue}
-use Rattle.definition_rules.proofs.TableLaws.{All}
 use Rattle.definition_rules.proofs.FormSound.{same-true}
 use Rattle.table_rules.proofs.Numerals.{writeNat, Digit, writeInt, written-digits, read-count, read-int, cut-put, no-dots, int-dots}
 use Rattle.table_rules.proofs.FreshNames.{fresh}
