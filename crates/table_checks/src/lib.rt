@@ -89,13 +89,13 @@ pub fn void_many(table: &[u8], unpacked: &[u32], i: usize) -> bool
         & (1 < table_records::hi_count_at(table, unpacked, i))
 }
 
-// ---- number 7
+// ---- number 7, by the clauses of docs/FORMAT.md (2.2)
 
 // An untagged field of a struct that can't stand there.
 fn misplaced_field(table: &[u8], unpacked: &[u32], n: usize, i: usize) -> bool
     ensures { λ r. ⌜ r ≡ misplacedField (recordsAt (now (table .entry)) (now (unpacked .entry)) n) i (recordIn (now (table .entry)) (now (unpacked .entry)) i) ⌝ }
 {
-    if table_records::extension_at(table, unpacked, i) {
+    if table_records::extension_at(table, unpacked, i) { // clause b
         return true;
     }
     if table_records::kind_at(table, unpacked, i) == 1 {
@@ -108,7 +108,7 @@ fn misplaced_field(table: &[u8], unpacked: &[u32], n: usize, i: usize) -> bool
 fn misplaced_alternative(table: &[u8], unpacked: &[u32], n: usize, i: usize) -> bool
     ensures { λ r. ⌜ r ≡ misplacedAlternative (recordsAt (now (table .entry)) (now (unpacked .entry)) n) i (recordIn (now (table .entry)) (now (unpacked .entry)) i) ⌝ }
 {
-    if table_records::extension_at(table, unpacked, i) {
+    if table_records::extension_at(table, unpacked, i) { // clause f
         return true;
     }
     if table_records::kind_at(table, unpacked, i) != 3 {
