@@ -10,11 +10,13 @@ ghost use Rattle.numbers.specs.Limits.{messageLimit};
 ghost use Rattle.reading_rules.specs.Parse.{structAt, wholeList, listsAt, bodyAt};
 ghost use Rattle.message_lookup.specs.Questions.{schemaAt, untaggedFrom};
 ghost use Rattle.message_lookup.specs.IntList.{IntsOf};
-ghost use Rattle.message_values.specs.Ends.{Room, Ends, EndsValue};
+ghost use Rattle.message_frame.specs.Ends.{Room, Ends, EndsValue};
 ghost use Rattle.message_reader.specs.Turning.{valuesOf, here, TakenAt, ElementAt, Bodying, PartAt, Marked, PlainAt, closedRows, endPlace, WholeAt, isUnion, movedOf, nextOf, fieldOf, underOf, innerOf, deeperOf, openRow};
 use message_bodies::Item;
 use message_bodies::Start;
 use message_choices::Choice;
+use message_frame::Frame;
+use message_frame::Got;
 use message_lists::After;
 use message_lists::Quick;
 use message_lookup::Found;
@@ -22,8 +24,6 @@ use message_lookup::Ints;
 use message_lookup::Shape;
 use message_rows::Row;
 use message_tokens::Cursor;
-use message_values::Frame;
-use message_values::Got;
 use message_values::Opened;
 
 // ---- frames
