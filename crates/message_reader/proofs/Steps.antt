@@ -320,7 +320,7 @@ closing-shut : (b : Tree body) (x y : List Token) → x ≡ closing ∷ y → sh
 unfolding shut
 closing-shut b x y e = rw e refl
 
-unfoldable pub isPlace : schema.Kind → Bool
+abbrev pub isPlace : schema.Kind → Bool
 isPlace schema.void = false
 isPlace schema.simple = true
 isPlace schema.struct = true
@@ -397,7 +397,7 @@ value-is S B fuel q x k e = rw e refl
 
 module _ (S : Schema) (s : List ℕ) (f : Frame) (before after : List ℕ) (g : Got) where
   pub plain-none : (k : schema.Kind) → S .kind (S .core (f .parameter)) ≡ k → isPlace k ≡ false → ((b a : List ℕ) → EndsValue (noneAt (here s f)) s f b a g) → PlainAt S s f before after g
-  unfolding byKind isPlace
+  unfolding byKind
   plain-none k e p h fuel n = value-same s f before after g (value-is S (bodyAt S (f .depth) true) fuel (f .parameter) (here s f) k e ∙ none-is k p (λ z. n (e ∙ z))) (h before after)
     where
       none-is : (k : schema.Kind) → isPlace k ≡ false → (k ≡ schema.union → ⊥) → byKind S (bodyAt S (f .depth) true) (valueAt S (bodyAt S (f .depth) true) fuel) (S .core (f .parameter)) k (here s f) ≡ noneAt (here s f)

@@ -11,34 +11,34 @@ use denote.Ref.{now}
 use borrow.Author.Needs.{needs}
 use Rattle.message_lookup.specs.Questions.{schemaAt, shapeOf, untaggedFrom}
 use Rattle.message_reader.specs.Turning.{Bodying}
-use Rattle.message_reader.proofs.Steps.{Listing, listing-start, listing-room, listing-named, listing-ints, listing-depth, listing-turn, listing-on, listing-done, listing-refused, bodying-start, bodying-room, bodying-depth, untagged-end, Choosing, choosing-start, choosing-room, choosing-depth, choosing-value, choosing-whole, choosing-stopped, choosing-on, deeper-less, plain-fits, whole-fits, body-none, body-ends, room-inner, braced-within, braced-ends, braced-refused, quick-ended, quick-element, element-more, element-last, element-after, element-refused, plain-none, plain-simple, plain-struct, isPlace}
+use Rattle.message_reader.proofs.Steps.{Listing, listing-start, listing-room, listing-named, listing-ints, listing-depth, listing-turn, listing-on, listing-done, listing-refused, bodying-start, bodying-room, bodying-depth, untagged-end, Choosing, choosing-start, choosing-room, choosing-depth, choosing-value, choosing-whole, choosing-stopped, choosing-on, deeper-less, plain-fits, whole-fits, body-none, body-ends, room-inner, braced-within, braced-ends, braced-refused, quick-ended, quick-element, element-more, element-last, element-after, element-refused, plain-none, plain-simple, plain-struct}
 use Prim.Native.Nat.{ℕ, _<_}
 use borrow.Fn.Kinds.{In}
 use borrow.Fn.PlainCycle.{Measures, is, falls, and}
 use Rattle.message_reader.proofs.body.Reads as body
 use Rattle.message_reader.proofs.body.Kinds as body-kinds
-use Rattle.message_reader.proofs.+body+braced+choice+element+fields+list+list_value+value.Lts-body as body-lts
+use Rattle.message_reader.proofs.+body+braced+element+fields+list+list_value+plain_value+value.Lts-body as body-lts
 use Rattle.message_reader.proofs.braced.Reads as braced
 use Rattle.message_reader.proofs.braced.Kinds as braced-kinds
-use Rattle.message_reader.proofs.+body+braced+choice+element+fields+list+list_value+value.Lts-braced as braced-lts
-use Rattle.message_reader.proofs.choice.Reads as choice
-use Rattle.message_reader.proofs.choice.Kinds as choice-kinds
-use Rattle.message_reader.proofs.+body+braced+choice+element+fields+list+list_value+value.Lts-choice as choice-lts
+use Rattle.message_reader.proofs.+body+braced+element+fields+list+list_value+plain_value+value.Lts-braced as braced-lts
 use Rattle.message_reader.proofs.element.Reads as element
 use Rattle.message_reader.proofs.element.Kinds as element-kinds
-use Rattle.message_reader.proofs.+body+braced+choice+element+fields+list+list_value+value.Lts-element as element-lts
+use Rattle.message_reader.proofs.+body+braced+element+fields+list+list_value+plain_value+value.Lts-element as element-lts
 use Rattle.message_reader.proofs.fields.Reads as fields
 use Rattle.message_reader.proofs.fields.Kinds as fields-kinds
-use Rattle.message_reader.proofs.+body+braced+choice+element+fields+list+list_value+value.Lts-fields as fields-lts
+use Rattle.message_reader.proofs.+body+braced+element+fields+list+list_value+plain_value+value.Lts-fields as fields-lts
 use Rattle.message_reader.proofs.list.Reads as list
 use Rattle.message_reader.proofs.list.Kinds as list-kinds
-use Rattle.message_reader.proofs.+body+braced+choice+element+fields+list+list_value+value.Lts-list as list-lts
+use Rattle.message_reader.proofs.+body+braced+element+fields+list+list_value+plain_value+value.Lts-list as list-lts
 use Rattle.message_reader.proofs.list_value.Reads as list-value
 use Rattle.message_reader.proofs.list_value.Kinds as list-value-kinds
-use Rattle.message_reader.proofs.+body+braced+choice+element+fields+list+list_value+value.Lts-list_value as list-value-lts
+use Rattle.message_reader.proofs.+body+braced+element+fields+list+list_value+plain_value+value.Lts-list_value as list-value-lts
+use Rattle.message_reader.proofs.plain_value.Reads as plain-value
+use Rattle.message_reader.proofs.plain_value.Kinds as plain-value-kinds
+use Rattle.message_reader.proofs.+body+braced+element+fields+list+list_value+plain_value+value.Lts-plain_value as plain-value-lts
 use Rattle.message_reader.proofs.value.Reads as value
 use Rattle.message_reader.proofs.value.Kinds as value-kinds
-use Rattle.message_reader.proofs.+body+braced+choice+element+fields+list+list_value+value.Lts-value as value-lts
+use Rattle.message_reader.proofs.+body+braced+element+fields+list+list_value+plain_value+value.Lts-value as value-lts
 use Rattle.message_choices.proofs.choose.Reads as choose-reads
 use Rattle.message_lists.proofs.after_value.Reads as after-value-reads
 use Rattle.message_lists.proofs.quick_int.Reads as quick-int-reads
@@ -62,10 +62,10 @@ use Rattle.message_values.proofs.no_value.Reads as no-value-reads
 use Rattle.message_values.proofs.open_brace.Reads as open-brace-reads
 use Rattle.message_values.proofs.shut.Reads as shut-reads
 use Rattle.message_values.proofs.simple.Reads as simple-reads
-use Rattle.message_reader.proofs.+body+braced+choice+element+fields+list+list_value+value.{
+use Rattle.message_reader.proofs.+body+braced+element+fields+list+list_value+plain_value+value.{
   statement,
 }
-use Rattle.message_reader.proofs.+body+braced+choice+element+fields+list+list_value+value.Tie.{
+use Rattle.message_reader.proofs.+body+braced+element+fields+list+list_value+plain_value+value.Tie.{
   close,
 }
 
@@ -74,9 +74,6 @@ abbrev μ-body : Measures 4 body-kinds.ps ℕ
 
 abbrev μ-braced : Measures 4 braced-kinds.ps ℕ
 μ-braced κs a = 8 * a .1 .1 .1 .1 .1 .0 .depth + 1
-
-abbrev μ-choice : Measures 4 choice-kinds.ps ℕ
-μ-choice κs a = 8 * a .1 .1 .1 .1 .1 .0 .depth + 3
 
 abbrev μ-element : Measures 4 element-kinds.ps ℕ
 μ-element κs a = 8 * a .1 .1 .1 .1 .1 .0 .depth + 5
@@ -90,8 +87,11 @@ abbrev μ-list : Measures 4 list-kinds.ps ℕ
 abbrev μ-list-value : Measures 4 list-value-kinds.ps ℕ
 μ-list-value κs a = 8 * a .1 .1 .1 .1 .1 .0 .depth + 4
 
+abbrev μ-plain-value : Measures 4 plain-value-kinds.ps ℕ
+μ-plain-value κs a = 8 * a .1 .1 .1 .1 .1 .0 .depth + 2
+
 abbrev μ-value : Measures 4 value-kinds.ps ℕ
-μ-value κs a = 8 * a .1 .1 .1 .1 .1 .0 .depth + 2
+μ-value κs a = 8 * a .1 .1 .1 .1 .1 .0 .depth + 3
 
 abbrev body-at : ℕ → In 4 body-kinds.ps
 body-at t = and 4 body-kinds.ps (is 4 body-kinds.ps μ-body t) body.Pre
@@ -104,12 +104,6 @@ braced-at t = and 4 braced-kinds.ps (is 4 braced-kinds.ps μ-braced t) braced.Pr
 
 abbrev braced-below : ℕ → In 4 braced-kinds.ps
 braced-below t = and 4 braced-kinds.ps (falls 4 braced-kinds.ps _<_ μ-braced t) braced.Pre
-
-abbrev choice-at : ℕ → In 4 choice-kinds.ps
-choice-at t = and 4 choice-kinds.ps (is 4 choice-kinds.ps μ-choice t) choice.Pre
-
-abbrev choice-below : ℕ → In 4 choice-kinds.ps
-choice-below t = and 4 choice-kinds.ps (falls 4 choice-kinds.ps _<_ μ-choice t) choice.Pre
 
 abbrev element-at : ℕ → In 4 element-kinds.ps
 element-at t = and 4 element-kinds.ps (is 4 element-kinds.ps μ-element t) element.Pre
@@ -137,13 +131,21 @@ abbrev list-value-below : ℕ → In 4 list-value-kinds.ps
 list-value-below t =
     and 4 list-value-kinds.ps (falls 4 list-value-kinds.ps _<_ μ-list-value t) list-value.Pre
 
+abbrev plain-value-at : ℕ → In 4 plain-value-kinds.ps
+plain-value-at t =
+    and 4 plain-value-kinds.ps (is 4 plain-value-kinds.ps μ-plain-value t) plain-value.Pre
+
+abbrev plain-value-below : ℕ → In 4 plain-value-kinds.ps
+plain-value-below t =
+    and 4 plain-value-kinds.ps (falls 4 plain-value-kinds.ps _<_ μ-plain-value t) plain-value.Pre
+
 abbrev value-at : ℕ → In 4 value-kinds.ps
 value-at t = and 4 value-kinds.ps (is 4 value-kinds.ps μ-value t) value.Pre
 
 abbrev value-below : ℕ → In 4 value-kinds.ps
 value-below t = and 4 value-kinds.ps (falls 4 value-kinds.ps _<_ μ-value t) value.Pre
 
--- src/lib.rt:510:13
+-- src/lib.rt:506:13
 body-head-requires : (t : ℕ) → body-lts.Need-head-requires (
   head-reads.Asked,
   head-reads.Learnt,
@@ -154,7 +156,7 @@ body-head-requires : (t : ℕ) → body-lts.Need-head-requires (
 ) (body-at t) body.Post
 body-head-requires t c κs = search needs
 
--- src/lib.rt:511:32
+-- src/lib.rt:507:32
 body-add-t11 : (t : ℕ) → body-lts.Need-add-t11 (
   head-reads.Asked,
   head-reads.Learnt,
@@ -165,7 +167,7 @@ body-add-t11 : (t : ℕ) → body-lts.Need-add-t11 (
 ) (body-at t) body.Post
 body-add-t11 t c = omega (arith, c .before .before .head .ensures 0 .within, c .before .before .before .before .before .before .before .before .before .pre .1 .short)
 
--- src/lib.rt:511:9
+-- src/lib.rt:507:9
 body-returns : (t : ℕ) → body-lts.Need-returns (
   head-reads.Asked,
   head-reads.Learnt,
@@ -176,7 +178,7 @@ body-returns : (t : ℕ) → body-lts.Need-returns (
 ) (body-at t) body.Post
 body-returns t c = body-none _ _ (c .before .before .before .before .before .before .before .before .before .args .f) _ (c .before .before .head .result) (c .before .before .head .ensures _) (c .before .before .before .if1 .taken)
 
--- src/lib.rt:513:41
+-- src/lib.rt:509:41
 body-deeper-requires : (t : ℕ) → body-lts.Need-deeper-requires (
   head-reads.Asked,
   head-reads.Learnt,
@@ -187,7 +189,7 @@ body-deeper-requires : (t : ℕ) → body-lts.Need-deeper-requires (
 ) (body-at t) body.Post
 body-deeper-requires t c κs = pos-of-ne-zero (c .before .if1 .left)
 
--- src/lib.rt:513:5
+-- src/lib.rt:509:5
 body-fields-requires : (t : ℕ) → body-lts.Need-fields-requires (
   head-reads.Asked,
   head-reads.Learnt,
@@ -198,7 +200,7 @@ body-fields-requires : (t : ℕ) → body-lts.Need-fields-requires (
 ) (body-at t) body.Post
 body-fields-requires t c κs = rw (c .deeper .ensures) (omega (arith, c .before .before .before .before .before .before .before .before .pre .1, pos-of-ne-zero (c .before .before .if1 .left)))
 
--- src/lib.rt:496:1
+-- src/lib.rt:492:1
 body-same-length : (t : ℕ) → body-lts.Need-same-length (
   head-reads.Asked,
   head-reads.Learnt,
@@ -209,7 +211,7 @@ body-same-length : (t : ℕ) → body-lts.Need-same-length (
 ) (body-at t) body.Post
 body-same-length t c = search needs
 
--- src/lib.rt:496:1
+-- src/lib.rt:492:1
 body-returns-2 : (t : ℕ) → body-lts.Need-returns-2 (
   head-reads.Asked,
   head-reads.Learnt,
@@ -324,7 +326,7 @@ braced-enum-known-w : (t : ℕ) → braced-lts.Need-enum-known-w (
 ) (braced-at t) braced.Post
 braced-enum-known-w t c = search needs
 
--- src/lib.rt:245:64
+-- src/lib.rt:245:72
 braced-add-shut : (t : ℕ) → braced-lts.Need-add-shut (
   open-brace-reads.Asked,
   open-brace-reads.Learnt,
@@ -440,453 +442,6 @@ braced-returns-3 : (t : ℕ) → braced-lts.Need-returns-3 (
   shut-reads.Learnt,
 ) (braced-at t) braced.Post
 braced-returns-3 t c = (rw (c .before .k2 .given .1) at (c .before .before .before .open-brace .ensures)) _ _
-
-abbrev choice-Inv-loop : choice-lts.InvT-loop
-choice-Inv-loop table unpacked n s rows₀ f g₀ rows g = Choosing (schemaAt table unpacked n) s f g n rows₀ rows
-
-abbrev choice-μ-loop : choice-lts.MeasureT-loop
-choice-μ-loop table unpacked n s rows₀ f g₀ rows g = length s - g .at
-
--- src/lib.rt:203:5
-choice-loop-holds : (t : ℕ) → choice-lts.Need-loop-holds (
-  core-reads.Asked,
-  core-reads.Learnt,
-  is-union-reads.Asked,
-  is-union-reads.Learnt,
-  value-below t,
-  value.Post,
-  close-chain-reads.Asked,
-  close-chain-reads.Learnt,
-  choose-reads.Asked,
-  choose-reads.Learnt,
-  open-row-reads.Asked,
-  open-row-reads.Learnt,
-  under-reads.Asked,
-  under-reads.Learnt,
-  whole-reads.Asked,
-  whole-reads.Learnt,
-) (choice-at t) choice.Post choice-Inv-loop choice-μ-loop
-choice-loop-holds t c = choosing-start _ _ _ _ _ (c .before .before .before .before .pre .1 .0) (c .before .before .before .before .pre .1 .1)
-
--- src/lib.rt:204:13
-choice-core-requires : (t : ℕ) → choice-lts.Need-core-requires (
-  core-reads.Asked,
-  core-reads.Learnt,
-  is-union-reads.Asked,
-  is-union-reads.Learnt,
-  value-below t,
-  value.Post,
-  close-chain-reads.Asked,
-  close-chain-reads.Learnt,
-  choose-reads.Asked,
-  choose-reads.Learnt,
-  open-row-reads.Asked,
-  open-row-reads.Learnt,
-  under-reads.Asked,
-  under-reads.Learnt,
-  whole-reads.Asked,
-  whole-reads.Learnt,
-) (choice-at t) choice.Post choice-Inv-loop choice-μ-loop
-choice-core-requires t c κs = search needs
-
--- src/lib.rt:205:13
-choice-is-union-requires : (t : ℕ) → choice-lts.Need-is-union-requires (
-  core-reads.Asked,
-  core-reads.Learnt,
-  is-union-reads.Asked,
-  is-union-reads.Learnt,
-  value-below t,
-  value.Post,
-  close-chain-reads.Asked,
-  close-chain-reads.Learnt,
-  choose-reads.Asked,
-  choose-reads.Learnt,
-  open-row-reads.Asked,
-  open-row-reads.Learnt,
-  under-reads.Asked,
-  under-reads.Learnt,
-  whole-reads.Asked,
-  whole-reads.Learnt,
-) (choice-at t) choice.Post choice-Inv-loop choice-μ-loop
-choice-is-union-requires t c κs = search needs
-
--- src/lib.rt:206:17
-choice-value-requires : (t : ℕ) → choice-lts.Need-value-requires (
-  core-reads.Asked,
-  core-reads.Learnt,
-  is-union-reads.Asked,
-  is-union-reads.Learnt,
-  value-below t,
-  value.Post,
-  close-chain-reads.Asked,
-  close-chain-reads.Learnt,
-  choose-reads.Asked,
-  choose-reads.Learnt,
-  open-row-reads.Asked,
-  open-row-reads.Learnt,
-  under-reads.Asked,
-  under-reads.Learnt,
-  whole-reads.Asked,
-  whole-reads.Learnt,
-) (choice-at t) choice.Post choice-Inv-loop choice-μ-loop
-choice-value-requires t c κs = let r = (choosing-room (c .before .before .before .before .loop .inv)) in omega (arith, r, c .before .before .before .before .loop .inv .down .named, choosing-depth (c .before .before .before .before .loop .inv), c .before .before .before .core .ensures)
-
--- src/lib.rt:207:13
-choice-close-chain-requires : (t : ℕ) → choice-lts.Need-close-chain-requires (
-  core-reads.Asked,
-  core-reads.Learnt,
-  is-union-reads.Asked,
-  is-union-reads.Learnt,
-  value-below t,
-  value.Post,
-  close-chain-reads.Asked,
-  close-chain-reads.Learnt,
-  choose-reads.Asked,
-  choose-reads.Learnt,
-  open-row-reads.Asked,
-  open-row-reads.Learnt,
-  under-reads.Asked,
-  under-reads.Learnt,
-  whole-reads.Asked,
-  whole-reads.Learnt,
-) (choice-at t) choice.Post choice-Inv-loop choice-μ-loop
-choice-close-chain-requires t c κs = let r = (choosing-room (c .before .before .before .before .before .before .before .before .loop .inv)) in omega (arith, r, plain-fits _ _ _ _ _ _ (c .before .before .before .value .result) (c .before .before .before .before .before .before .before .core .ensures) (sym (c .before .before .before .before .before .before .is-union .ensures) ∙ not-true _ (c .before .before .before .before .before .if1 .taken)) (c .before .before .before .value .ensures), c .before .before .before .before .before .before .before .before .before .before .before .before .before .pre .1 .0)
-
--- src/lib.rt:207:13
-choice-same-length : (t : ℕ) → choice-lts.Need-same-length (
-  core-reads.Asked,
-  core-reads.Learnt,
-  is-union-reads.Asked,
-  is-union-reads.Learnt,
-  value-below t,
-  value.Post,
-  close-chain-reads.Asked,
-  close-chain-reads.Learnt,
-  choose-reads.Asked,
-  choose-reads.Learnt,
-  open-row-reads.Asked,
-  open-row-reads.Learnt,
-  under-reads.Asked,
-  under-reads.Learnt,
-  whole-reads.Asked,
-  whole-reads.Learnt,
-) (choice-at t) choice.Post choice-Inv-loop choice-μ-loop
-choice-same-length t c = search needs
-
--- src/lib.rt:207:13
-choice-returns : (t : ℕ) → choice-lts.Need-returns (
-  core-reads.Asked,
-  core-reads.Learnt,
-  is-union-reads.Asked,
-  is-union-reads.Learnt,
-  value-below t,
-  value.Post,
-  close-chain-reads.Asked,
-  close-chain-reads.Learnt,
-  choose-reads.Asked,
-  choose-reads.Learnt,
-  open-row-reads.Asked,
-  open-row-reads.Learnt,
-  under-reads.Asked,
-  under-reads.Learnt,
-  whole-reads.Asked,
-  whole-reads.Learnt,
-) (choice-at t) choice.Post choice-Inv-loop choice-μ-loop
-choice-returns t c = choosing-value (c .before .before .before .before .before .before .before .before .before .before .before .loop .inv) _ _ _ _ (c .before .before .before .before .before .before .value .result) (c .before .before .before .before .before .before .before .before .before .before .core .ensures) (sym (c .before .before .before .before .before .before .before .before .before .is-union .ensures) ∙ not-true _ (c .before .before .before .before .before .before .before .before .if1 .taken)) (c .before .before .before .before .before .before .value .ensures) (c .before .before .close-chain .ensures .0) (c .before .before .close-chain .ensures .1)
-
--- src/lib.rt:209:15
-choice-choose-requires : (t : ℕ) → choice-lts.Need-choose-requires (
-  core-reads.Asked,
-  core-reads.Learnt,
-  is-union-reads.Asked,
-  is-union-reads.Learnt,
-  value-below t,
-  value.Post,
-  close-chain-reads.Asked,
-  close-chain-reads.Learnt,
-  choose-reads.Asked,
-  choose-reads.Learnt,
-  open-row-reads.Asked,
-  open-row-reads.Learnt,
-  under-reads.Asked,
-  under-reads.Learnt,
-  whole-reads.Asked,
-  whole-reads.Learnt,
-) (choice-at t) choice.Post choice-Inv-loop choice-μ-loop
-choice-choose-requires t c κs = let r = (choosing-room (c .before .before .before .loop .inv)) in omega (arith, r)
-
--- src/lib.rt:210:28
-choice-enum-known-q : (t : ℕ) → choice-lts.Need-enum-known-q (
-  core-reads.Asked,
-  core-reads.Learnt,
-  is-union-reads.Asked,
-  is-union-reads.Learnt,
-  value-below t,
-  value.Post,
-  close-chain-reads.Asked,
-  close-chain-reads.Learnt,
-  choose-reads.Asked,
-  choose-reads.Learnt,
-  open-row-reads.Asked,
-  open-row-reads.Learnt,
-  under-reads.Asked,
-  under-reads.Learnt,
-  whole-reads.Asked,
-  whole-reads.Learnt,
-) (choice-at t) choice.Post choice-Inv-loop choice-μ-loop
-choice-enum-known-q t c = search needs
-
--- src/lib.rt:211:17
-choice-open-row-requires : (t : ℕ) → choice-lts.Need-open-row-requires (
-  core-reads.Asked,
-  core-reads.Learnt,
-  is-union-reads.Asked,
-  is-union-reads.Learnt,
-  value-below t,
-  value.Post,
-  close-chain-reads.Asked,
-  close-chain-reads.Learnt,
-  choose-reads.Asked,
-  choose-reads.Learnt,
-  open-row-reads.Asked,
-  open-row-reads.Learnt,
-  under-reads.Asked,
-  under-reads.Learnt,
-  whole-reads.Asked,
-  whole-reads.Learnt,
-) (choice-at t) choice.Post choice-Inv-loop choice-μ-loop
-choice-open-row-requires t c κs = let r = (choosing-room (c .before .before .before .before .before .before .before .before .loop .inv)) in let d = deeper-less (c .before .before .before .before .before .before .before .before .loop .inv) _ _ _ _ (rw (c .before .before .q .given .1) at (c .before .before .before .before .choose .ensures)) in omega (arith, r, d, c .before .before .before .before .before .before .before .before .loop .inv .down .named)
-
--- src/lib.rt:212:17
-choice-under-requires : (t : ℕ) → choice-lts.Need-under-requires (
-  core-reads.Asked,
-  core-reads.Learnt,
-  is-union-reads.Asked,
-  is-union-reads.Learnt,
-  value-below t,
-  value.Post,
-  close-chain-reads.Asked,
-  close-chain-reads.Learnt,
-  choose-reads.Asked,
-  choose-reads.Learnt,
-  open-row-reads.Asked,
-  open-row-reads.Learnt,
-  under-reads.Asked,
-  under-reads.Learnt,
-  whole-reads.Asked,
-  whole-reads.Learnt,
-) (choice-at t) choice.Post choice-Inv-loop choice-μ-loop
-choice-under-requires t c κs = let r = (choosing-room (c .before .before .before .before .before .before .before .before .before .before .before .loop .inv)) in omega (arith, r)
-
--- src/lib.rt:203:5
-choice-loop-less : (t : ℕ) → choice-lts.Need-loop-less (
-  core-reads.Asked,
-  core-reads.Learnt,
-  is-union-reads.Asked,
-  is-union-reads.Learnt,
-  value-below t,
-  value.Post,
-  close-chain-reads.Asked,
-  close-chain-reads.Learnt,
-  choose-reads.Asked,
-  choose-reads.Learnt,
-  open-row-reads.Asked,
-  open-row-reads.Learnt,
-  under-reads.Asked,
-  under-reads.Learnt,
-  whole-reads.Asked,
-  whole-reads.Learnt,
-) (choice-at t) choice.Post choice-Inv-loop choice-μ-loop
-choice-loop-less t c = let d = deeper-less (c .before .before .before .before .before .before .before .before .before .before .before .before .loop .inv) _ _ _ _ (rw (c .before .before .before .before .before .before .q .given .1) at (c .before .before .before .before .before .before .before .before .choose .ensures)) in rw (c .under .ensures) (omega (arith, d))
-
--- src/lib.rt:203:5
-choice-loop-again : (t : ℕ) → choice-lts.Need-loop-again (
-  core-reads.Asked,
-  core-reads.Learnt,
-  is-union-reads.Asked,
-  is-union-reads.Learnt,
-  value-below t,
-  value.Post,
-  close-chain-reads.Asked,
-  close-chain-reads.Learnt,
-  choose-reads.Asked,
-  choose-reads.Learnt,
-  open-row-reads.Asked,
-  open-row-reads.Learnt,
-  under-reads.Asked,
-  under-reads.Learnt,
-  whole-reads.Asked,
-  whole-reads.Learnt,
-) (choice-at t) choice.Post choice-Inv-loop choice-μ-loop
-choice-loop-again t c = choosing-on (c .before .before .before .before .before .before .before .before .before .before .before .before .loop .inv) _ _ _ _ _ _ (c .before .before .before .before .before .before .before .before .before .before .before .core .ensures) (sym (c .before .before .before .before .before .before .before .before .before .before .is-union .ensures) ∙ not-false _ (c .before .before .before .before .before .before .before .before .before .if1 .left)) (rw (c .before .before .before .before .before .before .q .given .1) at (c .before .before .before .before .before .before .before .before .choose .ensures)) (c .before .before .before .open-row .ensures) (c .under .ensures)
-
--- src/lib.rt:214:26
-choice-enum-known-q-2 : (t : ℕ) → choice-lts.Need-enum-known-q-2 (
-  core-reads.Asked,
-  core-reads.Learnt,
-  is-union-reads.Asked,
-  is-union-reads.Learnt,
-  value-below t,
-  value.Post,
-  close-chain-reads.Asked,
-  close-chain-reads.Learnt,
-  choose-reads.Asked,
-  choose-reads.Learnt,
-  open-row-reads.Asked,
-  open-row-reads.Learnt,
-  under-reads.Asked,
-  under-reads.Learnt,
-  whole-reads.Asked,
-  whole-reads.Learnt,
-) (choice-at t) choice.Post choice-Inv-loop choice-μ-loop
-choice-enum-known-q-2 t c = search needs
-
--- src/lib.rt:215:21
-choice-whole-requires : (t : ℕ) → choice-lts.Need-whole-requires (
-  core-reads.Asked,
-  core-reads.Learnt,
-  is-union-reads.Asked,
-  is-union-reads.Learnt,
-  value-below t,
-  value.Post,
-  close-chain-reads.Asked,
-  close-chain-reads.Learnt,
-  choose-reads.Asked,
-  choose-reads.Learnt,
-  open-row-reads.Asked,
-  open-row-reads.Learnt,
-  under-reads.Asked,
-  under-reads.Learnt,
-  whole-reads.Asked,
-  whole-reads.Learnt,
-) (choice-at t) choice.Post choice-Inv-loop choice-μ-loop
-choice-whole-requires t c κs = let r = (choosing-room (c .before .before .before .before .before .before .before .before .loop .inv)) in let w = (rw (c .before .before .q2 .given .1) at (c .before .before .before .before .choose .ensures)) in omega (arith, r, w .step .less, w .step .within, w .below, c .before .before .before .before .before .before .before .before .loop .inv .down .named)
-
--- src/lib.rt:216:17
-choice-close-chain-requires-2 : (t : ℕ) → choice-lts.Need-close-chain-requires-2 (
-  core-reads.Asked,
-  core-reads.Learnt,
-  is-union-reads.Asked,
-  is-union-reads.Learnt,
-  value-below t,
-  value.Post,
-  close-chain-reads.Asked,
-  close-chain-reads.Learnt,
-  choose-reads.Asked,
-  choose-reads.Learnt,
-  open-row-reads.Asked,
-  open-row-reads.Learnt,
-  under-reads.Asked,
-  under-reads.Learnt,
-  whole-reads.Asked,
-  whole-reads.Learnt,
-) (choice-at t) choice.Post choice-Inv-loop choice-μ-loop
-choice-close-chain-requires-2 t c κs = let r = (choosing-room (c .before .before .before .before .before .before .before .before .before .before .before .before .loop .inv)) in let w = (rw (c .before .before .before .before .before .before .q2 .given .1) at (c .before .before .before .before .before .before .before .before .choose .ensures)) in omega (arith, r, w .step .within, c .before .before .before .before .before .before .before .before .before .before .before .before .before .before .before .before .before .pre .1 .0, whole-fits _ _ _ _ _ _ (c .before .before .before .whole .result) (c .before .before .before .whole .ensures))
-
--- src/lib.rt:216:17
-choice-same-length-2 : (t : ℕ) → choice-lts.Need-same-length-2 (
-  core-reads.Asked,
-  core-reads.Learnt,
-  is-union-reads.Asked,
-  is-union-reads.Learnt,
-  value-below t,
-  value.Post,
-  close-chain-reads.Asked,
-  close-chain-reads.Learnt,
-  choose-reads.Asked,
-  choose-reads.Learnt,
-  open-row-reads.Asked,
-  open-row-reads.Learnt,
-  under-reads.Asked,
-  under-reads.Learnt,
-  whole-reads.Asked,
-  whole-reads.Learnt,
-) (choice-at t) choice.Post choice-Inv-loop choice-μ-loop
-choice-same-length-2 t c = search needs
-
--- src/lib.rt:216:17
-choice-returns-2 : (t : ℕ) → choice-lts.Need-returns-2 (
-  core-reads.Asked,
-  core-reads.Learnt,
-  is-union-reads.Asked,
-  is-union-reads.Learnt,
-  value-below t,
-  value.Post,
-  close-chain-reads.Asked,
-  close-chain-reads.Learnt,
-  choose-reads.Asked,
-  choose-reads.Learnt,
-  open-row-reads.Asked,
-  open-row-reads.Learnt,
-  under-reads.Asked,
-  under-reads.Learnt,
-  whole-reads.Asked,
-  whole-reads.Learnt,
-) (choice-at t) choice.Post choice-Inv-loop choice-μ-loop
-choice-returns-2 t c = choosing-whole (c .before .before .before .before .before .before .before .before .before .before .before .before .before .before .before .loop .inv) _ _ _ _ _ _ _ (c .before .before .before .before .before .before .whole .result) (c .before .before .before .before .before .before .before .before .before .before .before .before .before .before .core .ensures) (sym (c .before .before .before .before .before .before .before .before .before .before .before .before .before .is-union .ensures) ∙ not-false _ (c .before .before .before .before .before .before .before .before .before .before .before .before .if1 .left)) (rw (c .before .before .before .before .before .before .before .before .before .q2 .given .1) at (c .before .before .before .before .before .before .before .before .before .before .before .choose .ensures)) (c .before .before .before .before .before .before .whole .ensures) (c .before .before .close-chain2 .ensures .0) (c .before .before .close-chain2 .ensures .1)
-
--- src/lib.rt:218:29
-choice-enum-known-k : (t : ℕ) → choice-lts.Need-enum-known-k (
-  core-reads.Asked,
-  core-reads.Learnt,
-  is-union-reads.Asked,
-  is-union-reads.Learnt,
-  value-below t,
-  value.Post,
-  close-chain-reads.Asked,
-  close-chain-reads.Learnt,
-  choose-reads.Asked,
-  choose-reads.Learnt,
-  open-row-reads.Asked,
-  open-row-reads.Learnt,
-  under-reads.Asked,
-  under-reads.Learnt,
-  whole-reads.Asked,
-  whole-reads.Learnt,
-) (choice-at t) choice.Post choice-Inv-loop choice-μ-loop
-choice-enum-known-k t c = search needs
-
--- src/lib.rt:219:17
-choice-same-length-3 : (t : ℕ) → choice-lts.Need-same-length-3 (
-  core-reads.Asked,
-  core-reads.Learnt,
-  is-union-reads.Asked,
-  is-union-reads.Learnt,
-  value-below t,
-  value.Post,
-  close-chain-reads.Asked,
-  close-chain-reads.Learnt,
-  choose-reads.Asked,
-  choose-reads.Learnt,
-  open-row-reads.Asked,
-  open-row-reads.Learnt,
-  under-reads.Asked,
-  under-reads.Learnt,
-  whole-reads.Asked,
-  whole-reads.Learnt,
-) (choice-at t) choice.Post choice-Inv-loop choice-μ-loop
-choice-same-length-3 t c = search needs
-
--- src/lib.rt:219:17
-choice-returns-3 : (t : ℕ) → choice-lts.Need-returns-3 (
-  core-reads.Asked,
-  core-reads.Learnt,
-  is-union-reads.Asked,
-  is-union-reads.Learnt,
-  value-below t,
-  value.Post,
-  close-chain-reads.Asked,
-  close-chain-reads.Learnt,
-  choose-reads.Asked,
-  choose-reads.Learnt,
-  open-row-reads.Asked,
-  open-row-reads.Learnt,
-  under-reads.Asked,
-  under-reads.Learnt,
-  whole-reads.Asked,
-  whole-reads.Learnt,
-) (choice-at t) choice.Post choice-Inv-loop choice-μ-loop
-choice-returns-3 t c = choosing-stopped (c .before .before .before .before .before .before .before .loop .inv) _ _ _ (c .before .before .before .before .before .before .core .ensures) (sym (c .before .before .before .before .before .is-union .ensures) ∙ not-false _ (c .before .before .before .before .if1 .left)) (rw (c .before .k .given .1) at (c .before .before .before .choose .ensures))
 
 -- src/lib.rt:329:11
 element-list-value-requires : (t : ℕ) → element-lts.Need-list-value-requires (
@@ -1065,7 +620,7 @@ fields-Inv-loop table unpacked n s rows₀ inside seen₀ g₀ i₀ rows seen g 
 abbrev fields-μ-loop : fields-lts.MeasureT-loop
 fields-μ-loop table unpacked n s rows₀ inside seen₀ g₀ i₀ rows seen g i = length s - g .at
 
--- src/lib.rt:470:20
+-- src/lib.rt:466:20
 fields-no-marks-requires : (t : ℕ) → fields-lts.Need-no-marks-requires (
   no-marks-reads.Asked,
   no-marks-reads.Learnt,
@@ -1080,7 +635,7 @@ fields-no-marks-requires : (t : ℕ) → fields-lts.Need-no-marks-requires (
 ) (fields-at t) fields.Post fields-Inv-loop fields-μ-loop
 fields-no-marks-requires t c κs = search needs
 
--- src/lib.rt:473:5
+-- src/lib.rt:469:5
 fields-loop-holds : (t : ℕ) → fields-lts.Need-loop-holds (
   no-marks-reads.Asked,
   no-marks-reads.Learnt,
@@ -1095,7 +650,7 @@ fields-loop-holds : (t : ℕ) → fields-lts.Need-loop-holds (
 ) (fields-at t) fields.Post fields-Inv-loop fields-μ-loop
 fields-loop-holds t c = bodying-start _ _ _ _ _ _ _ _ (c .no-marks .ensures) (c .before .before .before .before .before .pre .1 .here)
 
--- src/lib.rt:474:15
+-- src/lib.rt:470:15
 fields-next-part-requires : (t : ℕ) → fields-lts.Need-next-part-requires (
   no-marks-reads.Asked,
   no-marks-reads.Learnt,
@@ -1110,7 +665,7 @@ fields-next-part-requires : (t : ℕ) → fields-lts.Need-next-part-requires (
 ) (fields-at t) fields.Post fields-Inv-loop fields-μ-loop
 fields-next-part-requires t c κs = (bodying-room (c .before .before .loop .inv) _ (c .before .before .before .before .before .before .before .before .pre .1), record { ks = c .before .before .loop .inv .seen; marks = c .before .before .loop .inv .marked })
 
--- src/lib.rt:475:24
+-- src/lib.rt:471:24
 fields-enum-known-q : (t : ℕ) → fields-lts.Need-enum-known-q (
   no-marks-reads.Asked,
   no-marks-reads.Learnt,
@@ -1125,7 +680,7 @@ fields-enum-known-q : (t : ℕ) → fields-lts.Need-enum-known-q (
 ) (fields-at t) fields.Post fields-Inv-loop fields-μ-loop
 fields-enum-known-q t c = search needs
 
--- src/lib.rt:476:21
+-- src/lib.rt:472:21
 fields-for-field-requires : (t : ℕ) → fields-lts.Need-for-field-requires (
   no-marks-reads.Asked,
   no-marks-reads.Learnt,
@@ -1140,7 +695,7 @@ fields-for-field-requires : (t : ℕ) → fields-lts.Need-for-field-requires (
 ) (fields-at t) fields.Post fields-Inv-loop fields-μ-loop
 fields-for-field-requires t c κs = search needs
 
--- src/lib.rt:477:23
+-- src/lib.rt:473:23
 fields-list-requires : (t : ℕ) → fields-lts.Need-list-requires (
   no-marks-reads.Asked,
   no-marks-reads.Learnt,
@@ -1155,7 +710,7 @@ fields-list-requires : (t : ℕ) → fields-lts.Need-list-requires (
 ) (fields-at t) fields.Post fields-Inv-loop fields-μ-loop
 fields-list-requires t c κs = let r = bodying-room (c .before .before .before .before .before .before .before .before .before .before .loop .inv) _ (c .before .before .before .before .before .before .before .before .before .before .before .before .before .before .before .before .pre .1) in let d = (rw (c .before .before .before .q .given .1) at (c .before .before .before .before .before .before .before .next-part .ensures _ _ (c .before .before .before .before .before .before .before .before .before .before .loop .inv))) in rw (c .before .for-field .ensures) (omega (arith, r, d .below, d .far, d .within, bodying-depth (c .before .before .before .before .before .before .before .before .before .before .loop .inv)))
 
--- src/lib.rt:478:31
+-- src/lib.rt:474:31
 fields-enum-known-w : (t : ℕ) → fields-lts.Need-enum-known-w (
   no-marks-reads.Asked,
   no-marks-reads.Learnt,
@@ -1170,7 +725,7 @@ fields-enum-known-w : (t : ℕ) → fields-lts.Need-enum-known-w (
 ) (fields-at t) fields.Post fields-Inv-loop fields-μ-loop
 fields-enum-known-w t c = search needs
 
--- src/lib.rt:479:25
+-- src/lib.rt:475:25
 fields-moved-requires : (t : ℕ) → fields-lts.Need-moved-requires (
   no-marks-reads.Asked,
   no-marks-reads.Learnt,
@@ -1185,7 +740,7 @@ fields-moved-requires : (t : ℕ) → fields-lts.Need-moved-requires (
 ) (fields-at t) fields.Post fields-Inv-loop fields-μ-loop
 fields-moved-requires t c κs = search needs
 
--- src/lib.rt:473:5
+-- src/lib.rt:469:5
 fields-loop-less : (t : ℕ) → fields-lts.Need-loop-less (
   no-marks-reads.Asked,
   no-marks-reads.Learnt,
@@ -1200,7 +755,7 @@ fields-loop-less : (t : ℕ) → fields-lts.Need-loop-less (
 ) (fields-at t) fields.Post fields-Inv-loop fields-μ-loop
 fields-loop-less t c = let d = (rw (c .before .before .before .before .before .before .before .before .before .before .q .given .1) at (c .before .before .before .before .before .before .before .before .before .before .before .before .before .before .next-part .ensures _ _ (c .before .before .before .before .before .before .before .before .before .before .before .before .before .before .before .before .before .loop .inv))) in let l = (rw (c .before .before .before .before .before .before .before .before .for-field .ensures, c .before .before .w .given .1) at (c .before .before .before .before .before .before .list .ensures)) in rw (c .moved .ensures) (omega (arith, d .far, l .moved .far, l .moved .within))
 
--- src/lib.rt:473:5
+-- src/lib.rt:469:5
 fields-loop-again : (t : ℕ) → fields-lts.Need-loop-again (
   no-marks-reads.Asked,
   no-marks-reads.Learnt,
@@ -1215,7 +770,7 @@ fields-loop-again : (t : ℕ) → fields-lts.Need-loop-again (
 ) (fields-at t) fields.Post fields-Inv-loop fields-μ-loop
 fields-loop-again t c = rw (c .moved .ensures) ((rw (c .before .before .before .before .before .before .before .before .before .before .q .given .1) at (c .before .before .before .before .before .before .before .before .before .before .before .before .before .before .next-part .ensures _ _ (c .before .before .before .before .before .before .before .before .before .before .before .before .before .before .before .before .before .loop .inv))) .read _ _ _ (rw (c .before .before .before .before .before .before .before .before .for-field .ensures, c .before .before .w .given .1) at (c .before .before .before .before .before .before .list .ensures)))
 
--- src/lib.rt:482:34
+-- src/lib.rt:478:34
 fields-enum-known-k : (t : ℕ) → fields-lts.Need-enum-known-k (
   no-marks-reads.Asked,
   no-marks-reads.Learnt,
@@ -1230,7 +785,7 @@ fields-enum-known-k : (t : ℕ) → fields-lts.Need-enum-known-k (
 ) (fields-at t) fields.Post fields-Inv-loop fields-μ-loop
 fields-enum-known-k t c = search needs
 
--- src/lib.rt:482:43
+-- src/lib.rt:478:43
 fields-same-length : (t : ℕ) → fields-lts.Need-same-length (
   no-marks-reads.Asked,
   no-marks-reads.Learnt,
@@ -1245,7 +800,7 @@ fields-same-length : (t : ℕ) → fields-lts.Need-same-length (
 ) (fields-at t) fields.Post fields-Inv-loop fields-μ-loop
 fields-same-length t c = search needs
 
--- src/lib.rt:482:43
+-- src/lib.rt:478:43
 fields-returns : (t : ℕ) → fields-lts.Need-returns (
   no-marks-reads.Asked,
   no-marks-reads.Learnt,
@@ -1260,7 +815,7 @@ fields-returns : (t : ℕ) → fields-lts.Need-returns (
 ) (fields-at t) fields.Post fields-Inv-loop fields-μ-loop
 fields-returns t c = (rw (c .before .before .before .before .before .before .before .before .before .q .given .1) at (c .before .before .before .before .before .before .before .before .before .before .before .before .before .next-part .ensures _ _ (c .before .before .before .before .before .before .before .before .before .before .before .before .before .before .before .before .loop .inv))) .refused _ _ (rw (c .before .before .before .before .before .before .before .for-field .ensures, c .before .k .given .1) at (c .before .before .before .before .before .list .ensures))
 
--- src/lib.rt:485:22
+-- src/lib.rt:481:22
 fields-enum-known-v : (t : ℕ) → fields-lts.Need-enum-known-v (
   no-marks-reads.Asked,
   no-marks-reads.Learnt,
@@ -1275,7 +830,7 @@ fields-enum-known-v : (t : ℕ) → fields-lts.Need-enum-known-v (
 ) (fields-at t) fields.Post fields-Inv-loop fields-μ-loop
 fields-enum-known-v t c = search needs
 
--- src/lib.rt:486:17
+-- src/lib.rt:482:17
 fields-moved-requires-2 : (t : ℕ) → fields-lts.Need-moved-requires-2 (
   no-marks-reads.Asked,
   no-marks-reads.Learnt,
@@ -1290,7 +845,7 @@ fields-moved-requires-2 : (t : ℕ) → fields-lts.Need-moved-requires-2 (
 ) (fields-at t) fields.Post fields-Inv-loop fields-μ-loop
 fields-moved-requires-2 t c κs = search needs
 
--- src/lib.rt:473:5
+-- src/lib.rt:469:5
 fields-loop-less-2 : (t : ℕ) → fields-lts.Need-loop-less-2 (
   no-marks-reads.Asked,
   no-marks-reads.Learnt,
@@ -1305,7 +860,7 @@ fields-loop-less-2 : (t : ℕ) → fields-lts.Need-loop-less-2 (
 ) (fields-at t) fields.Post fields-Inv-loop fields-μ-loop
 fields-loop-less-2 t c = let w = (rw (c .before .before .v .given .1) at (c .before .before .before .before .before .before .next-part .ensures _ _ (c .before .before .before .before .before .before .before .before .before .loop .inv))) in rw (c .moved2 .ensures) (omega (arith, w .0, w .1 .loop .line .moved .within))
 
--- src/lib.rt:473:5
+-- src/lib.rt:469:5
 fields-loop-again-2 : (t : ℕ) → fields-lts.Need-loop-again-2 (
   no-marks-reads.Asked,
   no-marks-reads.Learnt,
@@ -1320,7 +875,7 @@ fields-loop-again-2 : (t : ℕ) → fields-lts.Need-loop-again-2 (
 ) (fields-at t) fields.Post fields-Inv-loop fields-μ-loop
 fields-loop-again-2 t c = rw (c .moved2 .ensures, untagged-end) ((rw (c .before .before .v .given .1) at (c .before .before .before .before .before .before .next-part .ensures _ _ (c .before .before .before .before .before .before .before .before .before .loop .inv))) .1)
 
--- src/lib.rt:489:24
+-- src/lib.rt:485:24
 fields-enum-known-v-2 : (t : ℕ) → fields-lts.Need-enum-known-v-2 (
   no-marks-reads.Asked,
   no-marks-reads.Learnt,
@@ -1335,7 +890,7 @@ fields-enum-known-v-2 : (t : ℕ) → fields-lts.Need-enum-known-v-2 (
 ) (fields-at t) fields.Post fields-Inv-loop fields-μ-loop
 fields-enum-known-v-2 t c = search needs
 
--- src/lib.rt:489:33
+-- src/lib.rt:485:33
 fields-same-length-2 : (t : ℕ) → fields-lts.Need-same-length-2 (
   no-marks-reads.Asked,
   no-marks-reads.Learnt,
@@ -1350,7 +905,7 @@ fields-same-length-2 : (t : ℕ) → fields-lts.Need-same-length-2 (
 ) (fields-at t) fields.Post fields-Inv-loop fields-μ-loop
 fields-same-length-2 t c = search needs
 
--- src/lib.rt:489:33
+-- src/lib.rt:485:33
 fields-returns-2 : (t : ℕ) → fields-lts.Need-returns-2 (
   no-marks-reads.Asked,
   no-marks-reads.Learnt,
@@ -1365,7 +920,7 @@ fields-returns-2 : (t : ℕ) → fields-lts.Need-returns-2 (
 ) (fields-at t) fields.Post fields-Inv-loop fields-μ-loop
 fields-returns-2 t c = rw (c .before .v2 .given .1) at (c .before .before .before .before .before .next-part .ensures _ _ (c .before .before .before .before .before .before .before .before .loop .inv))
 
--- src/lib.rt:490:27
+-- src/lib.rt:486:27
 fields-enum-known-k-2 : (t : ℕ) → fields-lts.Need-enum-known-k-2 (
   no-marks-reads.Asked,
   no-marks-reads.Learnt,
@@ -1380,7 +935,7 @@ fields-enum-known-k-2 : (t : ℕ) → fields-lts.Need-enum-known-k-2 (
 ) (fields-at t) fields.Post fields-Inv-loop fields-μ-loop
 fields-enum-known-k-2 t c = search needs
 
--- src/lib.rt:490:36
+-- src/lib.rt:486:36
 fields-same-length-3 : (t : ℕ) → fields-lts.Need-same-length-3 (
   no-marks-reads.Asked,
   no-marks-reads.Learnt,
@@ -1395,7 +950,7 @@ fields-same-length-3 : (t : ℕ) → fields-lts.Need-same-length-3 (
 ) (fields-at t) fields.Post fields-Inv-loop fields-μ-loop
 fields-same-length-3 t c = search needs
 
--- src/lib.rt:490:36
+-- src/lib.rt:486:36
 fields-returns-3 : (t : ℕ) → fields-lts.Need-returns-3 (
   no-marks-reads.Asked,
   no-marks-reads.Learnt,
@@ -1574,8 +1129,8 @@ list-returns-2 t c = listing-refused (c .before .before .before .before .before 
 list-value-quick-int-requires : (t : ℕ) → list-value-lts.Need-quick-int-requires (
   quick-int-reads.Asked,
   quick-int-reads.Learnt,
-  choice-below t,
-  choice.Post,
+  value-below t,
+  value.Post,
 ) (list-value-at t) list-value.Post
 list-value-quick-int-requires t c κs = c .before .before .before .before .before .pre .1
 
@@ -1583,8 +1138,8 @@ list-value-quick-int-requires t c κs = c .before .before .before .before .befor
 list-value-enum-known-v : (t : ℕ) → list-value-lts.Need-enum-known-v (
   quick-int-reads.Asked,
   quick-int-reads.Learnt,
-  choice-below t,
-  choice.Post,
+  value-below t,
+  value.Post,
 ) (list-value-at t) list-value.Post
 list-value-enum-known-v t c = search needs
 
@@ -1592,35 +1147,35 @@ list-value-enum-known-v t c = search needs
 list-value-enum-known-v-2 : (t : ℕ) → list-value-lts.Need-enum-known-v-2 (
   quick-int-reads.Asked,
   quick-int-reads.Learnt,
-  choice-below t,
-  choice.Post,
+  value-below t,
+  value.Post,
 ) (list-value-at t) list-value.Post
 list-value-enum-known-v-2 t c = search needs
 
--- src/lib.rt:306:60
+-- src/lib.rt:306:59
 list-value-enum-told : (t : ℕ) → list-value-lts.Need-enum-told (
   quick-int-reads.Asked,
   quick-int-reads.Learnt,
-  choice-below t,
-  choice.Post,
+  value-below t,
+  value.Post,
 ) (list-value-at t) list-value.Post
 list-value-enum-told t c = search needs
 
 -- src/lib.rt:306:30
-list-value-choice-requires : (t : ℕ) → list-value-lts.Need-choice-requires (
+list-value-value-requires : (t : ℕ) → list-value-lts.Need-value-requires (
   quick-int-reads.Asked,
   quick-int-reads.Learnt,
-  choice-below t,
-  choice.Post,
+  value-below t,
+  value.Post,
 ) (list-value-at t) list-value.Post
-list-value-choice-requires t c κs = omega (arith, c .before .before .before .before .before .before .before .before .before .before .before .pre .1 .0, c .before .before .before .before .before .before .before .before .before .before .before .pre .1 .1 .0)
+list-value-value-requires t c κs = omega (arith, c .before .before .before .before .before .before .before .before .before .before .before .pre .1 .0, c .before .before .before .before .before .before .before .before .before .before .before .pre .1 .1 .0)
 
 -- src/lib.rt:307:23
 list-value-enum-known-v-3 : (t : ℕ) → list-value-lts.Need-enum-known-v-3 (
   quick-int-reads.Asked,
   quick-int-reads.Learnt,
-  choice-below t,
-  choice.Post,
+  value-below t,
+  value.Post,
 ) (list-value-at t) list-value.Post
 list-value-enum-known-v-3 t c = search needs
 
@@ -1628,8 +1183,8 @@ list-value-enum-known-v-3 t c = search needs
 list-value-enum-known-k : (t : ℕ) → list-value-lts.Need-enum-known-k (
   quick-int-reads.Asked,
   quick-int-reads.Learnt,
-  choice-below t,
-  choice.Post,
+  value-below t,
+  value.Post,
 ) (list-value-at t) list-value.Post
 list-value-enum-known-k t c = search needs
 
@@ -1637,8 +1192,8 @@ list-value-enum-known-k t c = search needs
 list-value-same-length : (t : ℕ) → list-value-lts.Need-same-length (
   quick-int-reads.Asked,
   quick-int-reads.Learnt,
-  choice-below t,
-  choice.Post,
+  value-below t,
+  value.Post,
 ) (list-value-at t) list-value.Post
 list-value-same-length t c = search needs
 
@@ -1646,8 +1201,8 @@ list-value-same-length t c = search needs
 list-value-returns : (t : ℕ) → list-value-lts.Need-returns (
   quick-int-reads.Asked,
   quick-int-reads.Learnt,
-  choice-below t,
-  choice.Post,
+  value-below t,
+  value.Post,
 ) (list-value-at t) list-value.Post
 list-value-returns t c = quick-element _ _ (c .before .before .before .before .before .before .before .before .before .before .before .args .f) _ _ _ _ _ (rw (c .before .v .given .1) at (c .before .before .before .before .before .quick-int .ensures))
 
@@ -1655,8 +1210,8 @@ list-value-returns t c = quick-element _ _ (c .before .before .before .before .b
 list-value-same-length-2 : (t : ℕ) → list-value-lts.Need-same-length-2 (
   quick-int-reads.Asked,
   quick-int-reads.Learnt,
-  choice-below t,
-  choice.Post,
+  value-below t,
+  value.Post,
 ) (list-value-at t) list-value.Post
 list-value-same-length-2 t c = search needs
 
@@ -1664,8 +1219,8 @@ list-value-same-length-2 t c = search needs
 list-value-returns-2 : (t : ℕ) → list-value-lts.Need-returns-2 (
   quick-int-reads.Asked,
   quick-int-reads.Learnt,
-  choice-below t,
-  choice.Post,
+  value-below t,
+  value.Post,
 ) (list-value-at t) list-value.Post
 list-value-returns-2 t c = quick-ended _ _ (c .before .before .before .before .before .before .before .before .before .before .before .args .f) _ _ _ _ (rw (c .before .v2 .given .1) at (c .before .before .before .before .before .quick-int .ensures))
 
@@ -1673,8 +1228,8 @@ list-value-returns-2 t c = quick-ended _ _ (c .before .before .before .before .b
 list-value-same-length-3 : (t : ℕ) → list-value-lts.Need-same-length-3 (
   quick-int-reads.Asked,
   quick-int-reads.Learnt,
-  choice-below t,
-  choice.Post,
+  value-below t,
+  value.Post,
 ) (list-value-at t) list-value.Post
 list-value-same-length-3 t c = search needs
 
@@ -1682,17 +1237,17 @@ list-value-same-length-3 t c = search needs
 list-value-returns-3 : (t : ℕ) → list-value-lts.Need-returns-3 (
   quick-int-reads.Asked,
   quick-int-reads.Learnt,
-  choice-below t,
-  choice.Post,
+  value-below t,
+  value.Post,
 ) (list-value-at t) list-value.Post
-list-value-returns-3 t c = rw ((rw (c .before .before .before .before .before .before .before .enum-told .given .1) at (c .before .before .before .before .before .before .before .before .before .before .before .quick-int .ensures)), c .before .v3 .given .1) at (c .before .before .before .before .before .choice .ensures)
+list-value-returns-3 t c = rw ((rw (c .before .before .before .before .before .before .before .enum-told .given .1) at (c .before .before .before .before .before .before .before .before .before .before .before .quick-int .ensures)), c .before .v3 .given .1) at (c .before .before .before .before .before .value .ensures)
 
 -- src/lib.rt:288:1
 list-value-same-length-4 : (t : ℕ) → list-value-lts.Need-same-length-4 (
   quick-int-reads.Asked,
   quick-int-reads.Learnt,
-  choice-below t,
-  choice.Post,
+  value-below t,
+  value.Post,
 ) (list-value-at t) list-value.Post
 list-value-same-length-4 t c = search needs
 
@@ -1700,13 +1255,13 @@ list-value-same-length-4 t c = search needs
 list-value-returns-4 : (t : ℕ) → list-value-lts.Need-returns-4 (
   quick-int-reads.Asked,
   quick-int-reads.Learnt,
-  choice-below t,
-  choice.Post,
+  value-below t,
+  value.Post,
 ) (list-value-at t) list-value.Post
-list-value-returns-4 t c = rw ((rw (c .before .before .before .before .before .before .before .enum-told .given .1) at (c .before .before .before .before .before .before .before .before .before .before .before .quick-int .ensures)), c .before .k .given .1) at (c .before .before .before .before .before .choice .ensures)
+list-value-returns-4 t c = rw ((rw (c .before .before .before .before .before .before .before .enum-told .given .1) at (c .before .before .before .before .before .before .before .before .before .before .before .quick-int .ensures)), c .before .k .given .1) at (c .before .before .before .before .before .value .ensures)
 
 -- src/lib.rt:268:11
-value-kind-requires : (t : ℕ) → value-lts.Need-kind-requires (
+plain-value-kind-requires : (t : ℕ) → plain-value-lts.Need-kind-requires (
   kind-reads.Asked,
   kind-reads.Learnt,
   no-value-reads.Asked,
@@ -1715,11 +1270,11 @@ value-kind-requires : (t : ℕ) → value-lts.Need-kind-requires (
   simple-reads.Learnt,
   braced-below t,
   braced.Post,
-) (value-at t) value.Post
-value-kind-requires t c κs = search needs
+) (plain-value-at t) plain-value.Post
+plain-value-kind-requires t c κs = search needs
 
 -- src/lib.rt:269:24
-value-enum-told : (t : ℕ) → value-lts.Need-enum-told (
+plain-value-enum-told : (t : ℕ) → plain-value-lts.Need-enum-told (
   kind-reads.Asked,
   kind-reads.Learnt,
   no-value-reads.Asked,
@@ -1728,11 +1283,11 @@ value-enum-told : (t : ℕ) → value-lts.Need-enum-told (
   simple-reads.Learnt,
   braced-below t,
   braced.Post,
-) (value-at t) value.Post
-value-enum-told t c = search needs
+) (plain-value-at t) plain-value.Post
+plain-value-enum-told t c = search needs
 
 -- src/lib.rt:269:24
-value-no-value-requires : (t : ℕ) → value-lts.Need-no-value-requires (
+plain-value-no-value-requires : (t : ℕ) → plain-value-lts.Need-no-value-requires (
   kind-reads.Asked,
   kind-reads.Learnt,
   no-value-reads.Asked,
@@ -1741,11 +1296,11 @@ value-no-value-requires : (t : ℕ) → value-lts.Need-no-value-requires (
   simple-reads.Learnt,
   braced-below t,
   braced.Post,
-) (value-at t) value.Post
-value-no-value-requires t c κs = omega (arith, c .before .before .before .before .before .before .before .pre .1 .0 .short)
+) (plain-value-at t) plain-value.Post
+plain-value-no-value-requires t c κs = omega (arith, c .before .before .before .before .before .before .before .pre .1 .0 .short)
 
--- src/lib.rt:270:64
-value-enum-told-2 : (t : ℕ) → value-lts.Need-enum-told-2 (
+-- src/lib.rt:270:72
+plain-value-enum-told-2 : (t : ℕ) → plain-value-lts.Need-enum-told-2 (
   kind-reads.Asked,
   kind-reads.Learnt,
   no-value-reads.Asked,
@@ -1754,11 +1309,11 @@ value-enum-told-2 : (t : ℕ) → value-lts.Need-enum-told-2 (
   simple-reads.Learnt,
   braced-below t,
   braced.Post,
-) (value-at t) value.Post
-value-enum-told-2 t c = search needs
+) (plain-value-at t) plain-value.Post
+plain-value-enum-told-2 t c = search needs
 
 -- src/lib.rt:270:26
-value-simple-requires : (t : ℕ) → value-lts.Need-simple-requires (
+plain-value-simple-requires : (t : ℕ) → plain-value-lts.Need-simple-requires (
   kind-reads.Asked,
   kind-reads.Learnt,
   no-value-reads.Asked,
@@ -1767,11 +1322,11 @@ value-simple-requires : (t : ℕ) → value-lts.Need-simple-requires (
   simple-reads.Learnt,
   braced-below t,
   braced.Post,
-) (value-at t) value.Post
-value-simple-requires t c κs = omega (arith, c .before .before .before .before .before .before .before .before .pre .1)
+) (plain-value-at t) plain-value.Post
+plain-value-simple-requires t c κs = omega (arith, c .before .before .before .before .before .before .before .before .pre .1)
 
 -- src/lib.rt:271:56
-value-enum-told-3 : (t : ℕ) → value-lts.Need-enum-told-3 (
+plain-value-enum-told-3 : (t : ℕ) → plain-value-lts.Need-enum-told-3 (
   kind-reads.Asked,
   kind-reads.Learnt,
   no-value-reads.Asked,
@@ -1780,11 +1335,11 @@ value-enum-told-3 : (t : ℕ) → value-lts.Need-enum-told-3 (
   simple-reads.Learnt,
   braced-below t,
   braced.Post,
-) (value-at t) value.Post
-value-enum-told-3 t c = search needs
+) (plain-value-at t) plain-value.Post
+plain-value-enum-told-3 t c = search needs
 
 -- src/lib.rt:271:26
-value-braced-requires : (t : ℕ) → value-lts.Need-braced-requires (
+plain-value-braced-requires : (t : ℕ) → plain-value-lts.Need-braced-requires (
   kind-reads.Asked,
   kind-reads.Learnt,
   no-value-reads.Asked,
@@ -1793,11 +1348,11 @@ value-braced-requires : (t : ℕ) → value-lts.Need-braced-requires (
   simple-reads.Learnt,
   braced-below t,
   braced.Post,
-) (value-at t) value.Post
-value-braced-requires t c κs = omega (arith, c .before .before .before .before .before .before .before .before .pre .1)
+) (plain-value-at t) plain-value.Post
+plain-value-braced-requires t c κs = omega (arith, c .before .before .before .before .before .before .before .before .pre .1)
 
 -- src/lib.rt:272:25
-value-enum-told-4 : (t : ℕ) → value-lts.Need-enum-told-4 (
+plain-value-enum-told-4 : (t : ℕ) → plain-value-lts.Need-enum-told-4 (
   kind-reads.Asked,
   kind-reads.Learnt,
   no-value-reads.Asked,
@@ -1806,11 +1361,11 @@ value-enum-told-4 : (t : ℕ) → value-lts.Need-enum-told-4 (
   simple-reads.Learnt,
   braced-below t,
   braced.Post,
-) (value-at t) value.Post
-value-enum-told-4 t c = search needs
+) (plain-value-at t) plain-value.Post
+plain-value-enum-told-4 t c = search needs
 
 -- src/lib.rt:272:25
-value-no-value-requires-2 : (t : ℕ) → value-lts.Need-no-value-requires-2 (
+plain-value-no-value-requires-2 : (t : ℕ) → plain-value-lts.Need-no-value-requires-2 (
   kind-reads.Asked,
   kind-reads.Learnt,
   no-value-reads.Asked,
@@ -1819,11 +1374,11 @@ value-no-value-requires-2 : (t : ℕ) → value-lts.Need-no-value-requires-2 (
   simple-reads.Learnt,
   braced-below t,
   braced.Post,
-) (value-at t) value.Post
-value-no-value-requires-2 t c κs = omega (arith, c .before .before .before .before .before .before .before .pre .1 .0 .short)
+) (plain-value-at t) plain-value.Post
+plain-value-no-value-requires-2 t c κs = omega (arith, c .before .before .before .before .before .before .before .pre .1 .0 .short)
 
 -- src/lib.rt:273:29
-value-enum-told-5 : (t : ℕ) → value-lts.Need-enum-told-5 (
+plain-value-enum-told-5 : (t : ℕ) → plain-value-lts.Need-enum-told-5 (
   kind-reads.Asked,
   kind-reads.Learnt,
   no-value-reads.Asked,
@@ -1832,11 +1387,11 @@ value-enum-told-5 : (t : ℕ) → value-lts.Need-enum-told-5 (
   simple-reads.Learnt,
   braced-below t,
   braced.Post,
-) (value-at t) value.Post
-value-enum-told-5 t c = search needs
+) (plain-value-at t) plain-value.Post
+plain-value-enum-told-5 t c = search needs
 
 -- src/lib.rt:273:29
-value-no-value-requires-3 : (t : ℕ) → value-lts.Need-no-value-requires-3 (
+plain-value-no-value-requires-3 : (t : ℕ) → plain-value-lts.Need-no-value-requires-3 (
   kind-reads.Asked,
   kind-reads.Learnt,
   no-value-reads.Asked,
@@ -1845,11 +1400,11 @@ value-no-value-requires-3 : (t : ℕ) → value-lts.Need-no-value-requires-3 (
   simple-reads.Learnt,
   braced-below t,
   braced.Post,
-) (value-at t) value.Post
-value-no-value-requires-3 t c κs = omega (arith, c .before .before .before .before .before .before .before .pre .1 .0 .short)
+) (plain-value-at t) plain-value.Post
+plain-value-no-value-requires-3 t c κs = omega (arith, c .before .before .before .before .before .before .before .pre .1 .0 .short)
 
 -- src/lib.rt:254:1
-value-returns : (t : ℕ) → value-lts.Need-returns (
+plain-value-returns : (t : ℕ) → plain-value-lts.Need-returns (
   kind-reads.Asked,
   kind-reads.Learnt,
   no-value-reads.Asked,
@@ -1858,100 +1413,544 @@ value-returns : (t : ℕ) → value-lts.Need-returns (
   simple-reads.Learnt,
   braced-below t,
   braced.Post,
-) (value-at t) value.Post
-unfolding isPlace
-value-returns t c = plain-none _ _ (c .before .before .before .before .before .before .before .before .args .f) _ _ (c .no-value .result) schema.void (rw (← c .before .before .before .before .before .before .before .before .pre .1 .1 .1) (sym (c .before .before .before .kind .ensures) ∙ ap shapeOf (c .before .enum-told .given .1))) refl (c .no-value .ensures)
+) (plain-value-at t) plain-value.Post
+plain-value-returns t c = plain-none _ _ (c .before .before .before .before .before .before .before .before .args .f) _ _ (c .no-value .result) schema.void (rw (← c .before .before .before .before .before .before .before .before .pre .1 .1 .1) (sym (c .before .before .before .kind .ensures) ∙ ap shapeOf (c .before .enum-told .given .1))) refl (c .no-value .ensures)
 
 -- src/lib.rt:254:1
+plain-value-same-length : (t : ℕ) → plain-value-lts.Need-same-length (
+  kind-reads.Asked,
+  kind-reads.Learnt,
+  no-value-reads.Asked,
+  no-value-reads.Learnt,
+  simple-reads.Asked,
+  simple-reads.Learnt,
+  braced-below t,
+  braced.Post,
+) (plain-value-at t) plain-value.Post
+plain-value-same-length t c = search needs
+
+-- src/lib.rt:254:1
+plain-value-returns-2 : (t : ℕ) → plain-value-lts.Need-returns-2 (
+  kind-reads.Asked,
+  kind-reads.Learnt,
+  no-value-reads.Asked,
+  no-value-reads.Learnt,
+  simple-reads.Asked,
+  simple-reads.Learnt,
+  braced-below t,
+  braced.Post,
+) (plain-value-at t) plain-value.Post
+plain-value-returns-2 t c = plain-simple _ _ (c .before .before .before .before .before .before .before .before .before .before .before .args .f) _ _ (c .before .before .simple .result) _ (c .before .before .before .before .before .before .before .before .before .before .before .pre .1 .1 .1) (sym (c .before .before .before .before .before .before .kind .ensures) ∙ ap shapeOf (c .before .before .before .before .enum-told2 .given .1)) (c .before .before .simple .ensures)
+
+-- src/lib.rt:254:1
+plain-value-same-length-2 : (t : ℕ) → plain-value-lts.Need-same-length-2 (
+  kind-reads.Asked,
+  kind-reads.Learnt,
+  no-value-reads.Asked,
+  no-value-reads.Learnt,
+  simple-reads.Asked,
+  simple-reads.Learnt,
+  braced-below t,
+  braced.Post,
+) (plain-value-at t) plain-value.Post
+plain-value-same-length-2 t c = search needs
+
+-- src/lib.rt:254:1
+plain-value-returns-3 : (t : ℕ) → plain-value-lts.Need-returns-3 (
+  kind-reads.Asked,
+  kind-reads.Learnt,
+  no-value-reads.Asked,
+  no-value-reads.Learnt,
+  simple-reads.Asked,
+  simple-reads.Learnt,
+  braced-below t,
+  braced.Post,
+) (plain-value-at t) plain-value.Post
+plain-value-returns-3 t c = plain-struct _ _ (c .before .before .before .before .before .before .before .before .before .before .before .args .f) _ _ (c .before .before .braced .result) _ (c .before .before .before .before .before .before .before .before .before .before .before .pre .1 .1 .1) (sym (c .before .before .before .before .before .before .kind .ensures) ∙ ap shapeOf (c .before .before .before .before .enum-told3 .given .1)) (c .before .before .braced .ensures)
+
+-- src/lib.rt:254:1
+plain-value-returns-4 : (t : ℕ) → plain-value-lts.Need-returns-4 (
+  kind-reads.Asked,
+  kind-reads.Learnt,
+  no-value-reads.Asked,
+  no-value-reads.Learnt,
+  simple-reads.Asked,
+  simple-reads.Learnt,
+  braced-below t,
+  braced.Post,
+) (plain-value-at t) plain-value.Post
+plain-value-returns-4 t c = plain-none _ _ (c .before .before .before .before .before .before .before .before .args .f) _ _ (c .no-value2 .result) schema.union (rw (← c .before .before .before .before .before .before .before .before .pre .1 .1 .1) (sym (c .before .before .before .kind .ensures) ∙ ap shapeOf (c .before .enum-told4 .given .1))) refl (c .no-value2 .ensures)
+
+-- src/lib.rt:254:1
+plain-value-returns-5 : (t : ℕ) → plain-value-lts.Need-returns-5 (
+  kind-reads.Asked,
+  kind-reads.Learnt,
+  no-value-reads.Asked,
+  no-value-reads.Learnt,
+  simple-reads.Asked,
+  simple-reads.Learnt,
+  braced-below t,
+  braced.Post,
+) (plain-value-at t) plain-value.Post
+plain-value-returns-5 t c = plain-none _ _ (c .before .before .before .before .before .before .before .before .args .f) _ _ (c .no-value3 .result) schema.reference (rw (← c .before .before .before .before .before .before .before .before .pre .1 .1 .1) (sym (c .before .before .before .kind .ensures) ∙ ap shapeOf (c .before .enum-told5 .given .1))) refl (c .no-value3 .ensures)
+
+abbrev value-Inv-loop : value-lts.InvT-loop
+value-Inv-loop table unpacked n s rows₀ f g₀ rows g = Choosing (schemaAt table unpacked n) s f g n rows₀ rows
+
+abbrev value-μ-loop : value-lts.MeasureT-loop
+value-μ-loop table unpacked n s rows₀ f g₀ rows g = length s - g .at
+
+-- src/lib.rt:203:5
+value-loop-holds : (t : ℕ) → value-lts.Need-loop-holds (
+  core-reads.Asked,
+  core-reads.Learnt,
+  is-union-reads.Asked,
+  is-union-reads.Learnt,
+  plain-value-below t,
+  plain-value.Post,
+  close-chain-reads.Asked,
+  close-chain-reads.Learnt,
+  choose-reads.Asked,
+  choose-reads.Learnt,
+  open-row-reads.Asked,
+  open-row-reads.Learnt,
+  under-reads.Asked,
+  under-reads.Learnt,
+  whole-reads.Asked,
+  whole-reads.Learnt,
+) (value-at t) value.Post value-Inv-loop value-μ-loop
+value-loop-holds t c = choosing-start _ _ _ _ _ (c .before .before .before .before .pre .1 .0) (c .before .before .before .before .pre .1 .1)
+
+-- src/lib.rt:204:13
+value-core-requires : (t : ℕ) → value-lts.Need-core-requires (
+  core-reads.Asked,
+  core-reads.Learnt,
+  is-union-reads.Asked,
+  is-union-reads.Learnt,
+  plain-value-below t,
+  plain-value.Post,
+  close-chain-reads.Asked,
+  close-chain-reads.Learnt,
+  choose-reads.Asked,
+  choose-reads.Learnt,
+  open-row-reads.Asked,
+  open-row-reads.Learnt,
+  under-reads.Asked,
+  under-reads.Learnt,
+  whole-reads.Asked,
+  whole-reads.Learnt,
+) (value-at t) value.Post value-Inv-loop value-μ-loop
+value-core-requires t c κs = search needs
+
+-- src/lib.rt:205:13
+value-is-union-requires : (t : ℕ) → value-lts.Need-is-union-requires (
+  core-reads.Asked,
+  core-reads.Learnt,
+  is-union-reads.Asked,
+  is-union-reads.Learnt,
+  plain-value-below t,
+  plain-value.Post,
+  close-chain-reads.Asked,
+  close-chain-reads.Learnt,
+  choose-reads.Asked,
+  choose-reads.Learnt,
+  open-row-reads.Asked,
+  open-row-reads.Learnt,
+  under-reads.Asked,
+  under-reads.Learnt,
+  whole-reads.Asked,
+  whole-reads.Learnt,
+) (value-at t) value.Post value-Inv-loop value-μ-loop
+value-is-union-requires t c κs = search needs
+
+-- src/lib.rt:206:17
+value-plain-value-requires : (t : ℕ) → value-lts.Need-plain-value-requires (
+  core-reads.Asked,
+  core-reads.Learnt,
+  is-union-reads.Asked,
+  is-union-reads.Learnt,
+  plain-value-below t,
+  plain-value.Post,
+  close-chain-reads.Asked,
+  close-chain-reads.Learnt,
+  choose-reads.Asked,
+  choose-reads.Learnt,
+  open-row-reads.Asked,
+  open-row-reads.Learnt,
+  under-reads.Asked,
+  under-reads.Learnt,
+  whole-reads.Asked,
+  whole-reads.Learnt,
+) (value-at t) value.Post value-Inv-loop value-μ-loop
+value-plain-value-requires t c κs = let r = (choosing-room (c .before .before .before .before .loop .inv)) in omega (arith, r, c .before .before .before .before .loop .inv .down .named, choosing-depth (c .before .before .before .before .loop .inv), c .before .before .before .core .ensures)
+
+-- src/lib.rt:207:13
+value-close-chain-requires : (t : ℕ) → value-lts.Need-close-chain-requires (
+  core-reads.Asked,
+  core-reads.Learnt,
+  is-union-reads.Asked,
+  is-union-reads.Learnt,
+  plain-value-below t,
+  plain-value.Post,
+  close-chain-reads.Asked,
+  close-chain-reads.Learnt,
+  choose-reads.Asked,
+  choose-reads.Learnt,
+  open-row-reads.Asked,
+  open-row-reads.Learnt,
+  under-reads.Asked,
+  under-reads.Learnt,
+  whole-reads.Asked,
+  whole-reads.Learnt,
+) (value-at t) value.Post value-Inv-loop value-μ-loop
+value-close-chain-requires t c κs = let r = (choosing-room (c .before .before .before .before .before .before .before .before .loop .inv)) in omega (arith, r, plain-fits _ _ _ _ _ _ (c .before .before .before .plain-value .result) (c .before .before .before .before .before .before .before .core .ensures) (sym (c .before .before .before .before .before .before .is-union .ensures) ∙ not-true _ (c .before .before .before .before .before .if1 .taken)) (c .before .before .before .plain-value .ensures), c .before .before .before .before .before .before .before .before .before .before .before .before .before .pre .1 .0)
+
+-- src/lib.rt:207:13
 value-same-length : (t : ℕ) → value-lts.Need-same-length (
-  kind-reads.Asked,
-  kind-reads.Learnt,
-  no-value-reads.Asked,
-  no-value-reads.Learnt,
-  simple-reads.Asked,
-  simple-reads.Learnt,
-  braced-below t,
-  braced.Post,
-) (value-at t) value.Post
+  core-reads.Asked,
+  core-reads.Learnt,
+  is-union-reads.Asked,
+  is-union-reads.Learnt,
+  plain-value-below t,
+  plain-value.Post,
+  close-chain-reads.Asked,
+  close-chain-reads.Learnt,
+  choose-reads.Asked,
+  choose-reads.Learnt,
+  open-row-reads.Asked,
+  open-row-reads.Learnt,
+  under-reads.Asked,
+  under-reads.Learnt,
+  whole-reads.Asked,
+  whole-reads.Learnt,
+) (value-at t) value.Post value-Inv-loop value-μ-loop
 value-same-length t c = search needs
 
--- src/lib.rt:254:1
-value-returns-2 : (t : ℕ) → value-lts.Need-returns-2 (
-  kind-reads.Asked,
-  kind-reads.Learnt,
-  no-value-reads.Asked,
-  no-value-reads.Learnt,
-  simple-reads.Asked,
-  simple-reads.Learnt,
-  braced-below t,
-  braced.Post,
-) (value-at t) value.Post
-value-returns-2 t c = plain-simple _ _ (c .before .before .before .before .before .before .before .before .before .before .before .args .f) _ _ (c .before .before .simple .result) _ (c .before .before .before .before .before .before .before .before .before .before .before .pre .1 .1 .1) (sym (c .before .before .before .before .before .before .kind .ensures) ∙ ap shapeOf (c .before .before .before .before .enum-told2 .given .1)) (c .before .before .simple .ensures)
+-- src/lib.rt:207:13
+value-returns : (t : ℕ) → value-lts.Need-returns (
+  core-reads.Asked,
+  core-reads.Learnt,
+  is-union-reads.Asked,
+  is-union-reads.Learnt,
+  plain-value-below t,
+  plain-value.Post,
+  close-chain-reads.Asked,
+  close-chain-reads.Learnt,
+  choose-reads.Asked,
+  choose-reads.Learnt,
+  open-row-reads.Asked,
+  open-row-reads.Learnt,
+  under-reads.Asked,
+  under-reads.Learnt,
+  whole-reads.Asked,
+  whole-reads.Learnt,
+) (value-at t) value.Post value-Inv-loop value-μ-loop
+value-returns t c = choosing-value (c .before .before .before .before .before .before .before .before .before .before .before .loop .inv) _ _ _ _ (c .before .before .before .before .before .before .plain-value .result) (c .before .before .before .before .before .before .before .before .before .before .core .ensures) (sym (c .before .before .before .before .before .before .before .before .before .is-union .ensures) ∙ not-true _ (c .before .before .before .before .before .before .before .before .if1 .taken)) (c .before .before .before .before .before .before .plain-value .ensures) (c .before .before .close-chain .ensures .0) (c .before .before .close-chain .ensures .1)
 
--- src/lib.rt:254:1
+-- src/lib.rt:209:15
+value-choose-requires : (t : ℕ) → value-lts.Need-choose-requires (
+  core-reads.Asked,
+  core-reads.Learnt,
+  is-union-reads.Asked,
+  is-union-reads.Learnt,
+  plain-value-below t,
+  plain-value.Post,
+  close-chain-reads.Asked,
+  close-chain-reads.Learnt,
+  choose-reads.Asked,
+  choose-reads.Learnt,
+  open-row-reads.Asked,
+  open-row-reads.Learnt,
+  under-reads.Asked,
+  under-reads.Learnt,
+  whole-reads.Asked,
+  whole-reads.Learnt,
+) (value-at t) value.Post value-Inv-loop value-μ-loop
+value-choose-requires t c κs = let r = (choosing-room (c .before .before .before .loop .inv)) in omega (arith, r)
+
+-- src/lib.rt:210:28
+value-enum-known-q : (t : ℕ) → value-lts.Need-enum-known-q (
+  core-reads.Asked,
+  core-reads.Learnt,
+  is-union-reads.Asked,
+  is-union-reads.Learnt,
+  plain-value-below t,
+  plain-value.Post,
+  close-chain-reads.Asked,
+  close-chain-reads.Learnt,
+  choose-reads.Asked,
+  choose-reads.Learnt,
+  open-row-reads.Asked,
+  open-row-reads.Learnt,
+  under-reads.Asked,
+  under-reads.Learnt,
+  whole-reads.Asked,
+  whole-reads.Learnt,
+) (value-at t) value.Post value-Inv-loop value-μ-loop
+value-enum-known-q t c = search needs
+
+-- src/lib.rt:211:17
+value-open-row-requires : (t : ℕ) → value-lts.Need-open-row-requires (
+  core-reads.Asked,
+  core-reads.Learnt,
+  is-union-reads.Asked,
+  is-union-reads.Learnt,
+  plain-value-below t,
+  plain-value.Post,
+  close-chain-reads.Asked,
+  close-chain-reads.Learnt,
+  choose-reads.Asked,
+  choose-reads.Learnt,
+  open-row-reads.Asked,
+  open-row-reads.Learnt,
+  under-reads.Asked,
+  under-reads.Learnt,
+  whole-reads.Asked,
+  whole-reads.Learnt,
+) (value-at t) value.Post value-Inv-loop value-μ-loop
+value-open-row-requires t c κs = let r = (choosing-room (c .before .before .before .before .before .before .before .before .loop .inv)) in let d = deeper-less (c .before .before .before .before .before .before .before .before .loop .inv) _ _ _ _ (rw (c .before .before .q .given .1) at (c .before .before .before .before .choose .ensures)) in omega (arith, r, d, c .before .before .before .before .before .before .before .before .loop .inv .down .named)
+
+-- src/lib.rt:212:17
+value-under-requires : (t : ℕ) → value-lts.Need-under-requires (
+  core-reads.Asked,
+  core-reads.Learnt,
+  is-union-reads.Asked,
+  is-union-reads.Learnt,
+  plain-value-below t,
+  plain-value.Post,
+  close-chain-reads.Asked,
+  close-chain-reads.Learnt,
+  choose-reads.Asked,
+  choose-reads.Learnt,
+  open-row-reads.Asked,
+  open-row-reads.Learnt,
+  under-reads.Asked,
+  under-reads.Learnt,
+  whole-reads.Asked,
+  whole-reads.Learnt,
+) (value-at t) value.Post value-Inv-loop value-μ-loop
+value-under-requires t c κs = let r = (choosing-room (c .before .before .before .before .before .before .before .before .before .before .before .loop .inv)) in omega (arith, r)
+
+-- src/lib.rt:203:5
+value-loop-less : (t : ℕ) → value-lts.Need-loop-less (
+  core-reads.Asked,
+  core-reads.Learnt,
+  is-union-reads.Asked,
+  is-union-reads.Learnt,
+  plain-value-below t,
+  plain-value.Post,
+  close-chain-reads.Asked,
+  close-chain-reads.Learnt,
+  choose-reads.Asked,
+  choose-reads.Learnt,
+  open-row-reads.Asked,
+  open-row-reads.Learnt,
+  under-reads.Asked,
+  under-reads.Learnt,
+  whole-reads.Asked,
+  whole-reads.Learnt,
+) (value-at t) value.Post value-Inv-loop value-μ-loop
+value-loop-less t c = let d = deeper-less (c .before .before .before .before .before .before .before .before .before .before .before .before .loop .inv) _ _ _ _ (rw (c .before .before .before .before .before .before .q .given .1) at (c .before .before .before .before .before .before .before .before .choose .ensures)) in rw (c .under .ensures) (omega (arith, d))
+
+-- src/lib.rt:203:5
+value-loop-again : (t : ℕ) → value-lts.Need-loop-again (
+  core-reads.Asked,
+  core-reads.Learnt,
+  is-union-reads.Asked,
+  is-union-reads.Learnt,
+  plain-value-below t,
+  plain-value.Post,
+  close-chain-reads.Asked,
+  close-chain-reads.Learnt,
+  choose-reads.Asked,
+  choose-reads.Learnt,
+  open-row-reads.Asked,
+  open-row-reads.Learnt,
+  under-reads.Asked,
+  under-reads.Learnt,
+  whole-reads.Asked,
+  whole-reads.Learnt,
+) (value-at t) value.Post value-Inv-loop value-μ-loop
+value-loop-again t c = choosing-on (c .before .before .before .before .before .before .before .before .before .before .before .before .loop .inv) _ _ _ _ _ _ (c .before .before .before .before .before .before .before .before .before .before .before .core .ensures) (sym (c .before .before .before .before .before .before .before .before .before .before .is-union .ensures) ∙ not-false _ (c .before .before .before .before .before .before .before .before .before .if1 .left)) (rw (c .before .before .before .before .before .before .q .given .1) at (c .before .before .before .before .before .before .before .before .choose .ensures)) (c .before .before .before .open-row .ensures) (c .under .ensures)
+
+-- src/lib.rt:214:26
+value-enum-known-q-2 : (t : ℕ) → value-lts.Need-enum-known-q-2 (
+  core-reads.Asked,
+  core-reads.Learnt,
+  is-union-reads.Asked,
+  is-union-reads.Learnt,
+  plain-value-below t,
+  plain-value.Post,
+  close-chain-reads.Asked,
+  close-chain-reads.Learnt,
+  choose-reads.Asked,
+  choose-reads.Learnt,
+  open-row-reads.Asked,
+  open-row-reads.Learnt,
+  under-reads.Asked,
+  under-reads.Learnt,
+  whole-reads.Asked,
+  whole-reads.Learnt,
+) (value-at t) value.Post value-Inv-loop value-μ-loop
+value-enum-known-q-2 t c = search needs
+
+-- src/lib.rt:215:21
+value-whole-requires : (t : ℕ) → value-lts.Need-whole-requires (
+  core-reads.Asked,
+  core-reads.Learnt,
+  is-union-reads.Asked,
+  is-union-reads.Learnt,
+  plain-value-below t,
+  plain-value.Post,
+  close-chain-reads.Asked,
+  close-chain-reads.Learnt,
+  choose-reads.Asked,
+  choose-reads.Learnt,
+  open-row-reads.Asked,
+  open-row-reads.Learnt,
+  under-reads.Asked,
+  under-reads.Learnt,
+  whole-reads.Asked,
+  whole-reads.Learnt,
+) (value-at t) value.Post value-Inv-loop value-μ-loop
+value-whole-requires t c κs = let r = (choosing-room (c .before .before .before .before .before .before .before .before .loop .inv)) in let w = (rw (c .before .before .q2 .given .1) at (c .before .before .before .before .choose .ensures)) in omega (arith, r, w .step .less, w .step .within, w .below, c .before .before .before .before .before .before .before .before .loop .inv .down .named)
+
+-- src/lib.rt:216:17
+value-close-chain-requires-2 : (t : ℕ) → value-lts.Need-close-chain-requires-2 (
+  core-reads.Asked,
+  core-reads.Learnt,
+  is-union-reads.Asked,
+  is-union-reads.Learnt,
+  plain-value-below t,
+  plain-value.Post,
+  close-chain-reads.Asked,
+  close-chain-reads.Learnt,
+  choose-reads.Asked,
+  choose-reads.Learnt,
+  open-row-reads.Asked,
+  open-row-reads.Learnt,
+  under-reads.Asked,
+  under-reads.Learnt,
+  whole-reads.Asked,
+  whole-reads.Learnt,
+) (value-at t) value.Post value-Inv-loop value-μ-loop
+value-close-chain-requires-2 t c κs = let r = (choosing-room (c .before .before .before .before .before .before .before .before .before .before .before .before .loop .inv)) in let w = (rw (c .before .before .before .before .before .before .q2 .given .1) at (c .before .before .before .before .before .before .before .before .choose .ensures)) in omega (arith, r, w .step .within, c .before .before .before .before .before .before .before .before .before .before .before .before .before .before .before .before .before .pre .1 .0, whole-fits _ _ _ _ _ _ (c .before .before .before .whole .result) (c .before .before .before .whole .ensures))
+
+-- src/lib.rt:216:17
 value-same-length-2 : (t : ℕ) → value-lts.Need-same-length-2 (
-  kind-reads.Asked,
-  kind-reads.Learnt,
-  no-value-reads.Asked,
-  no-value-reads.Learnt,
-  simple-reads.Asked,
-  simple-reads.Learnt,
-  braced-below t,
-  braced.Post,
-) (value-at t) value.Post
+  core-reads.Asked,
+  core-reads.Learnt,
+  is-union-reads.Asked,
+  is-union-reads.Learnt,
+  plain-value-below t,
+  plain-value.Post,
+  close-chain-reads.Asked,
+  close-chain-reads.Learnt,
+  choose-reads.Asked,
+  choose-reads.Learnt,
+  open-row-reads.Asked,
+  open-row-reads.Learnt,
+  under-reads.Asked,
+  under-reads.Learnt,
+  whole-reads.Asked,
+  whole-reads.Learnt,
+) (value-at t) value.Post value-Inv-loop value-μ-loop
 value-same-length-2 t c = search needs
 
--- src/lib.rt:254:1
+-- src/lib.rt:216:17
+value-returns-2 : (t : ℕ) → value-lts.Need-returns-2 (
+  core-reads.Asked,
+  core-reads.Learnt,
+  is-union-reads.Asked,
+  is-union-reads.Learnt,
+  plain-value-below t,
+  plain-value.Post,
+  close-chain-reads.Asked,
+  close-chain-reads.Learnt,
+  choose-reads.Asked,
+  choose-reads.Learnt,
+  open-row-reads.Asked,
+  open-row-reads.Learnt,
+  under-reads.Asked,
+  under-reads.Learnt,
+  whole-reads.Asked,
+  whole-reads.Learnt,
+) (value-at t) value.Post value-Inv-loop value-μ-loop
+value-returns-2 t c = choosing-whole (c .before .before .before .before .before .before .before .before .before .before .before .before .before .before .before .loop .inv) _ _ _ _ _ _ _ (c .before .before .before .before .before .before .whole .result) (c .before .before .before .before .before .before .before .before .before .before .before .before .before .before .core .ensures) (sym (c .before .before .before .before .before .before .before .before .before .before .before .before .before .is-union .ensures) ∙ not-false _ (c .before .before .before .before .before .before .before .before .before .before .before .before .if1 .left)) (rw (c .before .before .before .before .before .before .before .before .before .q2 .given .1) at (c .before .before .before .before .before .before .before .before .before .before .before .choose .ensures)) (c .before .before .before .before .before .before .whole .ensures) (c .before .before .close-chain2 .ensures .0) (c .before .before .close-chain2 .ensures .1)
+
+-- src/lib.rt:218:29
+value-enum-known-k : (t : ℕ) → value-lts.Need-enum-known-k (
+  core-reads.Asked,
+  core-reads.Learnt,
+  is-union-reads.Asked,
+  is-union-reads.Learnt,
+  plain-value-below t,
+  plain-value.Post,
+  close-chain-reads.Asked,
+  close-chain-reads.Learnt,
+  choose-reads.Asked,
+  choose-reads.Learnt,
+  open-row-reads.Asked,
+  open-row-reads.Learnt,
+  under-reads.Asked,
+  under-reads.Learnt,
+  whole-reads.Asked,
+  whole-reads.Learnt,
+) (value-at t) value.Post value-Inv-loop value-μ-loop
+value-enum-known-k t c = search needs
+
+-- src/lib.rt:219:17
+value-same-length-3 : (t : ℕ) → value-lts.Need-same-length-3 (
+  core-reads.Asked,
+  core-reads.Learnt,
+  is-union-reads.Asked,
+  is-union-reads.Learnt,
+  plain-value-below t,
+  plain-value.Post,
+  close-chain-reads.Asked,
+  close-chain-reads.Learnt,
+  choose-reads.Asked,
+  choose-reads.Learnt,
+  open-row-reads.Asked,
+  open-row-reads.Learnt,
+  under-reads.Asked,
+  under-reads.Learnt,
+  whole-reads.Asked,
+  whole-reads.Learnt,
+) (value-at t) value.Post value-Inv-loop value-μ-loop
+value-same-length-3 t c = search needs
+
+-- src/lib.rt:219:17
 value-returns-3 : (t : ℕ) → value-lts.Need-returns-3 (
-  kind-reads.Asked,
-  kind-reads.Learnt,
-  no-value-reads.Asked,
-  no-value-reads.Learnt,
-  simple-reads.Asked,
-  simple-reads.Learnt,
-  braced-below t,
-  braced.Post,
-) (value-at t) value.Post
-value-returns-3 t c = plain-struct _ _ (c .before .before .before .before .before .before .before .before .before .before .before .args .f) _ _ (c .before .before .braced .result) _ (c .before .before .before .before .before .before .before .before .before .before .before .pre .1 .1 .1) (sym (c .before .before .before .before .before .before .kind .ensures) ∙ ap shapeOf (c .before .before .before .before .enum-told3 .given .1)) (c .before .before .braced .ensures)
+  core-reads.Asked,
+  core-reads.Learnt,
+  is-union-reads.Asked,
+  is-union-reads.Learnt,
+  plain-value-below t,
+  plain-value.Post,
+  close-chain-reads.Asked,
+  close-chain-reads.Learnt,
+  choose-reads.Asked,
+  choose-reads.Learnt,
+  open-row-reads.Asked,
+  open-row-reads.Learnt,
+  under-reads.Asked,
+  under-reads.Learnt,
+  whole-reads.Asked,
+  whole-reads.Learnt,
+) (value-at t) value.Post value-Inv-loop value-μ-loop
+value-returns-3 t c = choosing-stopped (c .before .before .before .before .before .before .before .loop .inv) _ _ _ (c .before .before .before .before .before .before .core .ensures) (sym (c .before .before .before .before .before .is-union .ensures) ∙ not-false _ (c .before .before .before .before .if1 .left)) (rw (c .before .k .given .1) at (c .before .before .before .choose .ensures))
 
--- src/lib.rt:254:1
-value-returns-4 : (t : ℕ) → value-lts.Need-returns-4 (
-  kind-reads.Asked,
-  kind-reads.Learnt,
-  no-value-reads.Asked,
-  no-value-reads.Learnt,
-  simple-reads.Asked,
-  simple-reads.Learnt,
-  braced-below t,
-  braced.Post,
-) (value-at t) value.Post
-unfolding isPlace
-value-returns-4 t c = plain-none _ _ (c .before .before .before .before .before .before .before .before .args .f) _ _ (c .no-value2 .result) schema.union (rw (← c .before .before .before .before .before .before .before .before .pre .1 .1 .1) (sym (c .before .before .before .kind .ensures) ∙ ap shapeOf (c .before .enum-told4 .given .1))) refl (c .no-value2 .ensures)
-
--- src/lib.rt:254:1
-value-returns-5 : (t : ℕ) → value-lts.Need-returns-5 (
-  kind-reads.Asked,
-  kind-reads.Learnt,
-  no-value-reads.Asked,
-  no-value-reads.Learnt,
-  simple-reads.Asked,
-  simple-reads.Learnt,
-  braced-below t,
-  braced.Post,
-) (value-at t) value.Post
-unfolding isPlace
-value-returns-5 t c = plain-none _ _ (c .before .before .before .before .before .before .before .before .args .f) _ _ (c .no-value3 .result) schema.reference (rw (← c .before .before .before .before .before .before .before .before .pre .1 .1 .1) (sym (c .before .before .before .kind .ensures) ∙ ap shapeOf (c .before .enum-told5 .given .1))) refl (c .no-value3 .ensures)
-
-pub +body+braced+choice+element+fields+list+list-value+value-spec : {M : Type 1} → statement M
-+body+braced+choice+element+fields+list+list-value+value-spec =
+pub +body+braced+element+fields+list+list-value+plain-value+value-spec : {M : Type 1} → statement M
++body+braced+element+fields+list+list-value+plain-value+value-spec =
     close
     μ-body
     μ-braced
-    μ-choice
     μ-element
     μ-fields
     μ-list
     μ-list-value
+    μ-plain-value
     μ-value
     (λ t. body-lts.spec (
       head-reads.Asked,
@@ -1999,49 +1998,6 @@ pub +body+braced+choice+element+fields+list+list-value+value-spec : {M : Type 1}
     (braced-same-length-2 t)
     (braced-returns-2 t)
     (braced-returns-3 t))
-    (λ t. choice-lts.spec (
-      core-reads.Asked,
-      core-reads.Learnt,
-      is-union-reads.Asked,
-      is-union-reads.Learnt,
-      value-below t,
-      value.Post,
-      close-chain-reads.Asked,
-      close-chain-reads.Learnt,
-      choose-reads.Asked,
-      choose-reads.Learnt,
-      open-row-reads.Asked,
-      open-row-reads.Learnt,
-      under-reads.Asked,
-      under-reads.Learnt,
-      whole-reads.Asked,
-      whole-reads.Learnt,
-    )
-    (choice-at t)
-    choice.Post
-    choice-Inv-loop
-    choice-μ-loop
-    (choice-loop-holds t)
-    (choice-core-requires t)
-    (choice-is-union-requires t)
-    (choice-value-requires t)
-    (choice-close-chain-requires t)
-    (choice-same-length t)
-    (choice-returns t)
-    (choice-choose-requires t)
-    (choice-enum-known-q t)
-    (choice-open-row-requires t)
-    (choice-under-requires t)
-    (choice-loop-less t)
-    (choice-loop-again t)
-    (choice-enum-known-q-2 t)
-    (choice-whole-requires t)
-    (choice-close-chain-requires-2 t)
-    (choice-same-length-2 t)
-    (choice-returns-2 t)
-    (choice-enum-known-k t)
-    (choice-same-length-3 t)
-    (choice-returns-3 t))
     (λ t. element-lts.spec (
       list-value-below t,
       list-value.Post,
@@ -2137,8 +2093,8 @@ pub +body+braced+choice+element+fields+list+list-value+value-spec : {M : Type 1}
     (λ t. list-value-lts.spec (
       quick-int-reads.Asked,
       quick-int-reads.Learnt,
-      choice-below t,
-      choice.Post,
+      value-below t,
+      value.Post,
     )
     (list-value-at t)
     list-value.Post
@@ -2146,7 +2102,7 @@ pub +body+braced+choice+element+fields+list+list-value+value-spec : {M : Type 1}
     (list-value-enum-known-v t)
     (list-value-enum-known-v-2 t)
     (list-value-enum-told t)
-    (list-value-choice-requires t)
+    (list-value-value-requires t)
     (list-value-enum-known-v-3 t)
     (list-value-enum-known-k t)
     (list-value-same-length t)
@@ -2157,7 +2113,7 @@ pub +body+braced+choice+element+fields+list+list-value+value-spec : {M : Type 1}
     (list-value-returns-3 t)
     (list-value-same-length-4 t)
     (list-value-returns-4 t))
-    λ t. value-lts.spec (
+    (λ t. plain-value-lts.spec (
       kind-reads.Asked,
       kind-reads.Learnt,
       no-value-reads.Asked,
@@ -2167,23 +2123,66 @@ pub +body+braced+choice+element+fields+list+list-value+value-spec : {M : Type 1}
       braced-below t,
       braced.Post,
     )
+    (plain-value-at t)
+    plain-value.Post
+    (plain-value-kind-requires t)
+    (plain-value-enum-told t)
+    (plain-value-no-value-requires t)
+    (plain-value-enum-told-2 t)
+    (plain-value-simple-requires t)
+    (plain-value-enum-told-3 t)
+    (plain-value-braced-requires t)
+    (plain-value-enum-told-4 t)
+    (plain-value-no-value-requires-2 t)
+    (plain-value-enum-told-5 t)
+    (plain-value-no-value-requires-3 t)
+    (plain-value-returns t)
+    (plain-value-same-length t)
+    (plain-value-returns-2 t)
+    (plain-value-same-length-2 t)
+    (plain-value-returns-3 t)
+    (plain-value-returns-4 t)
+    (plain-value-returns-5 t))
+    λ t. value-lts.spec (
+      core-reads.Asked,
+      core-reads.Learnt,
+      is-union-reads.Asked,
+      is-union-reads.Learnt,
+      plain-value-below t,
+      plain-value.Post,
+      close-chain-reads.Asked,
+      close-chain-reads.Learnt,
+      choose-reads.Asked,
+      choose-reads.Learnt,
+      open-row-reads.Asked,
+      open-row-reads.Learnt,
+      under-reads.Asked,
+      under-reads.Learnt,
+      whole-reads.Asked,
+      whole-reads.Learnt,
+    )
     (value-at t)
     value.Post
-    (value-kind-requires t)
-    (value-enum-told t)
-    (value-no-value-requires t)
-    (value-enum-told-2 t)
-    (value-simple-requires t)
-    (value-enum-told-3 t)
-    (value-braced-requires t)
-    (value-enum-told-4 t)
-    (value-no-value-requires-2 t)
-    (value-enum-told-5 t)
-    (value-no-value-requires-3 t)
-    (value-returns t)
+    value-Inv-loop
+    value-μ-loop
+    (value-loop-holds t)
+    (value-core-requires t)
+    (value-is-union-requires t)
+    (value-plain-value-requires t)
+    (value-close-chain-requires t)
     (value-same-length t)
-    (value-returns-2 t)
+    (value-returns t)
+    (value-choose-requires t)
+    (value-enum-known-q t)
+    (value-open-row-requires t)
+    (value-under-requires t)
+    (value-loop-less t)
+    (value-loop-again t)
+    (value-enum-known-q-2 t)
+    (value-whole-requires t)
+    (value-close-chain-requires-2 t)
     (value-same-length-2 t)
+    (value-returns-2 t)
+    (value-enum-known-k t)
+    (value-same-length-3 t)
     (value-returns-3 t)
-    (value-returns-4 t)
-    (value-returns-5 t)
