@@ -7,70 +7,49 @@ use Rattle.message_reader.proofs.Steps.{next-between, field-none, bodyi
 use borrow.Author.Needs.{needs}
 use Rattle.message_reader.proofs.next_part.Statement.{statement}
 use Rattle.message_reader.proofs.next_part.Tie as tie
-use Rattle.message_reader.proofs.next_part.Reads as reads
-use Rattle.message_reader.proofs.next_part.Lts as lts
-use Rattle.message_bodies.proofs.field_at.Reads as field-at-reads
-use Rattle.message_lookup.proofs.next_untagged.Reads as next-untagged-reads
-use Rattle.message_reader.proofs.for_field.Reads as for-field-reads
-use Rattle.message_reader.proofs.item.Reads as item-reads
 
--- src/lib.rt:440:11
 next-untagged-requires : tie.Need-next-untagged-requires
 next-untagged-requires c κs = search needs
 
--- src/lib.rt:441:55
 enum-told : tie.Need-enum-told
 enum-told c = search needs
 
--- src/lib.rt:441:27
 item-requires : tie.Need-item-requires
 item-requires c κs = c .before .before .before .before .before .before .before .before .before .pre
 
--- src/lib.rt:442:19
 enum-known-q : tie.Need-enum-known-q
 enum-known-q c = search needs
 
--- src/lib.rt:444:67
 for-field-requires : tie.Need-for-field-requires
 for-field-requires c κs = search needs
 
--- src/lib.rt:444:19
 field-at-requires : tie.Need-field-at-requires
 field-at-requires c κs = rw (c .for-field .ensures) (c .before .before .before .before .before .before .before .before .before .pre .0 .short)
 
--- src/lib.rt:445:49
 enum-told-2 : tie.Need-enum-told-2
 enum-told-2 c = search needs
 
--- src/lib.rt:445:49
 add-t22 : tie.Need-add-t22
 add-t22 c = let b = (next-between _ _ _ _ _ _ (found-at (c .before .before .before .before .before .before .before .next-untagged .result) _ _ (c .before .before .before .before .before .q .given .1) (c .before .before .before .before .before .before .before .next-untagged .ensures))) in omega (arith, b, c .before .before .before .before .before .before .before .before .before .before .before .before .pre .0 .known)
 
--- src/lib.rt:446:31
 enum-told-3 : tie.Need-enum-told-3
 enum-told-3 c = search needs
 
--- src/lib.rt:447:32
 enum-known-k : tie.Need-enum-known-k
 enum-known-k c = search needs
 
--- src/lib.rt:425:1
 same-length : tie.Need-same-length
 same-length c = search needs
 
--- src/lib.rt:425:1
 returns : tie.Need-returns
 returns c = λ e before i. c .before .before .item .ensures e before (rw (untagged-none _ _ _ _ _ (found-none (c .before .before .before .before .before .before .before .next-untagged .result) _ (c .before .before .before .before .before .enum-told .given .1) (c .before .before .before .before .before .before .before .next-untagged .ensures))) at i)
 
--- src/lib.rt:425:1
 returns-2 : tie.Need-returns-2
 returns-2 c = λ e before i. due-field (rw (untagged-next _ _ _ _ _ _ (found-at (c .before .before .before .before .before .before .before .next-untagged .result) _ _ (c .before .before .before .before .before .q .given .1) (c .before .before .before .before .before .before .before .next-untagged .ensures))) at i) _ ((next-between _ _ _ _ _ _ (found-at (c .before .before .before .before .before .before .before .next-untagged .result) _ _ (c .before .before .before .before .before .q .given .1) (c .before .before .before .before .before .before .before .next-untagged .ensures))) .1) ((rw (c .before .before .before .for-field .ensures, c .enum-told2 .given .1) at (c .before .before .field-at .ensures)) _ _ _)
 
--- src/lib.rt:425:1
 returns-3 : tie.Need-returns-3
 returns-3 c = λ e before i. bodying-out (rw (untagged-next _ _ _ _ _ _ (found-at (c .before .before .before .before .before .before .before .next-untagged .result) _ _ (c .before .before .before .before .before .q .given .1) (c .before .before .before .before .before .before .before .next-untagged .ensures))) at i) _ (Done (record { at = c .before .before .before .before .before .before .before .before .before .before .before .before .args .f .at }) (c .before .before .before .before .before .before .before .before .before .before .before .before .args .f .row)) (λ fuel. field-none _ _ (c .before .before .before .before .before .before .before .before .before .before .before .before .args .f) _ _ _ _ ((rw (c .before .before .before .for-field .ensures, c .enum-told3 .given .1) at (c .before .before .field-at .ensures)) _ _ _) (c .before .before .before .before .before .before .before .before .before .before .before .before .pre .0 .here))
 
--- src/lib.rt:425:1
 returns-4 : tie.Need-returns-4
 returns-4 c = λ e before i. bodying-out (rw (untagged-next _ _ _ _ _ _ (found-at (c .before .before .before .before .before .before .before .before .next-untagged .result) _ _ (c .before .before .before .before .before .before .q .given .1) (c .before .before .before .before .before .before .before .before .next-untagged .ensures))) at i) [] (Refused _ _) (λ fuel. (rw (c .before .before .before .before .for-field .ensures, c .before .k .given .1) at (c .before .before .before .field-at .ensures)) _ _ _)
 
