@@ -32,10 +32,10 @@ use Rattle.message_rows.proofs.Stores.{rows-append}
 use Rattle.table_tags.specs.Lists.{Linked}
 use Rattle.message_lookup.specs.Questions.{schemaAt}
 use Rattle.message_lookup.proofs.Laws.{schema-is}
-use Rattle.message_values.specs.declared.Frame.{Frame}
-use Rattle.message_values.specs.declared.Got.{Got}
-use Rattle.message_values.specs.declared.Got.the-variants as got
-use Rattle.message_values.specs.Ends.{Room, Ended, Ends}
+use Rattle.message_frame.specs.declared.Frame.{Frame}
+use Rattle.message_frame.specs.declared.Got.{Got}
+use Rattle.message_frame.specs.declared.Got.the-variants as got
+use Rattle.message_frame.specs.Ends.{Room, Ended, Ends}
 use Rattle.message.specs.Reads.{answerOfRead, rootFrame, reading, Rows, RowsCounted, Fills}
 use Rattle.message.specs.declared.Verdict.{Verdict}
 use Rattle.message.specs.declared.Verdict.the-variants.{Accepted, Refused}

@@ -10,9 +10,9 @@ use Rattle.message_rules.specs.Scan.{cut, tokensOf}
 use Rattle.reading_rules.specs.Parse.{parse}
 use Rattle.message_rules.specs.Rows.{Row, cells}
 use Rattle.message_rules.specs.Verdict.{RoomFree, fault, rows, outcome, MessageAnswer, accepted, refusal}
-use Rattle.message_values.specs.declared.Frame.{Frame}
-use Rattle.message_values.specs.declared.Got.{Got}
-use Rattle.message_values.specs.declared.Got.the-variants as got
+use Rattle.message_frame.specs.declared.Frame.{Frame}
+use Rattle.message_frame.specs.declared.Got.{Got}
+use Rattle.message_frame.specs.declared.Got.the-variants as got
 use Rattle.message.specs.declared.Verdict.{Verdict}
 use Rattle.message.specs.declared.Verdict.the-variants.{Accepted, Refused}
 

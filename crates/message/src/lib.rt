@@ -13,10 +13,10 @@ ghost use Rattle.message_rules.specs.Rows.{Row, cells};
 ghost use Rattle.message_rules.specs.Verdict.{roomFree, withRoom, written, readAnswer, rowsAfter};
 ghost use Rattle.message_rules.specs.Promise.{ReadPromise};
 ghost use Rattle.message.specs.Reads.{answerOfRead, rootFrame, reading, RowsCounted, Fills};
+use message_frame::Frame;
+use message_frame::Got;
 use message_rows::Row;
 use message_tokens::Scanned;
-use message_values::Frame;
-use message_values::Got;
 use table_walk::Walk;
 
 // The rows' count, or a number and a place.

@@ -30,13 +30,13 @@ use Rattle.message_unknown.proofs.Steps.{left-got, left-refused}
 use Rattle.message_lookup.specs.Questions.{schemaAt}
 use Rattle.message_lookup.specs.Seen.{Marks}
 use Rattle.message_lookup.proofs.Laws.{find-below}
-use Rattle.message_values.specs.Values.{Values, endOf}
+use Rattle.message_frame.specs.Ends.{Values, endOf}
 use Rattle.message_bodies.specs.Bodies.{endNumberAt, endAt, VoidItem, ListItem, Passes, ItemFor, Skips, UnknownAt, KnownList, KnownAt}
-use Rattle.message_values.specs.declared.Frame.{Frame}
+use Rattle.message_frame.specs.declared.Frame.{Frame}
 use Rattle.message_bodies.specs.declared.Item.{Item}
 use Rattle.message_bodies.specs.declared.Item.the-variants as item
-use Rattle.message_values.proofs.GoingLaws.{stopped-before, then-refused, then-got, going-step}
-use Rattle.message_values.proofs.Parts.{stop-here, stop-at, step-of-equals, equals-none}
+use Rattle.message_frame.proofs.GoingLaws.{stopped-before, then-refused, then-got, going-step}
+use Rattle.message_frame.proofs.AtToken.{stop-here, stop-at, step-of-equals, equals-none}
 
 -- ---- the end of a body
 pub end-barred : (b c : Bool) → b ≡ true → 23 ≡ endNumberAt b c

@@ -16,9 +16,9 @@ use Rattle.message_tokens.specs.Cursor.{cutAt, lexemesAt, Step}
 use Rattle.message_unknown.specs.Along.{tokensAt, Stopped}
 use Rattle.message_lookup.specs.Questions.{schemaAt}
 use Rattle.message_lookup.specs.Seen.{Marks}
-use Rattle.message_values.specs.Going.{Going}
-use Rattle.message_values.specs.Values.{Values, endOf}
-use Rattle.message_values.specs.declared.Frame.{Frame}
+use Rattle.message_frame.specs.Going.{Going}
+use Rattle.message_frame.specs.Ends.{Values, endOf}
+use Rattle.message_frame.specs.declared.Frame.{Frame}
 use Rattle.message_bodies.specs.declared.Start.{Start}
 use Rattle.message_bodies.specs.declared.Start.the-variants as start
 use Rattle.message_bodies.specs.declared.Item.{Item}

@@ -5,10 +5,10 @@ ghost use Prim.Native.Nat.{_+_, _≤_};
 ghost use lib.ListN.{length};
 ghost use Rattle.numbers.specs.Limits.{messageLimit};
 ghost use Rattle.message_bodies.specs.Bodies.{endNumberAt, endAt, StartAt, ItemAt, KnownAt, UnknownAt};
+use message_frame::Frame;
 use message_lookup::Found;
 use message_tokens::Cursor;
 use message_unknown::Passed;
-use message_values::Frame;
 
 // Where no token (kind 0) or a `}` (kind 6) stands at a place where a body may end, its number, 0 where it ends; else other.
 fn end_at(kind: u8, inside: bool, complete: bool, other: u32) -> u32

@@ -15,8 +15,8 @@ use Rattle.message_tokens.specs.Cursor.{part, cutAt, lexemesAt, Step}
 use Rattle.message_unknown.specs.Along.{tokensAt, Stopped}
 use Rattle.message_lookup.specs.Questions.{schemaAt, foundOf}
 use Rattle.message_lookup.specs.declared.Found.{Found}
-use Rattle.message_values.specs.Values.{Values, endOf}
-use Rattle.message_values.specs.declared.Frame.{Frame}
+use Rattle.message_frame.specs.Ends.{Values, endOf}
+use Rattle.message_frame.specs.declared.Frame.{Frame}
 use Rattle.message_choices.specs.declared.Choice.{Choice}
 use Rattle.message_choices.specs.declared.Choice.the-variants as choice
 

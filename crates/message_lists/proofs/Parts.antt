@@ -15,7 +15,7 @@ use Rattle.message_tokens.specs.declared.Head.{Head}
 use Rattle.message_tokens.proofs.Heads.{head-not, step-tokens}
 use Rattle.message_unknown.specs.Along.{tokensAt, Stopped}
 use Rattle.message_lists.specs.Lists.{Grows}
-use Rattle.message_values.proofs.Parts.{stop-here, stop-at, step-of-comma}
+use Rattle.message_frame.proofs.AtToken.{stop-here, stop-at, step-of-comma}
 
 value-ends : (S : Schema) (q c : ℕ) (next : List Token → Result (Tree list)) (v : Tree value) (x : List Token) → (tokenKind x ≡ 4 → ⊥) → afterValue S q c next v x ≡ listEnds S q c v x
 unfolding afterValue tokenKind

@@ -14,8 +14,8 @@ use Rattle.message_tokens.specs.Digits.{DigitsCounted, CountedBefore}
 use Rattle.message_lookup.specs.IntList.{IntsOf}
 use Rattle.message_lookup.specs.declared.Ints.{Ints}
 use Rattle.message_lists.specs.Quickly.{Takes, intRow, QuickValue, QuickOn}
-use Rattle.message_values.specs.declared.Frame.{Frame}
-use Rattle.message_values.specs.declared.Got.the-variants.{Done}
+use Rattle.message_frame.specs.declared.Frame.{Frame}
+use Rattle.message_frame.specs.declared.Got.the-variants.{Done}
 use Rattle.message_values.proofs.Parts.{leaf-ends, word-judged}
 
 pub takes-all : (e : Ints) (d : ℕ) → d < packedLimit → leb (e .least) d && leb d (e .most) ≡ true → Takes e d

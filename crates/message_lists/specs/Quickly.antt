@@ -11,9 +11,9 @@ use Rattle.reading_rules.specs.Parse.{simpleAt}
 use Rattle.message_rules.specs.Rows.{cells}
 use Rattle.message_unknown.specs.Along.{tokensAt}
 use Rattle.message_lookup.specs.declared.Ints.{Ints}
-use Rattle.message_values.specs.Ends.{EndedValue}
+use Rattle.message_frame.specs.Ends.{EndedValue}
 use Rattle.message_lists.specs.Lists.{Grows}
-use Rattle.message_values.specs.declared.Frame.{Frame}
+use Rattle.message_frame.specs.declared.Frame.{Frame}
 use Rattle.message_lists.specs.declared.Quick.{Quick}
 use Rattle.message_lists.specs.declared.Quick.the-variants.{On, Value, Slow}
 

@@ -7,14 +7,14 @@ ghost use Rattle.numbers.specs.Limits.{messageLimit};
 ghost use Rattle.message_lookup.specs.Questions.{schemaAt};
 ghost use mathlib.Core.Bool.{true};
 ghost use Rattle.message_lookup.specs.IntList.{IntsOf};
-ghost use Rattle.message_values.specs.Ends.{Room};
+ghost use Rattle.message_frame.specs.Ends.{Room};
 ghost use Rattle.message_lists.specs.Quickly.{Takes, intRow, QuickAt};
 ghost use Rattle.message_lists.specs.Lists.{AfterAt};
+use message_frame::Frame;
 use message_lookup::Ints;
 use message_rows::Row;
 use message_tokens::Cursor;
 use message_tokens::Digits;
-use message_values::Frame;
 
 pub enum After {
     More(Cursor),

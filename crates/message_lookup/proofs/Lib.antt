@@ -4,5 +4,6 @@ mod Steps
 mod Judging
 -- laws that other crates cite
 pub mod Laws
+pub mod Search
 pub mod Marked
 pub mod IntLists

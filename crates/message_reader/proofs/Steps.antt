@@ -38,20 +38,21 @@ use Rattle.table_records.specs.Stored.{recordsAt}
 use Rattle.table_records.proofs.Laws.{length-records}
 use Rattle.message_lookup.proofs.Laws.{untagged-all, untagged-below, next-in}
 use Rattle.message_lookup.proofs.Marked.{marks-none}
-use Rattle.message_values.specs.declared.Frame.{Frame}
-use Rattle.message_values.specs.declared.Got.{Got}
-use Rattle.message_values.specs.declared.Got.the-variants.{Done, Refused}
-use Rattle.message_values.specs.Ends.{Room, Moved, Ended, Ends, EndedValue, EndsValue}
+use Rattle.message_frame.specs.declared.Frame.{Frame}
+use Rattle.message_frame.specs.declared.Got.{Got}
+use Rattle.message_frame.specs.declared.Got.the-variants.{Done, Refused}
+use Rattle.message_frame.specs.Ends.{Room, Moved, Ended, Ends, EndedValue, EndsValue}
 use Rattle.message_lookup.specs.IntList.{IntsOf}
 use Rattle.message_lookup.specs.declared.Ints.{Ints}
 use Rattle.message_lists.specs.Quickly.{QuickValue, QuickOn}
-use Rattle.message_values.specs.Going.{Going, Chain}
-use Rattle.message_values.specs.Values.{Values, Shut, ShutAt}
+use Rattle.message_frame.specs.Going.{Going, Chain}
+use Rattle.message_frame.specs.Ends.{Values}
+use Rattle.message_values.specs.Values.{Shut, ShutAt}
 use Rattle.message_choices.specs.Choices.{Deeper, Whole}
 use Rattle.message_lists.specs.Lists.{Grows}
 use Rattle.message_bodies.specs.Bodies.{VoidItem, ListItem, Passes}
-use Rattle.message_values.proofs.GoingLaws.{stopped-before, stopped-then, stopped-same, then-refused, then-got, read-same, going-start, going-stopped, going-on, going-read, going-step, chain-start, chain-stopped, chain-on, chain-read}
-use Rattle.message_values.proofs.Parts.{stop-here}
+use Rattle.message_frame.proofs.GoingLaws.{stopped-before, stopped-then, stopped-same, then-refused, then-got, read-same, going-start, going-stopped, going-on, going-read, going-step, chain-start, chain-stopped, chain-on, chain-read}
+use Rattle.message_frame.proofs.AtToken.{stop-here}
 use Rattle.message_reader.specs.Turning.{valuesOf, here, Fewer, Turned, Line, Loop, ElementAt, Itemed, PlainAt, closedRows, endPlace, isUnion, movedOf, fieldOf, underOf, innerOf, deeperOf, openRow, WholeAt, leftAt, bodyOf, Bodying, Due}
 use Rattle.message_reader.specs.declared.Taken.{Taken}
 use Rattle.message_reader.specs.declared.Taken.the-variants as taken
@@ -319,7 +320,7 @@ closing-shut : (b : Tree body) (x y : List Token) → x ≡ closing ∷ y → sh
 unfolding shut
 closing-shut b x y e = rw e refl
 
-unfoldable pub isPlace : schema.Kind → Bool
+abbrev pub isPlace : schema.Kind → Bool
 isPlace schema.void = false
 isPlace schema.simple = true
 isPlace schema.struct = true
@@ -396,7 +397,7 @@ value-is S B fuel q x k e = rw e refl
 
 module _ (S : Schema) (s : List ℕ) (f : Frame) (before after : List ℕ) (g : Got) where
   pub plain-none : (k : schema.Kind) → S .kind (S .core (f .parameter)) ≡ k → isPlace k ≡ false → ((b a : List ℕ) → EndsValue (noneAt (here s f)) s f b a g) → PlainAt S s f before after g
-  unfolding byKind isPlace
+  unfolding byKind
   plain-none k e p h fuel n = value-same s f before after g (value-is S (bodyAt S (f .depth) true) fuel (f .parameter) (here s f) k e ∙ none-is k p (λ z. n (e ∙ z))) (h before after)
     where
       none-is : (k : schema.Kind) → isPlace k ≡ false → (k ≡ schema.union → ⊥) → byKind S (bodyAt S (f .depth) true) (valueAt S (bodyAt S (f .depth) true) fuel) (S .core (f .parameter)) k (here s f) ≡ noneAt (here s f)

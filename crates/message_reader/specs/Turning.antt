@@ -17,11 +17,11 @@ use Rattle.message_unknown.specs.Along.{tokensAt, Stopped}
 use Rattle.message_rows.specs.Filled.{withEnds}
 use Rattle.message_lookup.specs.Questions.{schemaAt, untaggedFrom}
 use Rattle.message_lookup.specs.Seen.{Marks}
-use Rattle.message_values.specs.declared.Frame.{Frame}
-use Rattle.message_values.specs.declared.Got.{Got}
-use Rattle.message_values.specs.declared.Got.the-variants.{Done, Refused}
-use Rattle.message_values.specs.Ends.{Moved, Ended, Ends, EndsValue}
-use Rattle.message_values.specs.Going.{Going}
+use Rattle.message_frame.specs.declared.Frame.{Frame}
+use Rattle.message_frame.specs.declared.Got.{Got}
+use Rattle.message_frame.specs.declared.Got.the-variants.{Done, Refused}
+use Rattle.message_frame.specs.Ends.{Moved, Ended, Ends, EndsValue}
+use Rattle.message_frame.specs.Going.{Going}
 use Rattle.message_reader.specs.declared.Taken.{Taken}
 use Rattle.message_reader.specs.declared.Taken.the-variants as taken
 use Rattle.message_reader.specs.declared.Part.{Part}

@@ -1,4 +1,4 @@
-// The readers of a message: body, list, choice and value call each other, and fill rows into a lent slice.
+// The readers of a message: body, list and value call each other, and fill rows into a lent slice.
 // s is the message from base on, or a part of it that starts after a brace. It is short, and the rows so far are few
 // (`Room`), so that no sum of places overflows.
 ghost use mathlib.Core.Path.{_≡_};
@@ -10,11 +10,13 @@ ghost use Rattle.numbers.specs.Limits.{messageLimit};
 ghost use Rattle.reading_rules.specs.Parse.{structAt, wholeList, listsAt, bodyAt};
 ghost use Rattle.message_lookup.specs.Questions.{schemaAt, untaggedFrom};
 ghost use Rattle.message_lookup.specs.IntList.{IntsOf};
-ghost use Rattle.message_values.specs.Ends.{Room, Ends, EndsValue};
+ghost use Rattle.message_frame.specs.Ends.{Room, Ends, EndsValue};
 ghost use Rattle.message_reader.specs.Turning.{valuesOf, here, TakenAt, ElementAt, Bodying, PartAt, Marked, PlainAt, closedRows, endPlace, WholeAt, isUnion, movedOf, nextOf, fieldOf, underOf, innerOf, deeperOf, openRow};
 use message_bodies::Item;
 use message_bodies::Start;
 use message_choices::Choice;
+use message_frame::Frame;
+use message_frame::Got;
 use message_lists::After;
 use message_lists::Quick;
 use message_lookup::Found;
@@ -22,19 +24,17 @@ use message_lookup::Ints;
 use message_lookup::Shape;
 use message_rows::Row;
 use message_tokens::Cursor;
-use message_values::Frame;
-use message_values::Got;
 use message_values::Opened;
 
 // ---- frames
 
 // The same frame further on.
-fn moved(f: Frame, at: usize, row: usize) -> Frame
-    ensures { λ r. ⌜ r ≡ movedOf f at row ⌝ }
+fn moved(f: Frame, v: Cursor, row: usize) -> Frame
+    ensures { λ r. ⌜ r ≡ movedOf f (v .at) row ⌝ }
 {
     Frame {
         base: f.base,
-        at: at,
+        at: v.at,
         row: row,
         parameter: f.parameter,
         parent: f.parent,
@@ -43,12 +43,12 @@ fn moved(f: Frame, at: usize, row: usize) -> Frame
 }
 
 // The frame of a list's next value, under the row that the list stands under.
-fn next_value(f: Frame, at: usize, row: usize, up: usize) -> Frame
-    ensures { λ r. ⌜ r ≡ nextOf f at row up ⌝ }
+fn next_value(f: Frame, v: Cursor, row: usize, up: usize) -> Frame
+    ensures { λ r. ⌜ r ≡ nextOf f (v .at) row up ⌝ }
 {
     Frame {
         base: f.base,
-        at: at,
+        at: v.at,
         row: row,
         parameter: f.parameter,
         parent: up,
@@ -57,12 +57,12 @@ fn next_value(f: Frame, at: usize, row: usize, up: usize) -> Frame
 }
 
 // The same frame for a field.
-fn for_field(f: Frame, at: usize, q: usize) -> Frame
-    ensures { λ r. ⌜ r ≡ fieldOf f at q ⌝ }
+fn for_field(f: Frame, v: Cursor, q: usize) -> Frame
+    ensures { λ r. ⌜ r ≡ fieldOf f (v .at) q ⌝ }
 {
     Frame {
         base: f.base,
-        at: at,
+        at: v.at,
         row: f.row,
         parameter: q,
         parent: f.parent,
@@ -71,13 +71,13 @@ fn for_field(f: Frame, at: usize, q: usize) -> Frame
 }
 
 // The frame of what a choice holds, under the row that the choice has.
-fn under(f: Frame, at: usize, q: usize) -> Frame
+fn under(f: Frame, v: Cursor, q: usize) -> Frame
     requires { ⌜ f .row < 4294967296 ⌝ }
-    ensures { λ r. ⌜ r ≡ underOf f at q ⌝ }
+    ensures { λ r. ⌜ r ≡ underOf f (v .at) q ⌝ }
 {
     Frame {
         base: f.base,
-        at: at,
+        at: v.at,
         row: f.row + 1,
         parameter: q,
         parent: f.row,
@@ -115,7 +115,7 @@ fn deeper(f: Frame) -> Frame
     }
 }
 
-// ---- unions
+// ---- values, down chains of choices
 
 fn is_union(table: &[u8], unpacked: &[u32], n: usize, u: usize) -> bool
     ensures { λ r. ⌜ r ≡ isUnion (schemaAt (now (table .entry)) (now (unpacked .entry)) n .kind u) ⌝ }
@@ -193,8 +193,8 @@ fn open_row(rows: &mut [u32], f: Frame, start: usize)
     );
 }
 
-// A value: a loop down a chain of choices, whose rows are neighbours with one end, then a value that is no choice.
-fn choice(table: &[u8], unpacked: &[u32], n: usize, s: &[u8], rows: &mut [u32], f: Frame) -> Got
+// Any value: a loop down a chain of choices, whose rows are neighbours with one end, then a value that is no choice.
+fn value(table: &[u8], unpacked: &[u32], n: usize, s: &[u8], rows: &mut [u32], f: Frame) -> Got
     requires { ⌜ Room f (length (now s)) n ⌝ }
     requires { ⌜ f .parameter < n ⌝ }
     ensures { λ r. ⌜ EndsValue (valuesOf (schemaAt (now (table .entry)) (now (unpacked .entry)) n) (f .depth) (f .parameter) (here (now (s .entry)) f)) (now (s .entry)) f (now (rows .entry)) (now (rows .exit)) r ⌝ }
@@ -203,13 +203,13 @@ fn choice(table: &[u8], unpacked: &[u32], n: usize, s: &[u8], rows: &mut [u32], 
     loop {
         let u = message_lookup::core(table, unpacked, n, g.parameter);
         if !is_union(table, unpacked, n, u) {
-            let got = value(table, unpacked, n, s, rows, g, u);
+            let got = plain_value(table, unpacked, n, s, rows, g, u);
             return close_chain(rows, f.base, f.row, g.row, got);
         }
         match message_choices::choose(table, unpacked, n, s, g, u) {
             Choice::Deeper(q, a, v) => {
                 open_row(rows, g, a);
-                g = under(g, v.at, q);
+                g = under(g, v, q);
             }
             Choice::Last(q, a, v) => {
                 let got = whole(rows, g, q, a, v);
@@ -222,7 +222,7 @@ fn choice(table: &[u8], unpacked: &[u32], n: usize, s: &[u8], rows: &mut [u32], 
     }
 }
 
-// ---- values
+// ---- values that are no choices
 
 // A struct's value: the part after its brace is handed on to the reader of its body.
 fn braced(
@@ -251,7 +251,7 @@ fn braced(
 }
 
 // A value of what is no union: f.parameter's, whose own kind is that of u.
-fn value(
+fn plain_value(
     table: &[u8],
     unpacked: &[u32],
     n: usize,
@@ -303,7 +303,7 @@ fn list_value(
     match message_lists::quick_int(table, unpacked, n, s, rows, f, c, e) {
         Quick::On(v, m) => Taken::On(v, m),
         Quick::Value(v, m) => Taken::Done(v, m),
-        Quick::Slow => match choice(table, unpacked, n, s, rows, f) {
+        Quick::Slow => match value(table, unpacked, n, s, rows, f) {
             Got::Done(v, m) => Taken::Done(v, m),
             Got::Refused(k, p) => Taken::Refused(k, p),
         },
@@ -357,7 +357,7 @@ fn list(table: &[u8], unpacked: &[u32], n: usize, s: &[u8], rows: &mut [u32], f:
     loop {
         match element(table, unpacked, n, s, rows, g, c, e) {
             Taken::On(v, next) => {
-                g = next_value(g, v.at, next, g.parent);
+                g = next_value(g, v, next, g.parent);
                 c += 1;
             }
             Taken::Done(v, m) => {
@@ -439,18 +439,14 @@ fn next_part(
 {
     match message_lookup::next_untagged(table, unpacked, n, f.parameter, i) {
         Found::Nowhere => item(table, unpacked, n, s, rows, f, inside, seen),
-        Found::At(q) => match message_bodies::field_at(
-            table,
-            unpacked,
-            n,
-            s,
-            for_field(f, f.at, q),
-            inside,
-        ) {
-            Start::List => Part::List(q, Cursor { at: f.at }, q + 1),
-            Start::End => Part::Done(Cursor { at: f.at }, f.row),
-            Start::Refused(k, p) => Part::Refused(k, p),
-        },
+        Found::At(q) => {
+            let v = Cursor { at: f.at };
+            match message_bodies::field_at(table, unpacked, n, s, for_field(f, v, q), inside) {
+                Start::List => Part::List(q, v, q + 1),
+                Start::End => Part::Done(v, f.row),
+                Start::Refused(k, p) => Part::Refused(k, p),
+            }
+        }
     }
 }
 
@@ -473,17 +469,17 @@ fn fields(
     loop {
         match next_part(table, unpacked, n, s, rows, g, inside, &mut seen, i) {
             Part::List(q, v, next) => {
-                let due = for_field(g, v.at, q);
+                let due = for_field(g, v, q);
                 match list(table, unpacked, n, s, rows, due) {
                     Got::Done(w, m) => {
-                        g = moved(g, w.at, m);
+                        g = moved(g, w, m);
                         i = next;
                     }
                     Got::Refused(k, p) => return Got::Refused(k, p),
                 }
             }
             Part::On(v, m) => {
-                g = moved(g, v.at, m);
+                g = moved(g, v, m);
                 i = n;
             }
             Part::Done(v, m) => return Got::Done(v, m),

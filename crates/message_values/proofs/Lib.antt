@@ -1,3 +1,2 @@
 -- Laws that other crates' proofs may cite.
-pub mod GoingLaws
 pub mod Parts

@@ -1,4 +1,2 @@
--- What the readers of a message ensure, and the decisions at a value and at a brace.
-pub mod Ends
-pub mod Going
+-- What the decisions at a value and at a brace ensure.
 pub mod Values

@@ -1,35 +1,21 @@
 -- What each decision at a value and at a brace ensures, against the parser.
 use mathlib.Core.Path.{_≡_}
-use mathlib.Core.Bool.{true, false, _||_}
 use mathlib.Core.List.{List, [], _∷_}
 use Prim.Native.Nat.{ℕ, _+_, _*_}
-use lib.Dec.{eqb}
-use lib.ListN.{length}
 use lib.Seq.{sets}
 use Rattle.numbers.specs.Limits.{rowWidth}
 use Rattle.reading_rules.specs.Token.{Token, opening, closing}
-use Rattle.reading_rules.specs.Reading.{value, body, Tree}
+use Rattle.reading_rules.specs.Reading.{body, Tree}
 use Rattle.reading_rules.specs.Parse.{Result, noneAt, shut, structAt}
 use Rattle.message_rules.specs.Rows.{cells}
 use Rattle.message_tokens.specs.Cursor.{cutAt, lexemesAt, Step}
 use Rattle.message_unknown.specs.Along.{tokensAt, Stopped}
-use Rattle.message_values.specs.Ends.{EndsValue}
-use Rattle.message_values.specs.declared.Frame.{Frame}
-use Rattle.message_values.specs.declared.Got.{Got}
-use Rattle.message_values.specs.declared.Got.the-variants.{Done, Refused}
+use Rattle.message_frame.specs.Ends.{endOf, EndsValue}
+use Rattle.message_frame.specs.declared.Frame.{Frame}
+use Rattle.message_frame.specs.declared.Got.{Got}
+use Rattle.message_frame.specs.declared.Got.the-variants.{Done, Refused}
 use Rattle.message_values.specs.declared.Opened.{Opened}
 use Rattle.message_values.specs.declared.Opened.the-variants as opened
-
-abbrev pub Values : Type 0
-Values = ℕ → List Token → Result (Tree value)
-
--- 24 for a word, a string or a `{`, else 23
-unfoldable pub unfitOf : ℕ → ℕ
-unfitOf k = elim (eqb k 1 || (eqb k 2 || eqb k 5)) [ true ↦ 24 | false ↦ 23 ]
-
--- the place where s ends
-abbrev pub endOf : List ℕ → Frame → ℕ
-endOf s f = f .base + length s
 
 abbrev pub NoValue : List ℕ → Frame → Got → Type 0
 NoValue s f r = (before after : List ℕ) → EndsValue (noneAt (tokensAt (f .base) s (f .at))) s f before after r

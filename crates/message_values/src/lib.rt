@@ -8,44 +8,14 @@ ghost use Rattle.reading_rules.specs.Parse.{simpleAt};
 ghost use Rattle.message_tokens.specs.Cursor.{part};
 ghost use Rattle.message_unknown.specs.Along.{tokensAt};
 ghost use Rattle.message_lookup.specs.Questions.{schemaAt};
-ghost use Rattle.message_values.specs.Ends.{Room, EndsValue};
-ghost use Rattle.message_values.specs.Values.{unfitOf, LeafAt, NoValue, OpenedAt, ShutAt};
+ghost use Rattle.message_frame.specs.Ends.{Room, EndsValue};
+ghost use Rattle.message_values.specs.Values.{LeafAt, NoValue, OpenedAt, ShutAt};
+use message_frame::Frame;
+use message_frame::Got;
 use message_rows::Row;
 use message_tokens::Cursor;
 
-// Where a reader stands: at in s, the next row, the parameter that is read, the row above, how many braces may still open.
-pub struct Frame {
-    pub base: usize,
-    pub at: usize,
-    pub row: usize,
-    pub parameter: usize,
-    pub parent: usize,
-    pub depth: usize,
-}
-
-// What was read, up to the cursor, and the next row; or a number and a place.
-pub enum Got {
-    Done(Cursor, usize),
-    Refused(u32, usize),
-}
-
 // ---- values
-
-// 24 for a word, a string or a `{`, 23 for what can't be a value's start.
-pub fn unfit(kind: u8) -> u32
-    ensures { λ r. ⌜ r ≡ unfitOf kind ⌝ }
-{
-    if kind == message_tokens::WORD {
-        return 24;
-    }
-    if kind == message_tokens::STRING {
-        return 24;
-    }
-    if kind == message_tokens::OPENING {
-        return 24;
-    }
-    23
-}
 
 // No value of the parameter can be.
 pub fn no_value(s: &[u8], f: Frame) -> Got
@@ -54,7 +24,7 @@ pub fn no_value(s: &[u8], f: Frame) -> Got
 {
     let u = Cursor { at: f.at };
     let h = u.head(s);
-    Got::Refused(unfit(h.kind), f.base + h.start)
+    Got::Refused(message_frame::unfit(h.kind), f.base + h.start)
 }
 
 // A token that was judged, from start to past.
@@ -119,7 +89,7 @@ pub fn simple(
         let number = message_lookup::judge(table, unpacked, n, u, between(s, a, e), true);
         return leaf(rows, f, number, a, past);
     }
-    Got::Refused(unfit(h.kind), f.base + a)
+    Got::Refused(message_frame::unfit(h.kind), f.base + a)
 }
 
 // ---- structs
@@ -140,7 +110,7 @@ pub fn open_brace(s: &[u8], f: Frame) -> Opened
     if h.kind == message_tokens::OPENING {
         return Opened::In(h.start, past);
     }
-    Opened::Refused(unfit(h.kind), f.base + h.start)
+    Opened::Refused(message_frame::unfit(h.kind), f.base + h.start)
 }
 
 // The `}` after a body that ended at at, and the row over all from start on.

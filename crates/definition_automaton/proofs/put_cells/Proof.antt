@@ -5,32 +5,22 @@ use Rattle.definition_automaton.proofs.CellLaws.{two-rows}
 use borrow.Author.Needs.{needs}
 use Rattle.definition_automaton.proofs.put_cells.Statement.{statement}
 use Rattle.definition_automaton.proofs.put_cells.Tie as tie
-use Rattle.definition_automaton.proofs.put_cells.Reads as reads
-use Rattle.definition_automaton.proofs.put_cells.Lts as lts
-use Rattle.definition_automaton.proofs.put_rest.Reads as put-rest-reads
-use Rattle.definition_automaton.proofs.put_runs.Reads as put-runs-reads
 
--- src/lib.rt:580:13
 mul-j : tie.Need-mul-j
 mul-j c = search needs
 
--- src/lib.rt:581:5
 put-runs-requires : tie.Need-put-runs-requires
 put-runs-requires c κs = search needs
 
--- src/lib.rt:582:21
 add-put-rest : tie.Need-add-put-rest
 add-put-rest c = search needs
 
--- src/lib.rt:582:5
 put-rest-requires : tie.Need-put-rest-requires
 put-rest-requires c κs = search needs
 
--- src/lib.rt:576:1
 same-length : tie.Need-same-length
 same-length c = search needs
 
--- src/lib.rt:576:1
 returns : tie.Need-returns
 returns c = two-rows 8 (c .before .before .before .before .before .before .before .before .before .args .cells .now) _ _ (runCells (c .before .before .before .before .before .before .before .before .before .args .p)) (restCells (c .before .before .before .before .before .before .before .before .before .args .p) (c .before .before .before .before .before .before .before .before .before .args .extension) (c .before .before .before .before .before .before .before .before .before .args .parent)) (16 * c .before .before .before .before .before .before .before .before .before .args .i) refl (c .before .before .before .before .before .before .put-runs .ensures) (c .before .before .put-rest .ensures)
 

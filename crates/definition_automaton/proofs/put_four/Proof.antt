@@ -2,43 +2,31 @@ use Rattle.definition_automaton.proofs.CellLaws.{four-are}
 use borrow.Author.Needs.{needs}
 use Rattle.definition_automaton.proofs.put_four.Statement.{statement}
 use Rattle.definition_automaton.proofs.put_four.Tie as tie
-use Rattle.definition_automaton.proofs.put_four.Reads as reads
-use Rattle.definition_automaton.proofs.put_four.Lts as lts
-use Rattle.definition_automaton.proofs.put.Reads as put-reads
 
--- src/lib.rt:554:5
 put-requires : tie.Need-put-requires
 put-requires c κs = search needs
 
--- src/lib.rt:555:16
 add-put : tie.Need-add-put
 add-put c = search needs
 
--- src/lib.rt:555:5
 put-requires-2 : tie.Need-put-requires-2
 put-requires-2 c κs = search needs
 
--- src/lib.rt:556:16
 add-put-2 : tie.Need-add-put-2
 add-put-2 c = search needs
 
--- src/lib.rt:556:5
 put-requires-3 : tie.Need-put-requires-3
 put-requires-3 c κs = search needs
 
--- src/lib.rt:557:16
 add-put-3 : tie.Need-add-put-3
 add-put-3 c = search needs
 
--- src/lib.rt:557:5
 put-requires-4 : tie.Need-put-requires-4
 put-requires-4 c κs = search needs
 
--- src/lib.rt:550:1
 same-length : tie.Need-same-length
 same-length c = search needs
 
--- src/lib.rt:550:1
 returns : tie.Need-returns
 returns c = four-are (c .before .before .before .before .before .before .before .before .before .before .before .before .before .before .before .before .before .args .cells .now) _ _ _ _ (c .before .before .before .before .before .before .before .before .before .before .before .before .before .before .before .before .before .args .j) (c .before .before .before .before .before .before .before .before .before .before .before .before .before .before .before .before .before .args .a) _ _ _ (c .before .before .before .before .before .before .before .before .before .before .before .before .before .before .put .ensures) (c .before .before .before .before .before .before .before .before .before .before .put2 .ensures) (c .before .before .before .before .before .before .put3 .ensures) (c .before .before .put4 .ensures)
 

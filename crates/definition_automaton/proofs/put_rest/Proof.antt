@@ -2,27 +2,19 @@ use Rattle.definition_automaton.proofs.CellLaws.{two-fours}
 use borrow.Author.Needs.{needs}
 use Rattle.definition_automaton.proofs.put_rest.Statement.{statement}
 use Rattle.definition_automaton.proofs.put_rest.Tie as tie
-use Rattle.definition_automaton.proofs.put_rest.Reads as reads
-use Rattle.definition_automaton.proofs.put_rest.Lts as lts
-use Rattle.definition_automaton.proofs.put_four.Reads as put-four-reads
 
--- src/lib.rt:572:5
 put-four-requires : tie.Need-put-four-requires
 put-four-requires c κs = search needs
 
--- src/lib.rt:573:21
 add-put-four : tie.Need-add-put-four
 add-put-four c = search needs
 
--- src/lib.rt:573:5
 put-four-requires-2 : tie.Need-put-four-requires-2
 put-four-requires-2 c κs = search needs
 
--- src/lib.rt:568:1
 same-length : tie.Need-same-length
 same-length c = search needs
 
--- src/lib.rt:568:1
 returns : tie.Need-returns
 returns c = two-fours (c .before .before .before .before .before .before .before .before .before .args .cells .now) _ _ (c .before .before .before .before .before .before .before .before .before .args .j) (c .before .before .before .before .before .before .before .before .before .args .p .tag .start) (c .before .before .before .before .before .before .before .before .before .args .p .tag .end) (c .before .before .before .before .before .before .before .before .before .args .p .ranged) (c .before .before .before .before .before .before .before .before .before .args .p .carded) (c .before .before .before .before .before .before .before .before .before .args .p .tagged) (c .before .before .before .before .before .before .before .before .before .args .p .plugin) (c .before .before .before .before .before .before .before .before .before .args .extension) (c .before .before .before .before .before .before .before .before .before .args .parent) (c .before .before .before .before .before .before .put-four .ensures) (c .before .before .put-four2 .ensures)
 

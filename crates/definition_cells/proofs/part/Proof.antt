@@ -3,62 +3,46 @@ use Rattle.definition_cells.proofs.CellLaws.{part-over, part-none, part
 use borrow.Author.Needs.{needs}
 use Rattle.definition_cells.proofs.part.Statement.{statement}
 use Rattle.definition_cells.proofs.part.Tie as tie
-use Rattle.definition_cells.proofs.part.Reads as reads
-use Rattle.definition_cells.proofs.part.Lts as lts
 
--- src/lib.rt:38:20
 part-result-start : tie.Need-part-result-start
 part-result-start c = search needs
 
--- src/lib.rt:38:20
 part-result-end : tie.Need-part-result-end
 part-result-end c = search needs
 
--- src/lib.rt:38:13
 returns : tie.Need-returns
 returns c = part-over _ _ _ (c .before .before .if1 .taken)
 
--- src/lib.rt:40:16
 sub-result : tie.Need-sub-result
 sub-result c = search needs
 
--- src/lib.rt:40:16
 part-result-start-2 : tie.Need-part-result-start-2
 part-result-start-2 c = search needs
 
--- src/lib.rt:40:16
 part-result-end-2 : tie.Need-part-result-end-2
 part-result-end-2 c = search needs
 
--- src/lib.rt:40:9
 returns-2 : tie.Need-returns-2
 returns-2 c = part-none _ _ _ (c .before .if2 .left)
 
--- src/lib.rt:43:16
 part-result-start-3 : tie.Need-part-result-start-3
 part-result-start-3 c = search needs
 
--- src/lib.rt:43:16
 part-result-end-3 : tie.Need-part-result-end-3
 part-result-end-3 c = search needs
 
--- src/lib.rt:43:9
 returns-3 : tie.Need-returns-3
 returns-3 c = search needs
 
--- src/lib.rt:45:5
 sub-result-2 : tie.Need-sub-result-2
 sub-result-2 c = search needs
 
--- src/lib.rt:45:5
 part-result-start-4 : tie.Need-part-result-start-4
 part-result-start-4 c = search needs
 
--- src/lib.rt:45:5
 part-result-end-4 : tie.Need-part-result-end-4
 part-result-end-4 c = search needs
 
--- src/lib.rt:32:1
 returns-4 : tie.Need-returns-4
 returns-4 c = part-back (c .before .before .before .args .text .now) (c .before .before .before .args .a) (c .before .before .before .args .e) (omega arith)
 

@@ -2,39 +2,25 @@ use Rattle.definition_checks.proofs.CheckLaws.{dangling-is, dangling-no
 use borrow.Author.Needs.{needs}
 use Rattle.definition_checks.proofs.dangling_fault.Statement.{statement}
 use Rattle.definition_checks.proofs.dangling_fault.Tie as tie
-use Rattle.definition_checks.proofs.dangling_fault.Reads as reads
-use Rattle.definition_checks.proofs.dangling_fault.Lts as lts
-use Rattle.definition_cells.proofs.at_if.Reads as at-if-reads
-use Rattle.definition_cells.proofs.cell.Reads as cell-reads
-use Rattle.definition_cells.proofs.run.Reads as run-reads
-use Rattle.definition_headings.proofs.find_top.Reads as find-top-reads
-use Rattle.definition_words.proofs.kind_of_run.Reads as kind-of-run-reads
 
--- src/lib.rt:170:9
 run-requires : tie.Need-run-requires
 run-requires c κs = search needs
 
--- src/lib.rt:171:8
 kind-of-run-requires : tie.Need-kind-of-run-requires
 kind-of-run-requires c κs = search needs
 
--- src/lib.rt:172:20
 find-top-requires : tie.Need-find-top-requires
 find-top-requires c κs = search needs
 
--- src/lib.rt:173:38
 cell-requires : tie.Need-cell-requires
 cell-requires c κs = search needs
 
--- src/lib.rt:173:9
 at-if-requires : tie.Need-at-if-requires
 at-if-requires c κs = search needs
 
--- src/lib.rt:173:9
 returns : tie.Need-returns
 returns c = dangling-is (c .before .before .before .before .before .before .before .before .args .text .now) (c .before .before .before .before .before .before .before .before .args .cells .now) (c .before .before .before .before .before .before .before .before .args .n) (c .before .before .before .before .before .before .before .before .args .i) _ _ (c .before .before .before .before .before .run .ensures) (c .before .before .before .before .kind-of-run .ensures) _ _ _ (c .before .before .before .if1 .taken) (c .before .before .find-top .ensures) (c .before .cell .ensures) (c .at-if .ensures)
 
--- src/lib.rt:167:1
 returns-2 : tie.Need-returns-2
 returns-2 c = dangling-not (c .before .before .before .before .before .args .text .now) (c .before .before .before .before .before .args .cells .now) (c .before .before .before .before .before .args .n) (c .before .before .before .before .before .args .i) _ _ (c .before .before .run .ensures) (c .before .kind-of-run .ensures) (c .if1 .left)
 

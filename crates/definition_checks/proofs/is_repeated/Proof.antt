@@ -6,9 +6,6 @@ use Rattle.definition_checks.specs.Checks.{keyAt, keysBelow}
 use Rattle.definition_checks.proofs.CheckLaws.{below-same, below-other, below-end}
 use Rattle.definition_checks.proofs.is_repeated.Statement.{statement}
 use Rattle.definition_checks.proofs.is_repeated.Tie as tie
-use Rattle.definition_checks.proofs.is_repeated.Reads as reads
-use Rattle.definition_checks.proofs.is_repeated.Lts as lts
-use Rattle.definition_checks.proofs.same_key.Reads as same-key-reads
 
 abbrev Inv-loop : tie.InvT-loop
 Inv-loop text cells i j₀ j = not (isNewKey (keyAt text cells i) (keysBelow text cells i)) ≡ not (isNewKey (keyAt text cells i) (keysBelow text cells j))
@@ -16,31 +13,24 @@ Inv-loop text cells i j₀ j = not (isNewKey (keyAt text cells i) (keysBelow tex
 abbrev μ-loop : tie.MeasureT-loop
 μ-loop text cells i j₀ j = j
 
--- src/lib.rt:149:5
 loop-holds : tie.Need-loop-holds Inv-loop μ-loop
 loop-holds c = refl
 
--- src/lib.rt:150:9
 sub-j : tie.Need-sub-j Inv-loop μ-loop
 sub-j c = search needs
 
--- src/lib.rt:151:12
 same-key-requires : tie.Need-same-key-requires Inv-loop μ-loop
 same-key-requires c κs = search needs
 
--- src/lib.rt:152:13
 returns : tie.Need-returns Inv-loop μ-loop
 returns c = sym (c .before .before .before .loop .inv ∙ below-same (c .before .before .before .before .before .before .args .text .now) (c .before .before .before .before .before .before .args .cells .now) (c .before .before .before .before .before .before .args .i) (c .before .before .before .loop .j) (c .before .before .loop-test .taken) (sym (c .before .same-key .ensures) ∙ c .if1 .taken))
 
--- src/lib.rt:149:5
 loop-less : tie.Need-loop-less Inv-loop μ-loop
 loop-less c = search needs
 
--- src/lib.rt:149:5
 loop-again : tie.Need-loop-again Inv-loop μ-loop
 loop-again c = c .before .before .before .loop .inv ∙ below-other (c .before .before .before .before .before .before .args .text .now) (c .before .before .before .before .before .before .args .cells .now) (c .before .before .before .before .before .before .args .i) (c .before .before .before .loop .j) (c .before .before .loop-test .taken) (sym (c .before .same-key .ensures) ∙ c .if1 .left)
 
--- src/lib.rt:145:1
 returns-2 : tie.Need-returns-2 Inv-loop μ-loop
 returns-2 c = sym (c .before .loop .inv ∙ below-end (c .before .before .before .before .args .text .now) (c .before .before .before .before .args .cells .now) (c .before .before .before .before .args .i) (c .before .loop .j) (c .loop-test .left))
 

@@ -2,40 +2,28 @@ use Rattle.definition_checks.proofs.CheckLaws.{alternative-top, alterna
 use borrow.Author.Needs.{needs}
 use Rattle.definition_checks.proofs.on_alternative.Statement.{statement}
 use Rattle.definition_checks.proofs.on_alternative.Tie as tie
-use Rattle.definition_checks.proofs.on_alternative.Reads as reads
-use Rattle.definition_checks.proofs.on_alternative.Lts as lts
-use Rattle.definition_cells.proofs.cell.Reads as cell-reads
-use Rattle.definition_headings.proofs.kind.Reads as kind-reads
 
--- src/lib.rt:103:18
 cell-requires : tie.Need-cell-requires
 cell-requires c κs = search needs
 
--- src/lib.rt:103:18
 cast-parent : tie.Need-cast-parent
 cast-parent c = search needs
 
--- src/lib.rt:105:9
 returns : tie.Need-returns
 returns c = alternative-top (c .before .before .before .before .args .text .now) (c .before .before .before .before .args .cells .now) (c .before .before .before .before .args .n) (c .before .before .before .before .args .i) _ (c .before .cell .ensures) (c .if1 .taken)
 
--- src/lib.rt:108:9
 returns-2 : tie.Need-returns-2
 returns-2 c = alternative-out (c .before .before .before .before .before .args .text .now) (c .before .before .before .before .before .args .cells .now) (c .before .before .before .before .before .args .n) (c .before .before .before .before .before .args .i) _ (c .before .before .cell .ensures) (c .if2 .taken)
 
--- src/lib.rt:110:8
 kind-requires : tie.Need-kind-requires
 kind-requires c κs = search needs
 
--- src/lib.rt:111:9
 returns-3 : tie.Need-returns-3
 returns-3 c = alternative-not (c .before .before .before .before .before .before .before .args .text .now) (c .before .before .before .before .before .before .before .args .cells .now) (c .before .before .before .before .before .before .before .args .n) (c .before .before .before .before .before .before .before .args .i) _ (c .before .before .before .before .cell .ensures) _ (c .before .before .before .if1 .left) (c .before .before .if2 .left) (c .before .kind .ensures) (c .if3 .taken)
 
--- src/lib.rt:113:5
 cell-requires-2 : tie.Need-cell-requires-2
 cell-requires-2 c κs = search needs
 
--- src/lib.rt:100:1
 returns-4 : tie.Need-returns-4
 returns-4 c = alternative-is (c .before .before .before .before .before .before .before .before .args .text .now) (c .before .before .before .before .before .before .before .before .args .cells .now) (c .before .before .before .before .before .before .before .before .args .n) (c .before .before .before .before .before .before .before .before .args .i) _ (c .before .before .before .before .before .cell .ensures) _ (c .before .before .before .before .if1 .left) (c .before .before .before .if2 .left) (c .before .before .kind .ensures) _ (c .before .if3 .left) (c .cell2 .ensures)
 

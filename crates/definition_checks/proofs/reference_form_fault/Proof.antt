@@ -2,39 +2,25 @@ use Rattle.definition_checks.proofs.CheckLaws.{reference-form, no-refer
 use borrow.Author.Needs.{needs}
 use Rattle.definition_checks.proofs.reference_form_fault.Statement.{statement}
 use Rattle.definition_checks.proofs.reference_form_fault.Tie as tie
-use Rattle.definition_checks.proofs.reference_form_fault.Reads as reads
-use Rattle.definition_checks.proofs.reference_form_fault.Lts as lts
-use Rattle.definition_cells.proofs.at_if.Reads as at-if-reads
-use Rattle.definition_cells.proofs.cell.Reads as cell-reads
-use Rattle.definition_cells.proofs.run.Reads as run-reads
-use Rattle.definition_words.proofs.kind_of_run.Reads as kind-of-run-reads
-use Rattle.definition_words.proofs.name_form.Reads as name-form-reads
 
--- src/lib.rt:29:9
 run-requires : tie.Need-run-requires
 run-requires c κs = search needs
 
--- src/lib.rt:30:8
 kind-of-run-requires : tie.Need-kind-of-run-requires
 kind-of-run-requires c κs = search needs
 
--- src/lib.rt:31:23
 name-form-requires : tie.Need-name-form-requires
 name-form-requires c κs = search needs
 
--- src/lib.rt:32:40
 cell-requires : tie.Need-cell-requires
 cell-requires c κs = search needs
 
--- src/lib.rt:32:9
 at-if-requires : tie.Need-at-if-requires
 at-if-requires c κs = search needs
 
--- src/lib.rt:32:9
 returns : tie.Need-returns
 returns c = reference-form (c .before .before .before .before .before .before .before .before .args .text .now) (c .before .before .before .before .before .before .before .before .args .cells .now) (c .before .before .before .before .before .before .before .before .args .i) _ _ _ _ _ (c .before .before .before .before .before .run .ensures) (c .before .before .before .before .kind-of-run .ensures) (c .before .before .before .if1 .taken) (c .before .before .name-form .ensures) (c .before .cell .ensures) (c .at-if .ensures)
 
--- src/lib.rt:26:1
 returns-2 : tie.Need-returns-2
 returns-2 c = no-reference (c .before .before .before .before .before .args .text .now) (c .before .before .before .before .before .args .cells .now) (c .before .before .before .before .before .args .i) _ _ (c .before .before .run .ensures) (c .before .kind-of-run .ensures) (c .if1 .left)
 

@@ -2,25 +2,16 @@ use Rattle.definition_checks.proofs.CheckLaws.{repeat-is}
 use borrow.Author.Needs.{needs}
 use Rattle.definition_checks.proofs.repeat_fault.Statement.{statement}
 use Rattle.definition_checks.proofs.repeat_fault.Tie as tie
-use Rattle.definition_checks.proofs.repeat_fault.Reads as reads
-use Rattle.definition_checks.proofs.repeat_fault.Lts as lts
-use Rattle.definition_checks.proofs.is_repeated.Reads as is-repeated-reads
-use Rattle.definition_cells.proofs.at_if.Reads as at-if-reads
-use Rattle.definition_cells.proofs.cell.Reads as cell-reads
 
--- src/lib.rt:161:9
 is-repeated-requires : tie.Need-is-repeated-requires
 is-repeated-requires c κs = search needs
 
--- src/lib.rt:162:28
 cell-requires : tie.Need-cell-requires
 cell-requires c κs = search needs
 
--- src/lib.rt:162:5
 at-if-requires : tie.Need-at-if-requires
 at-if-requires c κs = search needs
 
--- src/lib.rt:158:1
 returns : tie.Need-returns
 returns c = repeat-is (c .before .before .before .before .before .args .text .now) (c .before .before .before .before .before .args .cells .now) (c .before .before .before .before .before .args .i) _ _ _ (c .before .before .is-repeated .ensures) (c .before .cell .ensures) (c .at-if .ensures)
 

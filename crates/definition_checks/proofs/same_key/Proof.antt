@@ -2,37 +2,25 @@ use Rattle.definition_checks.proofs.CheckLaws.{key-is, key-not}
 use borrow.Author.Needs.{needs}
 use Rattle.definition_checks.proofs.same_key.Statement.{statement}
 use Rattle.definition_checks.proofs.same_key.Tie as tie
-use Rattle.definition_checks.proofs.same_key.Reads as reads
-use Rattle.definition_checks.proofs.same_key.Lts as lts
-use Rattle.classes.proofs.same_bytes.Reads as same-bytes-reads
-use Rattle.definition_cells.proofs.cell.Reads as cell-reads
-use Rattle.definition_cells.proofs.run.Reads as run-reads
 
--- src/lib.rt:138:8
 cell-requires : tie.Need-cell-requires
 cell-requires c κs = search needs
 
--- src/lib.rt:138:40
 cell-requires-2 : tie.Need-cell-requires-2
 cell-requires-2 c κs = search needs
 
--- src/lib.rt:139:36
 run-requires : tie.Need-run-requires
 run-requires c κs = search needs
 
--- src/lib.rt:139:70
 run-requires-2 : tie.Need-run-requires-2
 run-requires-2 c κs = search needs
 
--- src/lib.rt:139:9
 same-bytes-requires : tie.Need-same-bytes-requires
 same-bytes-requires c κs = search needs
 
--- src/lib.rt:139:9
 returns : tie.Need-returns
 returns c = key-is (c .before .before .before .before .before .before .before .before .args .text .now) (c .before .before .before .before .before .before .before .before .args .cells .now) (c .before .before .before .before .before .before .before .before .args .i) (c .before .before .before .before .before .before .before .before .args .j) _ _ (c .before .before .before .before .before .cell .ensures) (c .before .before .before .before .cell2 .ensures) _ _ _ (c .before .before .before .if1 .taken) (c .before .before .run .ensures) (c .before .run2 .ensures) (c .same-bytes .ensures)
 
--- src/lib.rt:135:1
 returns-2 : tie.Need-returns-2
 returns-2 c = key-not (c .before .before .before .before .before .args .text .now) (c .before .before .before .before .before .args .cells .now) (c .before .before .before .before .before .args .i) (c .before .before .before .before .before .args .j) _ _ (c .before .before .cell .ensures) (c .before .cell2 .ensures) (c .if1 .left)
 

@@ -2,42 +2,28 @@ use Rattle.definition_checks.proofs.CheckLaws.{tag-form, tag-own, tag-n
 use borrow.Author.Needs.{needs}
 use Rattle.definition_checks.proofs.tag_form_fault.Statement.{statement}
 use Rattle.definition_checks.proofs.tag_form_fault.Tie as tie
-use Rattle.definition_checks.proofs.tag_form_fault.Reads as reads
-use Rattle.definition_checks.proofs.tag_form_fault.Lts as lts
-use Rattle.definition_cells.proofs.at_if.Reads as at-if-reads
-use Rattle.definition_cells.proofs.cell.Reads as cell-reads
-use Rattle.definition_cells.proofs.run.Reads as run-reads
-use Rattle.definition_words.proofs.tag_form.Reads as tag-form-reads
 
--- src/lib.rt:40:9
 cell-requires : tie.Need-cell-requires
 cell-requires c κs = search needs
 
--- src/lib.rt:42:9
 returns : tie.Need-returns
 returns c = tag-own (c .before .before .before .before .args .text .now) (c .before .before .before .before .args .cells .now) (c .before .before .before .before .args .i) _ (c .before .cell .ensures) (c .if1 .taken)
 
--- src/lib.rt:45:9
 returns-2 : tie.Need-returns-2
 returns-2 c = tag-none (c .before .before .before .before .before .args .text .now) (c .before .before .before .before .before .args .cells .now) (c .before .before .before .before .before .args .i) _ (c .before .before .cell .ensures) (c .before .if1 .left) (c .if2 .taken)
 
--- src/lib.rt:47:35
 run-requires : tie.Need-run-requires
 run-requires c κs = search needs
 
--- src/lib.rt:47:19
 tag-form-requires : tie.Need-tag-form-requires
 tag-form-requires c κs = search needs
 
--- src/lib.rt:48:29
 cell-requires-2 : tie.Need-cell-requires-2
 cell-requires-2 c κs = search needs
 
--- src/lib.rt:48:5
 at-if-requires : tie.Need-at-if-requires
 at-if-requires c κs = search needs
 
--- src/lib.rt:37:1
 returns-3 : tie.Need-returns-3
 returns-3 c = tag-form (c .before .before .before .before .before .before .before .before .before .args .text .now) (c .before .before .before .before .before .before .before .before .before .args .cells .now) (c .before .before .before .before .before .before .before .before .before .args .i) _ _ _ _ _ (c .before .before .before .before .before .before .cell .ensures) (c .before .before .before .before .before .if1 .left) (c .before .before .before .before .if2 .left) (c .before .before .before .run .ensures) (c .before .before .tag-form .ensures) (c .before .cell2 .ensures) (c .at-if .ensures)
 

@@ -2,76 +2,52 @@ use Rattle.definition_faults.proofs.FaultLaws.{fault-seven, fault-eight
 use borrow.Author.Needs.{needs}
 use Rattle.definition_faults.proofs.fault_at.Statement.{statement}
 use Rattle.definition_faults.proofs.fault_at.Tie as tie
-use Rattle.definition_faults.proofs.fault_at.Reads as reads
-use Rattle.definition_faults.proofs.fault_at.Lts as lts
-use Rattle.definition_cells.proofs.at_if.Reads as at-if-reads
-use Rattle.definition_cells.proofs.cell.Reads as cell-reads
-use Rattle.table_checks.proofs.is_endless.Reads as is-endless-reads
-use Rattle.table_checks.proofs.root_no_struct.Reads as root-no-struct-reads
-use Rattle.table_checks.proofs.rule7_broken.Reads as rule7-broken-reads
-use Rattle.table_tags.proofs.tag_again.Reads as tag-again-reads
 
--- src/lib.rt:23:13
 rule7-broken-requires : tie.Need-rule7-broken-requires
 rule7-broken-requires c κs = search needs
 
--- src/lib.rt:24:40
 cell-requires : tie.Need-cell-requires
 cell-requires c κs = search needs
 
--- src/lib.rt:24:9
 at-if-requires : tie.Need-at-if-requires
 at-if-requires c κs = search needs
 
--- src/lib.rt:24:9
 returns : tie.Need-returns
 returns c = fault-seven (c .before .before .before .before .before .before .before .before .args .cells .now) (c .before .before .before .before .before .before .before .before .args .table .now) (c .before .before .before .before .before .before .before .before .args .unpacked .now) (c .before .before .before .before .before .before .before .before .args .have .now) (c .before .before .before .before .before .before .before .before .args .n) (c .before .before .before .before .before .before .before .before .args .rule) (c .before .before .before .before .before .before .before .before .args .i) _ _ _ (c .at-if .ensures) (c .before .before .before .if1 .taken) (c .before .before .rule7-broken .ensures) (c .before .cell .ensures)
 
--- src/lib.rt:27:13
 tag-again-requires : tie.Need-tag-again-requires
 tag-again-requires c κs = search needs
 
--- src/lib.rt:28:39
 cell-requires-2 : tie.Need-cell-requires-2
 cell-requires-2 c κs = search needs
 
--- src/lib.rt:28:9
 at-if-requires-2 : tie.Need-at-if-requires-2
 at-if-requires-2 c κs = search needs
 
--- src/lib.rt:28:9
 returns-2 : tie.Need-returns-2
 returns-2 c = fault-eight (c .before .before .before .before .before .before .before .before .before .args .cells .now) (c .before .before .before .before .before .before .before .before .before .args .table .now) (c .before .before .before .before .before .before .before .before .before .args .unpacked .now) (c .before .before .before .before .before .before .before .before .before .args .have .now) (c .before .before .before .before .before .before .before .before .before .args .n) (c .before .before .before .before .before .before .before .before .before .args .rule) (c .before .before .before .before .before .before .before .before .before .args .i) _ _ _ (c .at-if2 .ensures) (c .before .before .before .before .if1 .left) (c .before .before .before .if2 .taken) (c .before .before .tag-again .ensures) (c .before .cell2 .ensures)
 
--- src/lib.rt:31:13
 root-no-struct-requires : tie.Need-root-no-struct-requires
 root-no-struct-requires c κs = search needs
 
--- src/lib.rt:32:39
 cell-requires-3 : tie.Need-cell-requires-3
 cell-requires-3 c κs = search needs
 
--- src/lib.rt:32:9
 at-if-requires-3 : tie.Need-at-if-requires-3
 at-if-requires-3 c κs = search needs
 
--- src/lib.rt:32:9
 returns-3 : tie.Need-returns-3
 returns-3 c = fault-nine (c .before .before .before .before .before .before .before .before .before .before .args .cells .now) (c .before .before .before .before .before .before .before .before .before .before .args .table .now) (c .before .before .before .before .before .before .before .before .before .before .args .unpacked .now) (c .before .before .before .before .before .before .before .before .before .before .args .have .now) (c .before .before .before .before .before .before .before .before .before .before .args .n) (c .before .before .before .before .before .before .before .before .before .before .args .rule) (c .before .before .before .before .before .before .before .before .before .before .args .i) _ _ _ (c .at-if3 .ensures) (c .before .before .before .before .before .if1 .left) (c .before .before .before .before .if2 .left) (c .before .before .before .if3 .taken) (c .before .before .root-no-struct .ensures) (c .before .cell3 .ensures)
 
--- src/lib.rt:34:9
 is-endless-requires : tie.Need-is-endless-requires
 is-endless-requires c κs = search needs
 
--- src/lib.rt:35:30
 cell-requires-4 : tie.Need-cell-requires-4
 cell-requires-4 c κs = search needs
 
--- src/lib.rt:35:5
 at-if-requires-4 : tie.Need-at-if-requires-4
 at-if-requires-4 c κs = search needs
 
--- src/lib.rt:10:1
 returns-4 : tie.Need-returns-4
 returns-4 c = fault-ten (c .before .before .before .before .before .before .before .before .before .before .args .cells .now) (c .before .before .before .before .before .before .before .before .before .before .args .table .now) (c .before .before .before .before .before .before .before .before .before .before .args .unpacked .now) (c .before .before .before .before .before .before .before .before .before .before .args .have .now) (c .before .before .before .before .before .before .before .before .before .before .args .n) (c .before .before .before .before .before .before .before .before .before .before .args .rule) (c .before .before .before .before .before .before .before .before .before .before .args .i) _ _ _ (c .at-if4 .ensures) (c .before .before .before .before .before .if1 .left) (c .before .before .before .before .if2 .left) (c .before .before .before .if3 .left) (c .before .before .is-endless .ensures) (c .before .cell4 .ensures)
 

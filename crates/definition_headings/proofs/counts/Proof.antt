@@ -2,29 +2,19 @@ use Rattle.definition_headings.proofs.HeadLaws.{counts-given, counts-de
 use borrow.Author.Needs.{needs}
 use Rattle.definition_headings.proofs.counts.Statement.{statement}
 use Rattle.definition_headings.proofs.counts.Tie as tie
-use Rattle.definition_headings.proofs.counts.Reads as reads
-use Rattle.definition_headings.proofs.counts.Lts as lts
-use Rattle.definition_cells.proofs.cell.Reads as cell-reads
-use Rattle.definition_cells.proofs.run.Reads as run-reads
-use Rattle.numbers.proofs.read_count_range.Reads as read-count-range-reads
 
--- src/lib.rt:59:8
 cell-requires : tie.Need-cell-requires
 cell-requires c κs = search needs
 
--- src/lib.rt:60:42
 run-requires : tie.Need-run-requires
 run-requires c κs = search needs
 
--- src/lib.rt:60:9
 read-count-range-requires : tie.Need-read-count-range-requires
 read-count-range-requires c κs = search needs
 
--- src/lib.rt:60:9
 returns : tie.Need-returns
 returns c = counts-given (c .before .before .before .before .before .before .args .text .now) (c .before .before .before .before .before .before .args .cells .now) (c .before .before .before .before .before .before .args .i) _ _ _ (c .before .before .before .cell .ensures) (c .before .before .if1 .taken) (c .before .run .ensures) (c .read-count-range .ensures)
 
--- src/lib.rt:56:1
 returns-2 : tie.Need-returns-2
 returns-2 c = counts-default (c .before .before .before .before .args .text .now) (c .before .before .before .before .args .cells .now) (c .before .before .before .before .args .i) _ (c .before .cell .ensures) (c .if1 .left)
 

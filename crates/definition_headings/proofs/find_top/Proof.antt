@@ -7,9 +7,6 @@ use Rattle.definition_headings.specs.Heads.{namesFrom}
 use Rattle.definition_headings.proofs.HeadLaws.{find-yes, find-no, find-end, find-start, found, not-found}
 use Rattle.definition_headings.proofs.find_top.Statement.{statement}
 use Rattle.definition_headings.proofs.find_top.Tie as tie
-use Rattle.definition_headings.proofs.find_top.Reads as reads
-use Rattle.definition_headings.proofs.find_top.Lts as lts
-use Rattle.definition_headings.proofs.is_named.Reads as is-named-reads
 
 abbrev Inv-loop : tie.InvT-loop
 Inv-loop text cells n w j₀ j = (findTop (namesFrom text cells n 0) 0 w ≡ findTop (namesFrom text cells (n - j) j) j w) × (j ≤ n)
@@ -17,31 +14,24 @@ Inv-loop text cells n w j₀ j = (findTop (namesFrom text cells n 0) 0 w ≡ fin
 abbrev μ-loop : tie.MeasureT-loop
 μ-loop text cells n w j₀ j = n - j
 
--- src/lib.rt:41:5
 loop-holds : tie.Need-loop-holds Inv-loop μ-loop
 loop-holds c = (find-start (c .before .before .before .args .text .now) (c .before .before .before .args .cells .now) (c .before .before .before .args .n) (c .before .before .before .args .w .now), omega arith)
 
--- src/lib.rt:42:12
 is-named-requires : tie.Need-is-named-requires Inv-loop μ-loop
 is-named-requires c κs = search needs
 
--- src/lib.rt:43:13
 returns : tie.Need-returns Inv-loop μ-loop
 returns c = found (c .before .before .before .before .before .before .before .args .text .now) (c .before .before .before .before .before .before .before .args .cells .now) (c .before .before .before .before .before .before .before .args .n) (c .before .before .before .before .before .before .before .args .w .now) _ (c .before .before .before .loop .inv .0 ∙ find-yes (c .before .before .before .before .before .before .before .args .text .now) (c .before .before .before .before .before .before .before .args .cells .now) (c .before .before .before .before .before .before .before .args .n) _ (c .before .before .before .before .before .before .before .args .w .now) (c .before .before .loop-test .taken) (sym (c .before .is-named .ensures) ∙ c .if1 .taken))
 
--- src/lib.rt:45:9
 add-j : tie.Need-add-j Inv-loop μ-loop
 add-j c = search needs
 
--- src/lib.rt:41:5
 loop-less : tie.Need-loop-less Inv-loop μ-loop
 loop-less c = search needs
 
--- src/lib.rt:41:5
 loop-again : tie.Need-loop-again Inv-loop μ-loop
 loop-again c = (c .before .before .before .loop .inv .0 ∙ find-no (c .before .before .before .before .before .before .before .args .text .now) (c .before .before .before .before .before .before .before .args .cells .now) (c .before .before .before .before .before .before .before .args .n) _ (c .before .before .before .before .before .before .before .args .w .now) (c .before .before .loop-test .taken) (sym (c .before .is-named .ensures) ∙ c .if1 .left), omega arith)
 
--- src/lib.rt:37:1
 returns-2 : tie.Need-returns-2 Inv-loop μ-loop
 returns-2 c = not-found (c .before .before .before .before .before .args .text .now) (c .before .before .before .before .before .args .cells .now) (c .before .before .before .before .before .args .n) (c .before .before .before .before .before .args .w .now) (c .before .loop .inv .0 ∙ find-end (c .before .before .before .before .before .args .text .now) (c .before .before .before .before .before .args .cells .now) (c .before .before .before .before .before .args .n) _ (c .before .before .before .before .before .args .w .now) (c .loop-test .left))
 

@@ -2,29 +2,19 @@ use Rattle.definition_headings.proofs.HeadLaws.{named-top, named-not}
 use borrow.Author.Needs.{needs}
 use Rattle.definition_headings.proofs.is_named.Statement.{statement}
 use Rattle.definition_headings.proofs.is_named.Tie as tie
-use Rattle.definition_headings.proofs.is_named.Reads as reads
-use Rattle.definition_headings.proofs.is_named.Lts as lts
-use Rattle.classes.proofs.same_bytes.Reads as same-bytes-reads
-use Rattle.definition_cells.proofs.cell.Reads as cell-reads
-use Rattle.definition_cells.proofs.run.Reads as run-reads
 
--- src/lib.rt:30:8
 cell-requires : tie.Need-cell-requires
 cell-requires c κs = search needs
 
--- src/lib.rt:31:36
 run-requires : tie.Need-run-requires
 run-requires c κs = search needs
 
--- src/lib.rt:31:9
 same-bytes-requires : tie.Need-same-bytes-requires
 same-bytes-requires c κs = search needs
 
--- src/lib.rt:31:9
 returns : tie.Need-returns
 returns c = named-top (c .before .before .before .before .before .before .before .args .text .now) (c .before .before .before .before .before .before .before .args .cells .now) (c .before .before .before .before .before .before .before .args .j) (c .before .before .before .before .before .before .before .args .w .now) _ (c .before .before .before .cell .ensures) _ _ (c .before .before .if1 .taken) (c .before .run .ensures) (c .same-bytes .ensures)
 
--- src/lib.rt:27:1
 returns-2 : tie.Need-returns-2
 returns-2 c = named-not (c .before .before .before .before .before .args .text .now) (c .before .before .before .before .before .args .cells .now) (c .before .before .before .before .before .args .j) (c .before .before .before .before .before .args .w .now) _ (c .before .cell .ensures) (c .if1 .left)
 

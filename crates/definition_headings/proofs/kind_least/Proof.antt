@@ -1,18 +1,13 @@
 use Rattle.definition_headings.proofs.HeadLaws.{least-int, least-one, least-none}
 use Rattle.definition_headings.proofs.kind_least.Statement.{statement}
 use Rattle.definition_headings.proofs.kind_least.Tie as tie
-use Rattle.definition_headings.proofs.kind_least.Reads as reads
-use Rattle.definition_headings.proofs.kind_least.Lts as lts
 
--- src/lib.rt:20:9
 returns : tie.Need-returns
 returns c = least-int (c .before .args .k) (c .if1 .taken)
 
--- src/lib.rt:23:9
 returns-2 : tie.Need-returns-2
 returns-2 c = least-one (c .before .before .args .k) (c .before .if1 .left) (c .if2 .taken)
 
--- src/lib.rt:16:1
 returns-3 : tie.Need-returns-3
 returns-3 c = least-none (c .before .before .args .k) (c .before .if1 .left) (c .if2 .left)
 

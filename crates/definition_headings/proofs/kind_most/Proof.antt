@@ -1,22 +1,16 @@
 use Rattle.definition_headings.proofs.HeadLaws.{most-int, most-below, most-length, most-above}
 use Rattle.definition_headings.proofs.kind_most.Statement.{statement}
 use Rattle.definition_headings.proofs.kind_most.Tie as tie
-use Rattle.definition_headings.proofs.kind_most.Reads as reads
-use Rattle.definition_headings.proofs.kind_most.Lts as lts
 
--- src/lib.rt:33:9
 returns : tie.Need-returns
 returns c = most-int (c .before .args .k) (c .if1 .taken)
 
--- src/lib.rt:36:9
 returns-2 : tie.Need-returns-2
 returns-2 c = most-below (c .before .before .args .k) (c .before .if1 .left) (c .if2 .taken)
 
--- src/lib.rt:39:9
 returns-3 : tie.Need-returns-3
 returns-3 c = most-length (c .before .before .before .args .k) (c .before .before .if1 .left) (c .before .if2 .left) (c .if3 .taken)
 
--- src/lib.rt:29:1
 returns-4 : tie.Need-returns-4
 returns-4 c = most-above (c .before .before .before .args .k) (c .before .before .if1 .left) (c .before .if2 .left) (c .if3 .left)
 

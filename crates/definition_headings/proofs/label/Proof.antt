@@ -2,36 +2,25 @@ use Rattle.definition_headings.proofs.HeadLaws.{label-own, label-untagg
 use borrow.Author.Needs.{needs}
 use Rattle.definition_headings.proofs.label.Statement.{statement}
 use Rattle.definition_headings.proofs.label.Tie as tie
-use Rattle.definition_headings.proofs.label.Reads as reads
-use Rattle.definition_headings.proofs.label.Lts as lts
-use Rattle.definition_cells.proofs.cell.Reads as cell-reads
-use Rattle.definition_cells.proofs.run.Reads as run-reads
 
--- src/lib.rt:16:9
 cell-requires : tie.Need-cell-requires
 cell-requires c κs = search needs
 
--- src/lib.rt:18:9
 run-requires : tie.Need-run-requires
 run-requires c κs = search needs
 
--- src/lib.rt:18:9
 returns : tie.Need-returns
 returns c = label-own (c .before .before .before .before .before .args .text .now) (c .before .before .before .before .before .args .cells .now) (c .before .before .before .before .before .args .i) _ _ (c .before .before .cell .ensures) (c .before .if1 .taken) (c .run .ensures)
 
--- src/lib.rt:21:9
 run-requires-2 : tie.Need-run-requires-2
 run-requires-2 c κs = search needs
 
--- src/lib.rt:21:9
 returns-2 : tie.Need-returns-2
 returns-2 c = label-untagged (c .before .before .before .before .before .before .args .text .now) (c .before .before .before .before .before .before .args .cells .now) (c .before .before .before .before .before .before .args .i) _ _ (c .before .before .before .cell .ensures) (c .before .before .if1 .left) (c .before .if2 .taken) (c .run2 .ensures)
 
--- src/lib.rt:23:5
 run-requires-3 : tie.Need-run-requires-3
 run-requires-3 c κs = search needs
 
--- src/lib.rt:13:1
 returns-3 : tie.Need-returns-3
 returns-3 c = label-tag (c .before .before .before .before .before .before .args .text .now) (c .before .before .before .before .before .before .args .cells .now) (c .before .before .before .before .before .before .args .i) _ _ (c .before .before .before .cell .ensures) (c .before .before .if1 .left) (c .before .if2 .left) (c .run3 .ensures)
 

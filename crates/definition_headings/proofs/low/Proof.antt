@@ -2,23 +2,17 @@ use Rattle.numbers.specs.Range.{lowOf}
 use borrow.Author.Needs.{needs}
 use Rattle.definition_headings.proofs.low.Statement.{statement}
 use Rattle.definition_headings.proofs.low.Tie as tie
-use Rattle.definition_headings.proofs.low.Reads as reads
-use Rattle.definition_headings.proofs.low.Lts as lts
 
--- src/lib.rt:70:36
 enum-told : tie.Need-enum-told
 enum-told c = search needs
 
--- src/lib.rt:71:30
 enum-known-x : tie.Need-enum-known-x
 enum-known-x c = search needs
 
--- src/lib.rt:66:1
 returns : tie.Need-returns
 unfolding lowOf
 returns c = rw (c .enum-told .given .1)
 
--- src/lib.rt:66:1
 returns-2 : tie.Need-returns-2
 unfolding lowOf
 returns-2 c = rw (c .before .x .given .1)

@@ -2,29 +2,19 @@ use Rattle.definition_headings.proofs.HeadLaws.{target-top, target-none
 use borrow.Author.Needs.{needs}
 use Rattle.definition_headings.proofs.target.Statement.{statement}
 use Rattle.definition_headings.proofs.target.Tie as tie
-use Rattle.definition_headings.proofs.target.Reads as reads
-use Rattle.definition_headings.proofs.target.Lts as lts
-use Rattle.definition_cells.proofs.run.Reads as run-reads
-use Rattle.definition_headings.proofs.find_top.Reads as find-top-reads
-use Rattle.definition_headings.proofs.kind.Reads as kind-reads
 
--- src/lib.rt:54:9
 kind-requires : tie.Need-kind-requires
 kind-requires c κs = search needs
 
--- src/lib.rt:56:41
 run-requires : tie.Need-run-requires
 run-requires c κs = search needs
 
--- src/lib.rt:56:9
 find-top-requires : tie.Need-find-top-requires
 find-top-requires c κs = search needs
 
--- src/lib.rt:56:9
 returns : tie.Need-returns
 returns c = target-top (c .before .before .before .before .before .before .args .text .now) (c .before .before .before .before .before .before .args .cells .now) (c .before .before .before .before .before .before .args .n) (c .before .before .before .before .before .before .args .i) _ (c .before .before .before .kind .ensures) _ _ (c .before .before .if1 .taken) (c .before .run .ensures) (c .find-top .ensures)
 
--- src/lib.rt:51:1
 returns-2 : tie.Need-returns-2
 returns-2 c = target-none (c .before .before .before .before .args .text .now) (c .before .before .before .before .args .cells .now) (c .before .before .before .before .args .n) (c .before .before .before .before .args .i) _ (c .before .kind .ensures) (c .if1 .left)
 

@@ -1,14 +1,10 @@
 use Rattle.definition_writer.proofs.WriteLaws.{bit-one, bit-none}
 use Rattle.definition_writer.proofs.bit.Statement.{statement}
 use Rattle.definition_writer.proofs.bit.Tie as tie
-use Rattle.definition_writer.proofs.bit.Reads as reads
-use Rattle.definition_writer.proofs.bit.Lts as lts
 
--- src/lib.rt:58:9
 returns : tie.Need-returns
 returns c = bit-one (c .before .args .b) (c .if1 .taken)
 
--- src/lib.rt:54:1
 returns-2 : tie.Need-returns-2
 returns-2 c = bit-none (c .before .args .b) (c .if1 .left)
 

@@ -3,52 +3,37 @@ use Rattle.definition_writer.proofs.WriteLaws.{flags-are}
 use borrow.Author.Needs.{needs}
 use Rattle.definition_writer.proofs.flags.Statement.{statement}
 use Rattle.definition_writer.proofs.flags.Tie as tie
-use Rattle.definition_writer.proofs.flags.Reads as reads
-use Rattle.definition_writer.proofs.flags.Lts as lts
-use Rattle.definition_cells.proofs.cell.Reads as cell-reads
-use Rattle.definition_writer.proofs.bit.Reads as bit-reads
 
--- src/lib.rt:67:24
 cell-requires : tie.Need-cell-requires
 cell-requires c κs = search needs
 
--- src/lib.rt:67:9
 bit-requires : tie.Need-bit-requires
 bit-requires c κs = search needs
 
--- src/lib.rt:68:25
 cell-requires-2 : tie.Need-cell-requires-2
 cell-requires-2 c κs = search needs
 
--- src/lib.rt:68:9
 bit-requires-2 : tie.Need-bit-requires-2
 bit-requires-2 c κs = search needs
 
--- src/lib.rt:69:22
 cell-requires-3 : tie.Need-cell-requires-3
 cell-requires-3 c κs = search needs
 
--- src/lib.rt:69:9
 bit-requires-3 : tie.Need-bit-requires-3
 bit-requires-3 c κs = search needs
 
--- src/lib.rt:70:16
 mul-result : tie.Need-mul-result
 mul-result c = search needs
 
--- src/lib.rt:70:5
 add-result : tie.Need-add-result
 add-result c = search needs
 
--- src/lib.rt:70:32
 mul-result-2 : tie.Need-mul-result-2
 mul-result-2 c = search needs
 
--- src/lib.rt:70:5
 add-result-2 : tie.Need-add-result-2
 add-result-2 c = search needs
 
--- src/lib.rt:64:1
 returns : tie.Need-returns
 returns c = flags-are (c .before .before .before .before .before .before .before .args .cells .now) (c .before .before .before .before .before .before .before .args .i) _ _ _ _ _ _ (c .before .before .before .before .before .cell .ensures) (c .before .before .before .cell2 .ensures) (c .before .cell3 .ensures) (c .before .before .before .before .bit .ensures .0) (c .before .before .bit2 .ensures .0) (c .bit3 .ensures .0)
 

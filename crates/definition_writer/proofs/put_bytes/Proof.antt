@@ -7,9 +7,6 @@ use lib.Seq.{sets, take-all}
 use Rattle.definition_writer.proofs.WriteLaws.{sets-out, copy-more}
 use Rattle.definition_writer.proofs.put_bytes.Statement.{statement}
 use Rattle.definition_writer.proofs.put_bytes.Tie as tie
-use Rattle.definition_writer.proofs.put_bytes.Reads as reads
-use Rattle.definition_writer.proofs.put_bytes.Lts as lts
-use Rattle.numbers.proofs.set_byte.Reads as set-byte-reads
 
 abbrev Inv-loop : tie.InvT-loop
 Inv-loop table₀ at s i₀ table i = (table ≡ sets table₀ at (take i s)) × (i ≤ length s) × (length table ≡ length table₀)
@@ -17,43 +14,33 @@ Inv-loop table₀ at s i₀ table i = (table ≡ sets table₀ at (take i s)) ×
 abbrev μ-loop : tie.MeasureT-loop
 μ-loop table₀ at s i₀ table i = length s - i
 
--- src/lib.rt:43:9
 returns : tie.Need-returns Inv-loop μ-loop
 returns c = sym (sets-out (c .before .before .before .args .s .now) (c .before .before .before .args .table .now) (c .before .before .before .args .at) (c .if1 .taken))
 
--- src/lib.rt:46:5
 loop-holds : tie.Need-loop-holds Inv-loop μ-loop
 loop-holds c = (refl, omega arith, refl)
 
--- src/lib.rt:47:34
 add-set-byte : tie.Need-add-set-byte Inv-loop μ-loop
 add-set-byte c = search needs
 
--- src/lib.rt:47:42
 shared-slice-read-set-byte : tie.Need-shared-slice-read-set-byte Inv-loop μ-loop
 shared-slice-read-set-byte c = search needs
 
--- src/lib.rt:47:9
 set-byte-requires : tie.Need-set-byte-requires Inv-loop μ-loop
 set-byte-requires c κs = search needs
 
--- src/lib.rt:48:9
 add-i : tie.Need-add-i Inv-loop μ-loop
 add-i c = search needs
 
--- src/lib.rt:46:5
 loop-less : tie.Need-loop-less Inv-loop μ-loop
 loop-less c = search needs
 
--- src/lib.rt:46:5
 loop-again : tie.Need-loop-again Inv-loop μ-loop
 loop-again c = (c .before .before .set-byte .ensures ∙ rw (c .before .before .before .before .before .before .loop .inv .0) (copy-more (c .before .before .before .before .before .before .before .before .before .before .args .table .now) (c .before .before .before .before .before .before .before .before .before .before .args .s .now) (c .before .before .before .before .before .before .before .before .before .before .args .at) (c .before .before .before .before .before .before .loop .i) (c .before .before .before .before .before .loop-test .taken)), omega arith, search needs)
 
--- src/lib.rt:39:1
 same-length : tie.Need-same-length Inv-loop μ-loop
 same-length c = search needs
 
--- src/lib.rt:39:1
 returns-2 : tie.Need-returns-2 Inv-loop μ-loop
 returns-2 c = c .before .loop .inv .0 ∙ rw (take-all (c .before .loop .i) (c .before .before .before .before .before .args .s .now) (c .loop-test .left))
 

@@ -3,19 +3,13 @@ use Rattle.definition_writer.proofs.WriteLaws.{set-four}
 use borrow.Author.Needs.{needs}
 use Rattle.definition_writer.proofs.put_limit.Statement.{statement}
 use Rattle.definition_writer.proofs.put_limit.Tie as tie
-use Rattle.definition_writer.proofs.put_limit.Reads as reads
-use Rattle.definition_writer.proofs.put_limit.Lts as lts
-use Rattle.numbers.proofs.put_int.Reads as put-int-reads
 
--- src/lib.rt:27:5
 put-int-requires : tie.Need-put-int-requires
 put-int-requires c κs = search needs
 
--- src/lib.rt:24:1
 same-length : tie.Need-same-length
 same-length c = search needs
 
--- src/lib.rt:24:1
 returns : tie.Need-returns
 returns c = c .before .before .put-int .ensures ∙ set-four (c .before .before .before .before .before .args .table .now) (c .before .before .before .before .before .args .at) _
 

@@ -2,19 +2,13 @@ use Rattle.definition_writer.proofs.WriteLaws.{length-is}
 use borrow.Author.Needs.{needs}
 use Rattle.definition_writer.proofs.record_length.Statement.{statement}
 use Rattle.definition_writer.proofs.record_length.Tie as tie
-use Rattle.definition_writer.proofs.record_length.Reads as reads
-use Rattle.definition_writer.proofs.record_length.Lts as lts
-use Rattle.definition_headings.proofs.label.Reads as label-reads
 
--- src/lib.rt:107:9
 label-requires : tie.Need-label-requires
 label-requires c κs = search needs
 
--- src/lib.rt:108:5
 add-result : tie.Need-add-result
 add-result c = search needs
 
--- src/lib.rt:103:1
 returns : tie.Need-returns
 returns c = length-is (c .before .before .before .args .text .now) (c .before .before .before .args .cells .now) _ (c .before .before .before .args .i) (c .label .ensures) (c .before .before .before .pre)
 

@@ -5,178 +5,124 @@ use Rattle.definition_writer.proofs.WriteLaws.{sets-out, record-is}
 use borrow.Author.Needs.{needs}
 use Rattle.definition_writer.proofs.write_record.Statement.{statement}
 use Rattle.definition_writer.proofs.write_record.Tie as tie
-use Rattle.definition_writer.proofs.write_record.Reads as reads
-use Rattle.definition_writer.proofs.write_record.Lts as lts
-use Rattle.definition_cells.proofs.cell.Reads as cell-reads
-use Rattle.definition_headings.proofs.counts.Reads as counts-reads
-use Rattle.definition_headings.proofs.high.Reads as high-reads
-use Rattle.definition_headings.proofs.kind.Reads as kind-reads
-use Rattle.definition_headings.proofs.label.Reads as label-reads
-use Rattle.definition_headings.proofs.limits.Reads as limits-reads
-use Rattle.definition_headings.proofs.low.Reads as low-reads
-use Rattle.definition_headings.proofs.target.Reads as target-reads
-use Rattle.definition_writer.proofs.flags.Reads as flags-reads
-use Rattle.definition_writer.proofs.put_bytes.Reads as put-bytes-reads
-use Rattle.definition_writer.proofs.put_cut.Reads as put-cut-reads
-use Rattle.definition_writer.proofs.put_limit.Reads as put-limit-reads
 
--- src/lib.rt:77:9
 returns : tie.Need-returns
 returns c = sym (sets-out (cutBytes (recordWritten (c .before .before .before .before .args .text .now) (c .before .before .before .before .args .cells .now) (c .before .before .before .before .args .n) (c .before .before .before .before .args .i))) (c .before .before .before .before .args .table .now) (c .before .before .before .before .args .at) (c .if1 .taken))
 
--- src/lib.rt:79:9
 label-requires : tie.Need-label-requires
 label-requires c κs = search needs
 
--- src/lib.rt:81:16
 kind-requires : tie.Need-kind-requires
 kind-requires c κs = search needs
 
--- src/lib.rt:81:16
 cast-kind : tie.Need-cast-kind
 cast-kind c = search needs
 
--- src/lib.rt:82:18
 cell-requires : tie.Need-cell-requires
 cell-requires c κs = search needs
 
--- src/lib.rt:82:18
 cast-parent : tie.Need-cast-parent
 cast-parent c = search needs
 
--- src/lib.rt:83:9
 flags-requires : tie.Need-flags-requires
 flags-requires c κs = search needs
 
--- src/lib.rt:84:9
 counts-requires : tie.Need-counts-requires
 counts-requires c κs = search needs
 
--- src/lib.rt:85:14
 low-requires : tie.Need-low-requires
 low-requires c κs = search needs
 
--- src/lib.rt:85:14
 cast-lo : tie.Need-cast-lo
 cast-lo c = search needs
 
--- src/lib.rt:86:14
 high-requires : tie.Need-high-requires
 high-requires c κs = search needs
 
--- src/lib.rt:86:14
 cast-hi : tie.Need-cast-hi
 cast-hi c = search needs
 
--- src/lib.rt:87:9
 limits-requires : tie.Need-limits-requires
 limits-requires c κs = search needs
 
--- src/lib.rt:88:9
 low-requires-2 : tie.Need-low-requires-2
 low-requires-2 c κs = search needs
 
--- src/lib.rt:89:9
 high-requires-2 : tie.Need-high-requires-2
 high-requires-2 c κs = search needs
 
--- src/lib.rt:90:9
 target-requires : tie.Need-target-requires
 target-requires c κs = search needs
 
--- src/lib.rt:91:24
 add-put-cut : tie.Need-add-put-cut
 add-put-cut c = search needs
 
--- src/lib.rt:91:5
 put-cut-requires : tie.Need-put-cut-requires
 put-cut-requires c κs = search needs
 
--- src/lib.rt:92:20
 add-put-cut-2 : tie.Need-add-put-cut-2
 add-put-cut-2 c = omega (arith, c .before .before .before .before .before .before .before .before .before .before .before .before .before .before .before .before .if1 .left, c .before .before .before .before .before .before .before .before .before .before .before .before .before .before .before .before .before .before .before .before .good)
 
--- src/lib.rt:92:5
 put-cut-requires-2 : tie.Need-put-cut-requires-2
 put-cut-requires-2 c κs = search needs
 
--- src/lib.rt:93:20
 add-put-cut-3 : tie.Need-add-put-cut-3
 add-put-cut-3 c = omega (arith, c .before .before .before .before .before .before .before .before .before .before .before .before .before .before .before .before .before .before .before .before .if1 .left, c .before .before .before .before .before .before .before .before .before .before .before .before .before .before .before .before .before .before .before .before .before .before .before .before .good)
 
--- src/lib.rt:93:5
 put-cut-requires-3 : tie.Need-put-cut-requires-3
 put-cut-requires-3 c κs = search needs
 
--- src/lib.rt:94:20
 add-put-cut-4 : tie.Need-add-put-cut-4
 add-put-cut-4 c = omega (arith, c .before .before .before .before .before .before .before .before .before .before .before .before .before .before .before .before .before .before .before .before .before .before .before .before .if1 .left, c .before .before .before .before .before .before .before .before .before .before .before .before .before .before .before .before .before .before .before .before .before .before .before .before .before .before .before .before .good)
 
--- src/lib.rt:94:5
 put-cut-requires-4 : tie.Need-put-cut-requires-4
 put-cut-requires-4 c κs = search needs
 
--- src/lib.rt:95:20
 add-put-cut-5 : tie.Need-add-put-cut-5
 add-put-cut-5 c = omega (arith, c .before .before .before .before .before .before .before .before .before .before .before .before .before .before .before .before .before .before .before .before .before .before .before .before .before .before .before .before .if1 .left, c .before .before .before .before .before .before .before .before .before .before .before .before .before .before .before .before .before .before .before .before .before .before .before .before .before .before .before .before .before .before .before .before .good)
 
--- src/lib.rt:95:5
 put-cut-requires-5 : tie.Need-put-cut-requires-5
 put-cut-requires-5 c κs = search needs
 
--- src/lib.rt:96:20
 add-put-cut-6 : tie.Need-add-put-cut-6
 add-put-cut-6 c = omega (arith, c .before .before .before .before .before .before .before .before .before .before .before .before .before .before .before .before .before .before .before .before .before .before .before .before .before .before .before .before .before .before .before .before .if1 .left, c .before .before .before .before .before .before .before .before .before .before .before .before .before .before .before .before .before .before .before .before .before .before .before .before .before .before .before .before .before .before .before .before .before .before .before .before .good)
 
--- src/lib.rt:96:5
 put-cut-requires-6 : tie.Need-put-cut-requires-6
 put-cut-requires-6 c κs = search needs
 
--- src/lib.rt:97:22
 add-put-limit : tie.Need-add-put-limit
 add-put-limit c = omega (arith, c .before .before .before .before .before .before .before .before .before .before .before .before .before .before .before .before .before .before .before .before .before .before .before .before .before .before .before .before .before .before .before .before .before .before .before .before .if1 .left, c .before .before .before .before .before .before .before .before .before .before .before .before .before .before .before .before .before .before .before .before .before .before .before .before .before .before .before .before .before .before .before .before .before .before .before .before .before .before .before .before .good)
 
--- src/lib.rt:97:5
 put-limit-requires : tie.Need-put-limit-requires
 put-limit-requires c κs = search needs
 
--- src/lib.rt:98:22
 add-put-limit-2 : tie.Need-add-put-limit-2
 add-put-limit-2 c = omega (arith, c .before .before .before .before .before .before .before .before .before .before .before .before .before .before .before .before .before .before .before .before .before .before .before .before .before .before .before .before .before .before .before .before .before .before .before .before .before .before .before .before .if1 .left, c .before .before .before .before .before .before .before .before .before .before .before .before .before .before .before .before .before .before .before .before .before .before .before .before .before .before .before .before .before .before .before .before .before .before .before .before .before .before .before .before .before .before .before .before .good)
 
--- src/lib.rt:98:5
 put-limit-requires-2 : tie.Need-put-limit-requires-2
 put-limit-requires-2 c κs = search needs
 
--- src/lib.rt:99:20
 add-put-cut-7 : tie.Need-add-put-cut-7
 add-put-cut-7 c = omega (arith, c .before .before .before .before .before .before .before .before .before .before .before .before .before .before .before .before .before .before .before .before .before .before .before .before .before .before .before .before .before .before .before .before .before .before .before .before .before .before .before .before .before .before .before .before .if1 .left, c .before .before .before .before .before .before .before .before .before .before .before .before .before .before .before .before .before .before .before .before .before .before .before .before .before .before .before .before .before .before .before .before .before .before .before .before .before .before .before .before .before .before .before .before .before .before .before .before .good)
 
--- src/lib.rt:99:5
 put-cut-requires-7 : tie.Need-put-cut-requires-7
 put-cut-requires-7 c κs = search needs
 
--- src/lib.rt:100:20
 add-put-cut-8 : tie.Need-add-put-cut-8
 add-put-cut-8 c = omega (arith, c .before .before .before .before .before .before .before .before .before .before .before .before .before .before .before .before .before .before .before .before .before .before .before .before .before .before .before .before .before .before .before .before .before .before .before .before .before .before .before .before .before .before .before .before .before .before .before .before .if1 .left, c .before .before .before .before .before .before .before .before .before .before .before .before .before .before .before .before .before .before .before .before .before .before .before .before .before .before .before .before .before .before .before .before .before .before .before .before .before .before .before .before .before .before .before .before .before .before .before .before .before .before .before .before .good)
 
--- src/lib.rt:100:5
 put-cut-requires-8 : tie.Need-put-cut-requires-8
 put-cut-requires-8 c κs = search needs
 
--- src/lib.rt:101:22
 add-put-bytes : tie.Need-add-put-bytes
 add-put-bytes c = omega (arith, c .before .before .before .before .before .before .before .before .before .before .before .before .before .before .before .before .before .before .before .before .before .before .before .before .before .before .before .before .before .before .before .before .before .before .before .before .before .before .before .before .before .before .before .before .before .before .before .before .before .before .before .before .if1 .left, c .before .before .before .before .before .before .before .before .before .before .before .before .before .before .before .before .before .before .before .before .before .before .before .before .before .before .before .before .before .before .before .before .before .before .before .before .before .before .before .before .before .before .before .before .before .before .before .before .before .before .before .before .before .before .before .before .good)
 
--- src/lib.rt:101:5
 put-bytes-requires : tie.Need-put-bytes-requires
 put-bytes-requires c κs = search needs
 
--- src/lib.rt:73:1
 same-length : tie.Need-same-length
 same-length c = omega (arith, c .before .before .before .before .before .before .before .before .before .before .before .before .before .before .before .before .before .before .before .before .before .before .before .before .before .before .before .before .before .before .before .before .before .before .before .before .before .before .before .before .before .before .put-cut .kept .0, c .before .before .before .before .before .before .before .before .before .before .before .before .before .before .before .before .before .before .before .before .before .before .before .before .before .before .before .before .before .before .before .before .before .before .before .before .before .before .put-cut2 .kept .0, c .before .before .before .before .before .before .before .before .before .before .before .before .before .before .before .before .before .before .before .before .before .before .before .before .before .before .before .before .before .before .before .before .before .before .put-cut3 .kept .0, c .before .before .before .before .before .before .before .before .before .before .before .before .before .before .before .before .before .before .before .before .before .before .before .before .before .before .before .before .before .before .put-cut4 .kept .0, c .before .before .before .before .before .before .before .before .before .before .before .before .before .before .before .before .before .before .before .before .before .before .before .before .before .before .put-cut5 .kept .0, c .before .before .before .before .before .before .before .before .before .before .before .before .before .before .before .before .before .before .before .before .before .before .put-cut6 .kept .0, c .before .before .before .before .before .before .before .before .before .before .before .before .before .before .before .before .before .before .put-limit .kept .0, c .before .before .before .before .before .before .before .before .before .before .before .before .before .before .put-limit2 .kept .0, c .before .before .before .before .before .before .before .before .before .before .put-cut7 .kept .0, c .before .before .before .before .before .before .put-cut8 .kept .0, c .before .before .put-bytes .kept .0)
 
--- src/lib.rt:73:1
 returns-2 : tie.Need-returns-2
 returns-2 c = record-is (c .before .before .before .before .before .before .before .before .before .before .before .before .before .before .before .before .before .before .before .before .before .before .before .before .before .before .before .before .before .before .before .before .before .before .before .before .before .before .before .before .before .before .before .before .before .before .before .before .before .before .before .before .before .before .before .before .before .before .before .args .text .now) (c .before .before .before .before .before .before .before .before .before .before .before .before .before .before .before .before .before .before .before .before .before .before .before .before .before .before .before .before .before .before .before .before .before .before .before .before .before .before .before .before .before .before .before .before .before .before .before .before .before .before .before .before .before .before .before .before .before .before .before .args .cells .now) (c .before .before .before .before .before .before .before .before .before .before .before .before .before .before .before .before .before .before .before .before .before .before .before .before .before .before .before .before .before .before .before .before .before .before .before .before .before .before .before .before .before .before .before .before .before .before .before .before .before .before .before .before .before .before .before .before .before .before .before .args .n) (c .before .before .before .before .before .before .before .before .before .before .before .before .before .before .before .before .before .before .before .before .before .before .before .before .before .before .before .before .before .before .before .before .before .before .before .before .before .before .before .before .before .before .before .before .before .before .before .before .before .before .before .before .before .before .before .before .before .before .before .args .i) (c .before .before .before .before .before .before .before .before .before .before .before .before .before .before .before .before .before .before .before .before .before .before .before .before .before .before .before .before .before .before .before .before .before .before .before .before .before .before .before .before .before .before .before .before .before .before .before .before .before .before .before .before .before .before .before .before .before .before .before .args .at) _ _ _ _ _ _ _ _ _ _ _ _ _ _ _ _ _ _ _ _ _ _ _ (c .before .before .before .before .before .before .before .before .before .before .before .before .before .before .before .before .before .before .before .before .before .before .before .before .before .before .before .before .before .before .before .before .before .before .before .before .before .before .before .before .before .before .before .before .before .before .before .before .before .before .before .before .before .before .label .ensures) (c .before .before .before .before .before .before .before .before .before .before .before .before .before .before .before .before .before .before .before .before .before .before .before .before .before .before .before .before .before .before .before .before .before .before .before .before .before .before .before .before .before .before .before .before .before .before .before .before .before .before .before .before .before .kind .ensures) (c .before .before .before .before .before .before .before .before .before .before .before .before .before .before .before .before .before .before .before .before .before .before .before .before .before .before .before .before .before .before .before .before .before .before .before .before .before .before .before .before .before .before .before .before .before .before .before .before .before .before .before .before .cell .ensures) (c .before .before .before .before .before .before .before .before .before .before .before .before .before .before .before .before .before .before .before .before .before .before .before .before .before .before .before .before .before .before .before .before .before .before .before .before .before .before .before .before .before .before .before .before .before .before .before .before .before .before .before .flags .ensures) (c .before .before .before .before .before .before .before .before .before .before .before .before .before .before .before .before .before .before .before .before .before .before .before .before .before .before .before .before .before .before .before .before .before .before .before .before .before .before .before .before .before .before .before .before .before .before .before .before .before .before .counts .ensures) (c .before .before .before .before .before .before .before .before .before .before .before .before .before .before .before .before .before .before .before .before .before .before .before .before .before .before .before .before .before .before .before .before .before .before .before .before .before .before .before .before .before .before .before .before .before .before .before .limits .ensures) (c .before .before .before .before .before .before .before .before .before .before .before .before .before .before .before .before .before .before .before .before .before .before .before .before .before .before .before .before .before .before .before .before .before .before .before .before .before .before .before .before .before .before .before .before .target .ensures) (c .before .before .before .before .before .before .before .before .before .before .before .before .before .before .before .before .before .before .before .before .before .before .before .before .before .before .before .before .before .before .before .before .before .before .before .before .before .before .before .before .before .before .before .before .before .before .before .before .before .low .ensures) (c .before .before .before .before .before .before .before .before .before .before .before .before .before .before .before .before .before .before .before .before .before .before .before .before .before .before .before .before .before .before .before .before .before .before .before .before .before .before .before .before .before .before .before .before .before .before .before .before .high .ensures) (c .before .before .before .before .before .before .before .before .before .before .before .before .before .before .before .before .before .before .before .before .before .before .before .before .before .before .before .before .before .before .before .before .before .before .before .before .before .before .before .before .before .before .before .before .before .before .low2 .ensures) (c .before .before .before .before .before .before .before .before .before .before .before .before .before .before .before .before .before .before .before .before .before .before .before .before .before .before .before .before .before .before .before .before .before .before .before .before .before .before .before .before .before .before .before .before .before .high2 .ensures) (c .before .before .before .before .before .before .before .before .before .before .before .before .before .before .before .before .before .before .before .before .before .before .before .before .before .before .before .before .before .before .before .before .before .before .before .before .before .before .before .before .before .before .put-cut .ensures) (c .before .before .before .before .before .before .before .before .before .before .before .before .before .before .before .before .before .before .before .before .before .before .before .before .before .before .before .before .before .before .before .before .before .before .before .before .before .before .put-cut2 .ensures) (c .before .before .before .before .before .before .before .before .before .before .before .before .before .before .before .before .before .before .before .before .before .before .before .before .before .before .before .before .before .before .before .before .before .before .put-cut3 .ensures) (c .before .before .before .before .before .before .before .before .before .before .before .before .before .before .before .before .before .before .before .before .before .before .before .before .before .before .before .before .before .before .put-cut4 .ensures) (c .before .before .before .before .before .before .before .before .before .before .before .before .before .before .before .before .before .before .before .before .before .before .before .before .before .before .put-cut5 .ensures) (c .before .before .before .before .before .before .before .before .before .before .before .before .before .before .before .before .before .before .before .before .before .before .put-cut6 .ensures) (c .before .before .before .before .before .before .before .before .before .before .before .before .before .before .before .before .before .before .put-limit .ensures) (c .before .before .before .before .before .before .before .before .before .before .before .before .before .before .put-limit2 .ensures) (c .before .before .before .before .before .before .before .before .before .before .put-cut7 .ensures) (c .before .before .before .before .before .before .put-cut8 .ensures) (c .before .before .put-bytes .ensures)
 

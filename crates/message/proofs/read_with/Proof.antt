@@ -4,44 +4,31 @@ use Rattle.message.proofs.Top.{bad-table, good-table}
 use borrow.Author.Needs.{needs}
 use Rattle.message.proofs.read_with.Statement.{statement}
 use Rattle.message.proofs.read_with.Tie as tie
-use Rattle.message.proofs.read_with.Reads as reads
-use Rattle.message.proofs.read_with.Lts as lts
-use Rattle.message.proofs.read_records.Reads as read-records-reads
-use Rattle.table.proofs.checked.Reads as checked-reads
 
--- src/lib.rt:145:11
 checked-requires : tie.Need-checked-requires
 checked-requires c κs = search needs
 
--- src/lib.rt:146:21
 enum-known-n : tie.Need-enum-known-n
 enum-known-n c = search needs
 
--- src/lib.rt:146:27
 read-records-requires : tie.Need-read-records-requires
 read-records-requires c κs = ((checked-fine (c .before .before .before .before .before .before .before .before .before .before .before .before .before .args .table .now) _ (c .before .before .before .before .before .before .before .checked .result) _ (c .before .before .before .before .before .before .before .checked .ensures) (c .before .before .before .n .given .1)) .counted .few, (checked-fine (c .before .before .before .before .before .before .before .before .before .before .before .before .before .args .table .now) _ (c .before .before .before .before .before .before .before .checked .result) _ (c .before .before .before .before .before .before .before .checked .ensures) (c .before .before .before .n .given .1)) .linked)
 
--- src/lib.rt:147:22
 enum-told : tie.Need-enum-told
 enum-told c = search needs
 
--- src/lib.rt:140:1
 same-length : tie.Need-same-length
 same-length c = search needs
 
--- src/lib.rt:140:1
 same-length-2 : tie.Need-same-length-2
 same-length-2 c = search needs
 
--- src/lib.rt:140:1
 returns : tie.Need-returns
 returns c = good-table (c .before .before .before .before .before .before .before .before .before .before .before .before .before .before .before .before .args .table .now) (c .before .before .before .before .before .before .before .before .before .before .before .before .before .before .before .before .args .message .now) (c .before .before .before .before .before .before .before .before .before .before .before .before .before .before .before .before .args .rows .now) _ _ _ _ (sym ((checked-fine (c .before .before .before .before .before .before .before .before .before .before .before .before .before .before .before .before .args .table .now) _ (c .before .before .before .before .before .before .before .before .before .before .checked .result) _ (c .before .before .before .before .before .before .before .before .before .before .checked .ensures) (c .before .before .before .before .before .before .n .given .1)) .kept)) ((checked-fine (c .before .before .before .before .before .before .before .before .before .before .before .before .before .before .before .before .args .table .now) _ (c .before .before .before .before .before .before .before .before .before .before .checked .result) _ (c .before .before .before .before .before .before .before .before .before .before .checked .ensures) (c .before .before .before .before .before .before .n .given .1)) .counted) (c .before .before .read-records .ensures .0) (c .before .before .read-records .ensures .1)
 
--- src/lib.rt:140:1
 same-length-3 : tie.Need-same-length-3
 same-length-3 c = search needs
 
--- src/lib.rt:140:1
 returns-2 : tie.Need-returns-2
 returns-2 c = bad-table (c .before .before .before .before .before .before .before .before .before .before .args .table .now) (c .before .before .before .before .before .before .before .before .before .before .args .message .now) (c .before .before .before .before .before .before .before .before .before .before .args .rows .now) (sym (checked-bad (c .before .before .before .before .before .before .before .before .before .before .args .table .now) _ (c .before .before .before .before .checked .result) (c .before .before .before .before .checked .ensures) (c .enum-told .given .1)))
 

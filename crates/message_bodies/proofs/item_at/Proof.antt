@@ -2,7 +2,8 @@ use mathlib.Core.Path.{_≡_, sym, _∙_, refl, ap}
 use native.Mathlib.Omega.{arith}
 use denote.Ref.{now}
 use Rattle.message_lookup.proofs.Marked.{complete-marks}
-use Rattle.message_values.proofs.Parts.{found-at, found-none, step-of-word}
+use Rattle.message_frame.proofs.AtToken.{step-of-word}
+use Rattle.message_lookup.proofs.Search.{found-at, found-none}
 use Rattle.message_bodies.proofs.Parts.{unknown-ends, known-ends, items-done, items-stopped}
 use borrow.Author.Needs.{needs}
 use Rattle.message_bodies.proofs.item_at.Statement.{statement}

@@ -1,7 +1,7 @@
 use mathlib.Core.Path.{_≡_, sym, _∙_, refl, ap}
 use native.Mathlib.Omega.{arith}
 use denote.Ref.{now}
-use Rattle.message_values.proofs.Parts.{step-of-equals}
+use Rattle.message_frame.proofs.AtToken.{step-of-equals}
 use Rattle.message_bodies.proofs.Parts.{known-again, known-bare}
 use borrow.Author.Needs.{needs}
 use Rattle.message_bodies.proofs.known_item.Statement.{statement}

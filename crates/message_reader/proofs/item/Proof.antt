@@ -2,7 +2,7 @@ use mathlib.Core.Path.{refl}
 use mathlib.Core.List.{[]}
 use native.Mathlib.Omega.{arith}
 use Rattle.message_lookup.proofs.Marked.{marks-more}
-use Rattle.message_values.specs.declared.Got.the-variants.{Done, Refused}
+use Rattle.message_frame.specs.declared.Got.the-variants.{Done, Refused}
 use Rattle.message_reader.proofs.Steps.{items-none, item-void, item-passed, bodying-out, bodying-item, due-item, untagged-end}
 use borrow.Author.Needs.{needs}
 use Rattle.message_reader.proofs.item.Statement.{statement}

@@ -1,7 +1,8 @@
 use mathlib.Core.Path.{_≡_, sym, _∙_, refl, ap}
 use native.Mathlib.Omega.{arith}
 use denote.Ref.{now}
-use Rattle.message_values.proofs.Parts.{step-of-opening, struct-stopped}
+use Rattle.message_frame.proofs.AtToken.{step-of-opening}
+use Rattle.message_values.proofs.Parts.{struct-stopped}
 use borrow.Author.Needs.{needs}
 use Rattle.message_values.proofs.open_brace.Statement.{statement}
 use Rattle.message_values.proofs.open_brace.Tie as tie

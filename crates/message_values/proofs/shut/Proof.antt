@@ -1,7 +1,8 @@
 use mathlib.Core.Path.{_≡_, sym, _∙_, refl, ap}
 use native.Mathlib.Omega.{arith}
 use denote.Ref.{now}
-use Rattle.message_values.proofs.Parts.{step-of-closing, shut-stopped}
+use Rattle.message_frame.proofs.AtToken.{step-of-closing}
+use Rattle.message_values.proofs.Parts.{shut-stopped}
 use borrow.Author.Needs.{needs}
 use Rattle.message_values.proofs.shut.Statement.{statement}
 use Rattle.message_values.proofs.shut.Tie as tie

@@ -1,7 +1,8 @@
 use mathlib.Core.Path.{_≡_, sym, _∙_, refl, ap}
 use native.Mathlib.Omega.{arith}
 use denote.Ref.{now}
-use Rattle.message_values.proofs.Parts.{step-of-word, step-of-string, leaf-ends, word-judged, string-judged, simple-stopped}
+use Rattle.message_frame.proofs.AtToken.{step-of-word, step-of-string}
+use Rattle.message_values.proofs.Parts.{leaf-ends, word-judged, string-judged, simple-stopped}
 use borrow.Author.Needs.{needs}
 use Rattle.message_values.proofs.simple.Statement.{statement}
 use Rattle.message_values.proofs.simple.Tie as tie

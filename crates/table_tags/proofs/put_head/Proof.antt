@@ -3,26 +3,19 @@ use lib.Seq.{set-out}
 use borrow.Author.Needs.{needs}
 use Rattle.table_tags.proofs.put_head.Statement.{statement}
 use Rattle.table_tags.proofs.put_head.Tie as tie
-use Rattle.table_tags.proofs.put_head.Reads as reads
-use Rattle.table_tags.proofs.put_head.Lts as lts
 
--- src/lib.rt:62:9
 mul-unpacked : tie.Need-mul-unpacked
 mul-unpacked c = search needs
 
--- src/lib.rt:62:9
 slice-write-unpacked : tie.Need-slice-write-unpacked
 slice-write-unpacked c = search needs
 
--- src/lib.rt:58:1
 same-length : tie.Need-same-length
 same-length c = search needs
 
--- src/lib.rt:58:1
 returns : tie.Need-returns
 returns c = search needs
 
--- src/lib.rt:58:1
 returns-2 : tie.Need-returns-2
 returns-2 c = sym (set-out _ _ _ (c .if1 .left))
 

@@ -6,11 +6,10 @@ use lib.ListN.{length, drop}
 use lib.Seq.{sets}
 use Rattle.numbers.specs.Limits.{rowWidth}
 use Rattle.reading_rules.specs.Token.{Token}
-use Rattle.reading_rules.specs.Reading.{TreeSort, value, Tree}
+use Rattle.reading_rules.specs.Reading.{TreeSort, value, Tree, width}
 use Rattle.message_rules.specs.Scan.{Lexeme as Lex}
 use Rattle.reading_rules.specs.Parse.{Result, refused, got}
 use Rattle.message_rules.specs.Rows.{Row, lexemeAt, rowsOf, cells}
-use Rattle.reading_rules.specs.Reading.{width}
 use Rattle.message_rows.specs.Filled.{ended}
 
 -- the whole tree around t, which is read from y on, with n tokens and the rows acc in front

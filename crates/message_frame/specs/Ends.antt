@@ -5,17 +5,24 @@ use Prim.Native.Nat.{ℕ, _+_, _-_, _*_, _≤_, _<_}
 use lib.ListN.{length, drop}
 use lib.Seq.{sets}
 use Rattle.numbers.specs.Limits.{messageLimit, parameterLimit, rowWidth}
-use Rattle.reading_rules.specs.Reading.{TreeSort, value, Tree}
-use Rattle.message_rules.specs.Scan.{tokensOf}
-use Rattle.message_rules.specs.Scan.{Lexeme as Lex}
+use Rattle.reading_rules.specs.Token.{Token}
+use Rattle.reading_rules.specs.Reading.{TreeSort, value, Tree, width}
+use Rattle.message_rules.specs.Scan.{tokensOf, Lexeme as Lex}
 use Rattle.reading_rules.specs.Parse.{Result, got}
-use Rattle.reading_rules.specs.Reading.{width}
 use Rattle.message_rules.specs.Rows.{rowCount, lexemeAt, rowsOf, cells}
 use Rattle.message_tokens.specs.Cursor.{lexemesAt}
 use Rattle.message_unknown.specs.Along.{Stopped}
-use Rattle.message_values.specs.declared.Frame.{Frame}
-use Rattle.message_values.specs.declared.Got.{Got}
-use Rattle.message_values.specs.declared.Got.the-variants.{Done, Refused}
+use Rattle.message_frame.specs.declared.Frame.{Frame}
+use Rattle.message_frame.specs.declared.Got.{Got}
+use Rattle.message_frame.specs.declared.Got.the-variants.{Done, Refused}
+
+-- readers of the values of a parameter
+abbrev pub Values : Type 0
+Values = ℕ → List Token → Result (Tree value)
+
+-- the place where s ends
+abbrev pub endOf : List ℕ → Frame → ℕ
+endOf s f = f .base + length s
 
 -- what a reader asks: s, of len bytes, is the end of a short message; no more than two rows were made for each byte before
 pub record Room (f : Frame) (len n : ℕ) : Type 0 where

@@ -7,20 +7,18 @@ use lib.ListN.{length, drop, length-append}
 use lib.Seq.{sets, drop-drop}
 use Rattle.numbers.specs.Limits.{rowWidth}
 use Rattle.reading_rules.specs.Token.{Token}
-use Rattle.reading_rules.specs.Reading.{TreeSort, value, Tree, chosen}
-use Rattle.message_rules.specs.Scan.{tokensOf}
-use Rattle.message_rules.specs.Scan.{Lexeme as Lex}
+use Rattle.reading_rules.specs.Reading.{TreeSort, value, Tree, chosen, width}
+use Rattle.message_rules.specs.Scan.{tokensOf, Lexeme as Lex}
 use Rattle.reading_rules.specs.Parse.{Result, refused, got, then}
 use Rattle.message_rules.specs.Rows.{Row, rowCount, lexemeAt, rowOver, rowsOf, cells}
-use Rattle.reading_rules.specs.Reading.{width}
 use Rattle.message_rules.proofs.RowLaws.{rows-counted}
 use Rattle.message_unknown.specs.Along.{Tail, here, Stopped}
 use Rattle.message_unknown.proofs.AlongLaws.{tail-trans, drop-tail}
 use Rattle.message_rows.specs.Filled.{withEnds, ended}
 use Rattle.message_rows.proofs.Stores.{rows-append, ended-append, ended-length, rows-ended}
 use Rattle.message_rows.proofs.Trees.{rows-at, place-at}
-use Rattle.message_values.specs.Ends.{Read}
-use Rattle.message_values.specs.Going.{Going, Chain}
+use Rattle.message_frame.specs.Ends.{Read}
+use Rattle.message_frame.specs.Going.{Going, Chain}
 
 -- refused: with the same answer from further left
 pub stopped-before : {A B : Type 0} {o : Result A} {o′ : Result B} (x y : List Lex) {end n q : ℕ} → Tail y x → ((m : ℕ) (z : List Token) → o′ ≡ refused m z → o ≡ refused m z) → Stopped o′ y end n q → Stopped o x end n q

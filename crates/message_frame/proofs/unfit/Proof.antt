@@ -1,10 +1,10 @@
 use mathlib.Core.Path.{_≡_, sym, _∙_, refl, ap}
 use native.Mathlib.Omega.{arith}
 use denote.Ref.{now}
-use Rattle.message_values.specs.Values.{unfitOf}
-use Rattle.message_values.proofs.Parts.{unfit-none}
-use Rattle.message_values.proofs.unfit.Statement.{statement}
-use Rattle.message_values.proofs.unfit.Tie as tie
+use Rattle.message_frame.specs.AtToken.{unfitOf}
+use Rattle.message_frame.proofs.AtToken.{unfit-none}
+use Rattle.message_frame.proofs.unfit.Statement.{statement}
+use Rattle.message_frame.proofs.unfit.Tie as tie
 
 returns : tie.Need-returns
 unfolding unfitOf

@@ -1,0 +1,3 @@
+-- Laws that other crates' proofs may cite.
+pub mod GoingLaws
+pub mod AtToken
