@@ -4,9 +4,9 @@ ghost use Prim.Native.Nat.{_+_, _≤_};
 ghost use lib.ListN.{length};
 ghost use Rattle.numbers.specs.Limits.{messageLimit};
 ghost use Rattle.message_choices.specs.Choices.{ChoiceAt, ChosenAt, bareAt};
-use message_lookup::Found;
 use message_tokens::Cursor;
 use message_values::Frame;
+use table_tags::Found;
 
 // A step down a chain of choices, with the alternative and its word's start: its value is due past the cursor, or it is whole.
 pub enum Choice {

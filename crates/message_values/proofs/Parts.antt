@@ -19,14 +19,14 @@ use Rattle.message_tokens.specs.Head.{tokenOf, tokenKind, HeadAt}
 use Rattle.message_tokens.specs.declared.Head.{Head}
 use Rattle.message_tokens.proofs.Heads.{head-step, head-kind, head-not, step-lex, step-tokens, step-left, step-place, step-within}
 use Rattle.message_unknown.specs.Along.{here, tokensAt, Stopped}
-use Rattle.message_lookup.specs.Questions.{foundOf}
-use Rattle.message_lookup.specs.declared.Found.{Found}
-use Rattle.message_lookup.specs.declared.Found.the-variants.{Nowhere, At}
+use Rattle.table_tags.specs.declared.Found.{Found}
+use Rattle.table_tags.specs.declared.Found.the-variants.{Nowhere, At}
 use Rattle.message_values.specs.Ends.{EndedValue, EndsValue}
 use Rattle.message_values.specs.Values.{Values, unfitOf, endOf, Leaf, Misfit, LeafAt}
 use Rattle.message_values.specs.declared.Frame.{Frame}
 use Rattle.message_values.specs.declared.Got.{Got}
 use Rattle.message_values.specs.declared.Got.the-variants.{Done, Refused}
+use Rattle.table_tags.specs.Lists.{foundOf}
 
 -- refused where the head stands
 pub stop-here : {A : Type 0} (o : Result A) (base : ℕ) (s : List ℕ) (i : ℕ) (h : Head) (n : ℕ) → HeadAt base s i h → o ≡ refused n (tokensAt base s i) → Stopped o (lexemesAt base s i) (base + length s) n (base + h .start)

@@ -3,41 +3,30 @@ use Rattle.definition_cells.specs.Places.{lesser}
 use borrow.Author.Needs.{needs}
 use Rattle.definition_cells.proofs.lesser.Statement.{statement}
 use Rattle.definition_cells.proofs.lesser.Tie as tie
-use Rattle.definition_cells.proofs.lesser.Reads as reads
-use Rattle.definition_cells.proofs.lesser.Lts as lts
-use Rattle.definition_cells.proofs.lesser_of_two.Reads as lesser-of-two-reads
 
--- src/lib.rt:80:27
 enum-told : tie.Need-enum-told
 enum-told c = search needs
 
--- src/lib.rt:81:19
 enum-known-a : tie.Need-enum-known-a
 enum-known-a c = search needs
 
--- src/lib.rt:82:31
 enum-told-2 : tie.Need-enum-told-2
 enum-told-2 c = search needs
 
--- src/lib.rt:83:23
 enum-known-b : tie.Need-enum-known-b
 enum-known-b c = search needs
 
--- src/lib.rt:83:29
 lesser-of-two-requires : tie.Need-lesser-of-two-requires
 lesser-of-two-requires c κs = search needs
 
--- src/lib.rt:76:1
 returns : tie.Need-returns
 unfolding lesser
 returns c = rw (c .enum-told .given .1)
 
--- src/lib.rt:76:1
 returns-2 : tie.Need-returns-2
 unfolding lesser
 returns-2 c = rw (c .before .before .before .a .given .1, c .enum-told2 .given .1)
 
--- src/lib.rt:76:1
 returns-3 : tie.Need-returns-3
 returns-3 c = c .lesser-of-two .ensures ∙ sym (rw (c .before .before .before .before .before .a .given .1, c .before .before .b .given .1))
 

@@ -6,8 +6,6 @@ use Rattle.definition_checks.proofs.within_kind.Tie as tie
 use Rattle.definition_checks.proofs.within_kind.Reads as reads
 use Rattle.definition_checks.proofs.within_kind.Lts as lts
 use Rattle.definition_checks.proofs.within.Reads as within-reads
-use Rattle.definition_headings.proofs.kind_least.Reads as kind-least-reads
-use Rattle.definition_headings.proofs.kind_most.Reads as kind-most-reads
 
 -- src/lib.rt:72:36
 enum-told : tie.Need-enum-told

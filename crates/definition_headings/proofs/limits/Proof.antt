@@ -7,8 +7,6 @@ use Rattle.definition_headings.proofs.limits.Lts as lts
 use Rattle.definition_cells.proofs.cell.Reads as cell-reads
 use Rattle.definition_cells.proofs.run.Reads as run-reads
 use Rattle.definition_headings.proofs.kind.Reads as kind-reads
-use Rattle.definition_headings.proofs.kind_least.Reads as kind-least-reads
-use Rattle.definition_headings.proofs.kind_most.Reads as kind-most-reads
 use Rattle.numbers.proofs.read_int_range.Reads as read-int-range-reads
 
 -- src/lib.rt:48:8

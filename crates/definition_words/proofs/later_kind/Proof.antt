@@ -3,63 +3,47 @@ use Rattle.definition_rules.specs.Words.{numberIn, numberIf}
 use borrow.Author.Needs.{needs}
 use Rattle.definition_words.proofs.later_kind.Statement.{statement}
 use Rattle.definition_words.proofs.later_kind.Tie as tie
-use Rattle.definition_words.proofs.later_kind.Reads as reads
-use Rattle.definition_words.proofs.later_kind.Lts as lts
-use Rattle.classes.proofs.same_bytes.Reads as same-bytes-reads
 
--- src/lib.rt:12:28
 slice-aggregate-same-bytes : tie.Need-slice-aggregate-same-bytes
 slice-aggregate-same-bytes c = search needs
 
--- src/lib.rt:12:8
 same-bytes-requires : tie.Need-same-bytes-requires
 same-bytes-requires c κs = search needs
 
--- src/lib.rt:13:9
 returns : tie.Need-returns
 unfolding numberIn numberIf
 returns c = rw (sym (c .before .same-bytes .ensures) ∙ c .if1 .taken)
 
--- src/lib.rt:15:28
 slice-aggregate-same-bytes-2 : tie.Need-slice-aggregate-same-bytes-2
 slice-aggregate-same-bytes-2 c = search needs
 
--- src/lib.rt:15:8
 same-bytes-requires-2 : tie.Need-same-bytes-requires-2
 same-bytes-requires-2 c κs = search needs
 
--- src/lib.rt:16:9
 returns-2 : tie.Need-returns-2
 unfolding numberIn numberIf
 returns-2 c = rw (sym (c .before .before .before .before .same-bytes .ensures) ∙ c .before .before .before .if1 .left, sym (c .before .same-bytes2 .ensures) ∙ c .if2 .taken)
 
--- src/lib.rt:18:28
 slice-aggregate-same-bytes-3 : tie.Need-slice-aggregate-same-bytes-3
 slice-aggregate-same-bytes-3 c = search needs
 
--- src/lib.rt:18:8
 same-bytes-requires-3 : tie.Need-same-bytes-requires-3
 same-bytes-requires-3 c κs = search needs
 
--- src/lib.rt:19:9
 returns-3 : tie.Need-returns-3
 unfolding numberIn numberIf
 returns-3 c = rw (sym (c .before .before .before .before .before .before .before .same-bytes .ensures) ∙ c .before .before .before .before .before .before .if1 .left, sym (c .before .before .before .before .same-bytes2 .ensures) ∙ c .before .before .before .if2 .left, sym (c .before .same-bytes3 .ensures) ∙ c .if3 .taken)
 
--- src/lib.rt:21:28
 slice-aggregate-same-bytes-4 : tie.Need-slice-aggregate-same-bytes-4
 slice-aggregate-same-bytes-4 c = search needs
 
--- src/lib.rt:21:8
 same-bytes-requires-4 : tie.Need-same-bytes-requires-4
 same-bytes-requires-4 c κs = search needs
 
--- src/lib.rt:22:9
 returns-4 : tie.Need-returns-4
 unfolding numberIn numberIf
 returns-4 c = rw (sym (c .before .before .before .before .before .before .before .before .before .before .same-bytes .ensures) ∙ c .before .before .before .before .before .before .before .before .before .if1 .left, sym (c .before .before .before .before .before .before .before .same-bytes2 .ensures) ∙ c .before .before .before .before .before .before .if2 .left, sym (c .before .before .before .before .same-bytes3 .ensures) ∙ c .before .before .before .if3 .left, sym (c .before .same-bytes4 .ensures) ∙ c .if4 .taken)
 
--- src/lib.rt:9:1
 returns-5 : tie.Need-returns-5
 unfolding numberIn numberIf
 returns-5 c = rw (sym (c .before .before .before .before .before .before .before .before .before .before .same-bytes .ensures) ∙ c .before .before .before .before .before .before .before .before .before .if1 .left, sym (c .before .before .before .before .before .before .before .same-bytes2 .ensures) ∙ c .before .before .before .before .before .before .if2 .left, sym (c .before .before .before .before .same-bytes3 .ensures) ∙ c .before .before .before .if3 .left, sym (c .before .same-bytes4 .ensures) ∙ c .if4 .left)

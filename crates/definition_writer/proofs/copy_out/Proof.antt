@@ -4,7 +4,6 @@ use Rattle.definition_writer.proofs.copy_out.Statement.{statement}
 use Rattle.definition_writer.proofs.copy_out.Tie as tie
 use Rattle.definition_writer.proofs.copy_out.Reads as reads
 use Rattle.definition_writer.proofs.copy_out.Lts as lts
-use Rattle.definition_cells.proofs.part.Reads as part-reads
 use Rattle.definition_writer.proofs.put_bytes.Reads as put-bytes-reads
 
 -- src/lib.rt:136:25

@@ -26,7 +26,7 @@ wide-requires : tie.Need-wide-requires
 wide-requires c κs = search needs
 
 returns-2 : tie.Need-returns-2
-returns-2 c = part-some _ _ _ _ (c .before .before .before .row-bytes .ensures) (c .before .before .if1 .left) _ (c .wide .ensures)
+returns-2 c = part-some _ _ _ _ (c .before .before .before .row-bytes .ensures) (c .before .before .if1 .left) _ (c .wide .ensures .0)
 
 pub lumas-row-spec : {M : Type 1} → statement M
 lumas-row-spec =

@@ -7,7 +7,6 @@ use Rattle.message.proofs.row_bytes.Statement.{statement}
 use Rattle.message.proofs.row_bytes.Tie as tie
 use Rattle.message.proofs.row_bytes.Reads as reads
 use Rattle.message.proofs.row_bytes.Lts as lts
-use Rattle.message.proofs.wide.Reads as wide-reads
 
 -- src/lib.rt:40:16
 sub-result : tie.Need-sub-result
@@ -79,7 +78,7 @@ part-result-end-2 c = search needs
 
 -- src/lib.rt:45:9
 returns-2 : tie.Need-returns-2
-returns-2 c = bytes-back _ _ _ (c .before .before .before .before .before .before .if1 .left) (rw (c .before .before .wide2 .ensures, c .before .before .before .before .wide .ensures) at (c .before .if2 .taken))
+returns-2 c = bytes-back _ _ _ (c .before .before .before .before .before .before .if1 .left) (rw (c .before .before .wide2 .ensures .0, c .before .before .before .before .wide .ensures .0) at (c .before .if2 .taken))
 
 -- src/lib.rt:48:16
 sub-result-3 : tie.Need-sub-result-3
@@ -95,7 +94,7 @@ part-result-end-3 c = search needs
 
 -- src/lib.rt:48:9
 returns-3 : tie.Need-returns-3
-returns-3 c = bytes-over _ _ _ (c .before .before .before .before .before .before .before .if1 .left) (rw (c .before .before .before .wide2 .ensures, c .before .before .before .before .before .wide .ensures) at (c .before .before .if2 .left)) (rw (c .before .before .before .wide2 .ensures) at (c .before .if3 .taken))
+returns-3 c = bytes-over _ _ _ (c .before .before .before .before .before .before .before .if1 .left) (rw (c .before .before .before .wide2 .ensures .0, c .before .before .before .before .before .wide .ensures .0) at (c .before .before .if2 .left)) (rw (c .before .before .before .wide2 .ensures .0) at (c .before .if3 .taken))
 
 -- src/lib.rt:50:5
 part-result-start-4 : tie.Need-part-result-start-4
@@ -107,7 +106,7 @@ part-result-end-4 c = search needs
 
 -- src/lib.rt:36:1
 returns-4 : tie.Need-returns-4
-returns-4 c = rw (c .before .before .before .before .before .wide .ensures, c .before .before .before .wide2 .ensures) (bytes-there _ _ _ (c .before .before .before .before .before .before .before .if1 .left) (rw (c .before .before .before .wide2 .ensures, c .before .before .before .before .before .wide .ensures) at (c .before .before .if2 .left)) (rw (c .before .before .before .wide2 .ensures) at (c .before .if3 .left)))
+returns-4 c = rw (c .before .before .before .before .before .wide .ensures .0, c .before .before .before .wide2 .ensures .0) (bytes-there _ _ _ (c .before .before .before .before .before .before .before .if1 .left) (rw (c .before .before .before .wide2 .ensures .0, c .before .before .before .before .before .wide .ensures .0) at (c .before .before .if2 .left)) (rw (c .before .before .before .wide2 .ensures .0) at (c .before .if3 .left)))
 
 pub row-bytes-spec : {M : Type 1} → statement M
 row-bytes-spec =

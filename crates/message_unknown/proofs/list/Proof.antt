@@ -6,9 +6,6 @@ use native.Mathlib.Omega.{arith}
 use Rattle.message_unknown.proofs.Steps.{Listed, listed-start, listed-on, listed-out, list-go}
 use Rattle.message_unknown.proofs.list.Statement.{statement}
 use Rattle.message_unknown.proofs.list.Tie as tie
-use Rattle.message_unknown.proofs.list.Reads as reads
-use Rattle.message_unknown.proofs.list.Lts as lts
-use Rattle.message_unknown.proofs.list_turn.Reads as list-turn-reads
 
 abbrev Inv-loop : tie.InvT-loop
 Inv-loop s base u₀ u = Listed base s (u₀ .at) (u .at)
@@ -16,31 +13,24 @@ Inv-loop s base u₀ u = Listed base s (u₀ .at) (u .at)
 abbrev μ-loop : tie.MeasureT-loop
 μ-loop s base u₀ u = length s - u .at
 
--- src/lib.rt:148:5
 loop-holds : tie.Need-loop-holds Inv-loop μ-loop
 loop-holds c = listed-start _ _ _
 
--- src/lib.rt:149:15
 list-turn-requires : tie.Need-list-turn-requires Inv-loop μ-loop
 list-turn-requires c κs = search needs
 
--- src/lib.rt:150:22
 enum-known-v : tie.Need-enum-known-v Inv-loop μ-loop
 enum-known-v c = search needs
 
--- src/lib.rt:148:5
 loop-less : tie.Need-loop-less Inv-loop μ-loop
 loop-less c = omega (arith, list-go _ _ _ (c .before .before .before .list-turn .result) _ _ (c .before .before .before .list-turn .ensures) (c .before .v .given .1) .moved .less, list-go _ _ _ (c .before .before .before .list-turn .result) _ _ (c .before .before .before .list-turn .ensures) (c .before .v .given .1) .moved .within)
 
--- src/lib.rt:148:5
 loop-again : tie.Need-loop-again Inv-loop μ-loop
 loop-again c = listed-on _ _ _ _ _ (c .before .before .before .before .loop .inv) (list-go _ _ _ (c .before .before .before .list-turn .result) _ _ (c .before .before .before .list-turn .ensures) (c .before .v .given .1))
 
--- src/lib.rt:153:23
 enum-known-g : tie.Need-enum-known-g Inv-loop μ-loop
 enum-known-g c = search needs
 
--- src/lib.rt:154:17
 returns : tie.Need-returns Inv-loop μ-loop
 returns c = listed-out _ _ _ _ (c .before .before .before .list-turn .result) _ (c .before .before .before .before .loop .inv) (c .before .before .before .list-turn .ensures) (c .before .g .given .1)
 

@@ -7,9 +7,6 @@ use Rattle.message_unknown.specs.Passing.{unknownFrom}
 use Rattle.message_unknown.proofs.Steps.{Went, went-start, went-on, value-go, value-out}
 use Rattle.message_unknown.proofs.value.Statement.{statement}
 use Rattle.message_unknown.proofs.value.Tie as tie
-use Rattle.message_unknown.proofs.value.Reads as reads
-use Rattle.message_unknown.proofs.value.Lts as lts
-use Rattle.message_unknown.proofs.value_turn.Reads as value-turn-reads
 
 abbrev Inv-loop : tie.InvT-loop
 Inv-loop s base u₀ u = Went (unknownFrom base s (u₀ .at)) (unknownFrom base s (u .at)) base s (u₀ .at) (u .at)
@@ -17,31 +14,24 @@ Inv-loop s base u₀ u = Went (unknownFrom base s (u₀ .at)) (unknownFrom base 
 abbrev μ-loop : tie.MeasureT-loop
 μ-loop s base u₀ u = length s - u .at
 
--- src/lib.rt:112:5
 loop-holds : tie.Need-loop-holds Inv-loop μ-loop
 loop-holds c = went-start _ _ _ _
 
--- src/lib.rt:113:15
 value-turn-requires : tie.Need-value-turn-requires Inv-loop μ-loop
 value-turn-requires c κs = search needs
 
--- src/lib.rt:114:22
 enum-known-v : tie.Need-enum-known-v Inv-loop μ-loop
 enum-known-v c = search needs
 
--- src/lib.rt:112:5
 loop-less : tie.Need-loop-less Inv-loop μ-loop
 loop-less c = omega (arith, value-go _ _ _ (c .before .before .before .value-turn .result) _ _ (c .before .before .before .value-turn .ensures) (c .before .v .given .1) .moved .less, value-go _ _ _ (c .before .before .before .value-turn .result) _ _ (c .before .before .before .value-turn .ensures) (c .before .v .given .1) .moved .within)
 
--- src/lib.rt:112:5
 loop-again : tie.Need-loop-again Inv-loop μ-loop
 loop-again c = went-on (c .before .before .before .before .loop .inv) (value-go _ _ _ (c .before .before .before .value-turn .result) _ _ (c .before .before .before .value-turn .ensures) (c .before .v .given .1) .is) (value-go _ _ _ (c .before .before .before .value-turn .result) _ _ (c .before .before .before .value-turn .ensures) (c .before .v .given .1) .moved)
 
--- src/lib.rt:117:23
 enum-known-g : tie.Need-enum-known-g Inv-loop μ-loop
 enum-known-g c = search needs
 
--- src/lib.rt:118:17
 returns : tie.Need-returns Inv-loop μ-loop
 returns c = value-out _ _ _ (c .before .before .before .value-turn .result) _ _ _ (c .before .before .before .value-turn .ensures) (c .before .g .given .1) (c .before .before .before .before .loop .inv)
 

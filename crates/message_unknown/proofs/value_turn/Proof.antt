@@ -5,41 +5,28 @@ use Rattle.message_unknown.proofs.Steps.{value-word, value-string, valu
 use borrow.Author.Needs.{needs}
 use Rattle.message_unknown.proofs.value_turn.Statement.{statement}
 use Rattle.message_unknown.proofs.value_turn.Tie as tie
-use Rattle.message_unknown.proofs.value_turn.Reads as reads
-use Rattle.message_unknown.proofs.value_turn.Lts as lts
-use Rattle.message_tokens.proofs.Cursor.head.Reads as head-reads
-use Rattle.message_unknown.proofs.braces_at.Reads as braces-at-reads
-use Rattle.message_unknown.proofs.word_turn.Reads as word-turn-reads
 
--- src/lib.rt:91:9
 head-requires : tie.Need-head-requires
 head-requires c κs = search needs
 
--- src/lib.rt:94:9
 word-turn-requires : tie.Need-word-turn-requires
 word-turn-requires c κs = search needs
 
--- src/lib.rt:94:9
 returns : tie.Need-returns
 returns c = value-word _ _ _ (c .before .before .before .before .head .result) (c .before .before .before .before .head .ensures _) (c .word-turn .result) (c .before .if1 .taken) (c .word-turn .ensures _)
 
--- src/lib.rt:97:9
 returns-2 : tie.Need-returns-2
 returns-2 c = value-string _ _ _ (c .before .before .before .before .before .head .result) (c .before .before .before .before .before .head .ensures _) (c .if2 .taken)
 
--- src/lib.rt:100:13
 braces-at-requires : tie.Need-braces-at-requires
 braces-at-requires c κs = (c .before .before .before .before .before .before .before .before .before .pre, opening-within (c .before .before .before .before .before .before .before .before .before .args .base) (now (c .before .before .before .before .before .before .before .before .before .args .s)) (c .before .before .before .before .before .before .before .before .before .args .u .at) (c .before .before .before .before .before .before .before .head .result) (c .before .before .before .before .before .before .before .head .ensures (c .before .before .before .before .before .before .before .before .before .args .base)) (c .if3 .taken))
 
--- src/lib.rt:101:9
 returns-3 : tie.Need-returns-3
 returns-3 c = value-braces _ _ _ (c .before .before .before .before .before .before .before .before .head .result) (c .before .before .before .before .before .before .before .before .head .ensures _) (c .braces-at .result) (c .before .if3 .taken) (c .braces-at .ensures)
 
--- src/lib.rt:103:35
 add-t9 : tie.Need-add-t9
 add-t9 c = omega (arith, c .before .before .before .before .before .before .before .before .head .ensures 0 .within, c .before .before .before .before .before .before .before .before .before .before .pre)
 
--- src/lib.rt:87:1
 returns-4 : tie.Need-returns-4
 returns-4 c = value-none _ _ _ (c .before .before .before .before .before .before .before .before .head .result) (c .before .before .before .before .before .before .before .before .head .ensures _) (c .before .before .before .before .before .if1 .left) (c .before .before .before .if2 .left) (c .before .if3 .left)
 

@@ -4,19 +4,13 @@ use Rattle.message_unknown.proofs.Steps.{word-on, word-last}
 use borrow.Author.Needs.{needs}
 use Rattle.message_unknown.proofs.word_turn.Statement.{statement}
 use Rattle.message_unknown.proofs.word_turn.Tie as tie
-use Rattle.message_unknown.proofs.word_turn.Reads as reads
-use Rattle.message_unknown.proofs.word_turn.Lts as lts
-use Rattle.message_tokens.proofs.Cursor.head.Reads as head-reads
 
--- src/lib.rt:79:9
 head-requires : tie.Need-head-requires
 head-requires c κs = search needs
 
--- src/lib.rt:82:9
 returns : tie.Need-returns
 returns c = λ base. word-on base _ _ (c .before .before .before .head .result) (c .before .before .before .head .ensures base) (c .if1 .taken)
 
--- src/lib.rt:76:1
 returns-2 : tie.Need-returns-2
 returns-2 c = λ base. word-last base _ _ (c .before .before .before .head .result) (c .before .before .before .head .ensures base) (c .if1 .left)
 

@@ -7,8 +7,6 @@ use Rattle.table_tags.specs.Lists.{Cleared}
 use Rattle.table_tags.proofs.Linking.{cleared-none, cleared-more}
 use Rattle.table_tags.proofs.clear.Statement.{statement}
 use Rattle.table_tags.proofs.clear.Tie as tie
-use Rattle.table_tags.proofs.clear.Reads as reads
-use Rattle.table_tags.proofs.clear.Lts as lts
 
 abbrev Inv-loop : tie.InvT-loop
 Inv-loop unpacked₀ k₀ unpacked k = Cleared unpacked₀ k unpacked × ((k ≤ 64) × (64 ≤ length unpacked))
@@ -16,39 +14,30 @@ Inv-loop unpacked₀ k₀ unpacked k = Cleared unpacked₀ k unpacked × ((k ≤
 abbrev μ-loop : tie.MeasureT-loop
 μ-loop unpacked₀ k₀ unpacked k = 64 - k
 
--- src/lib.rt:71:9
 returns : tie.Need-returns Inv-loop μ-loop
 returns c = search needs
 
--- src/lib.rt:74:5
 loop-holds : tie.Need-loop-holds Inv-loop μ-loop
 loop-holds c = (cleared-none _, (omega arith, c .if1 .left))
 
--- src/lib.rt:75:9
 mul-unpacked : tie.Need-mul-unpacked Inv-loop μ-loop
 mul-unpacked c = search needs
 
--- src/lib.rt:75:9
 slice-write-unpacked : tie.Need-slice-write-unpacked Inv-loop μ-loop
 slice-write-unpacked c = search needs
 
--- src/lib.rt:76:9
 add-k : tie.Need-add-k Inv-loop μ-loop
 add-k c = search needs
 
--- src/lib.rt:74:5
 loop-less : tie.Need-loop-less Inv-loop μ-loop
 loop-less c = search needs
 
--- src/lib.rt:74:5
 loop-again : tie.Need-loop-again Inv-loop μ-loop
 loop-again c = (cleared-more _ _ _ (c .before .loop .inv .0) (omega (arith, c .before .loop .inv .1 .1)), (omega arith, rw length-set (c .before .loop .inv .1 .1)))
 
--- src/lib.rt:67:1
 same-length : tie.Need-same-length Inv-loop μ-loop
 same-length c = search needs
 
--- src/lib.rt:67:1
 returns-2 : tie.Need-returns-2 Inv-loop μ-loop
 returns-2 c = λ h. (let e : c .before .loop .k ≡ 64 = omega (arith, c .before .loop .inv .1 .0) in rw e at (c .before .loop .inv .0))
 

@@ -8,13 +8,6 @@ use Rattle.table_tags.specs.Lists.{searchFrom, searched}
 use Rattle.table_tags.proofs.Searching.{search-none, search-out, search-hit, search-more, search-spent}
 use Rattle.table_tags.proofs.find.Statement.{statement}
 use Rattle.table_tags.proofs.find.Tie as tie
-use Rattle.table_tags.proofs.find.Reads as reads
-use Rattle.table_tags.proofs.find.Lts as lts
-use Rattle.table_records.proofs.link_at.Reads as link-at-reads
-use Rattle.table_tags.proofs.head.Reads as head-reads
-use Rattle.table_tags.proofs.is_tagged_as.Reads as is-tagged-as-reads
-use Rattle.table_tags.proofs.key.Reads as key-reads
-use Rattle.table_tags.proofs.spread.Reads as spread-reads
 
 abbrev Inv-loop : tie.InvT-loop
 Inv-loop table unpacked n p word at₀ left₀ at left = searched table unpacked n p word ≡ searchFrom table unpacked n p word left at
@@ -22,67 +15,51 @@ Inv-loop table unpacked n p word at₀ left₀ at left = searched table unpacked
 abbrev μ-loop : tie.MeasureT-loop
 μ-loop table unpacked n p word at₀ left₀ at left = left
 
--- src/lib.rt:127:36
 key-requires : tie.Need-key-requires Inv-loop μ-loop
 key-requires c κs = search needs
 
--- src/lib.rt:127:25
-head-requires : tie.Need-head-requires Inv-loop μ-loop
-head-requires c κs = search needs
+cell-at-requires : tie.Need-cell-at-requires Inv-loop μ-loop
+cell-at-requires c κs = search needs
 
--- src/lib.rt:127:9
-spread-requires : tie.Need-spread-requires Inv-loop μ-loop
-spread-requires c κs = search needs
+wide-requires : tie.Need-wide-requires Inv-loop μ-loop
+wide-requires c κs = search needs
 
--- src/lib.rt:129:5
 loop-holds : tie.Need-loop-holds Inv-loop μ-loop
-loop-holds c = sym (ap (searchFrom (now (c .before .before .before .before .before .before .args .table)) (now (c .before .before .before .before .before .before .args .unpacked)) (c .before .before .before .before .before .before .args .n) (c .before .before .before .before .before .before .args .p) (now (c .before .before .before .before .before .before .args .word)) (c .before .before .before .before .before .before .args .n)) (c .spread .ensures ∙ (c .before .head .ensures ∙ ap (λ k. getD (now (c .before .before .before .before .before .before .args .unpacked)) k 0) (c .before .before .key .ensures))))
+loop-holds c = sym (ap (searchFrom (now (c .before .before .before .before .before .before .args .table)) (now (c .before .before .before .before .before .before .args .unpacked)) (c .before .before .before .before .before .before .args .n) (c .before .before .before .before .before .before .args .p) (now (c .before .before .before .before .before .before .args .word)) (c .before .before .before .before .before .before .args .n)) (c .wide .ensures .0 ∙ (c .before .cell-at .ensures ∙ ap (λ k. getD (now (c .before .before .before .before .before .before .args .unpacked)) k 0) (c .before .before .key .ensures))))
 
--- src/lib.rt:131:13
 returns : tie.Need-returns Inv-loop μ-loop
 returns c = sym (c .before .before .loop .inv ∙ (ap (searchFrom (now (c .before .before .before .before .before .before .before .before .before .args .table)) (now (c .before .before .before .before .before .before .before .before .before .args .unpacked)) (c .before .before .before .before .before .before .before .before .before .args .n) (c .before .before .before .before .before .before .before .before .before .args .p) (now (c .before .before .before .before .before .before .before .before .before .args .word)) (c .before .before .loop .left)) (c .if1 .taken) ∙ search-none (now (c .before .before .before .before .before .before .before .before .before .args .table)) (now (c .before .before .before .before .before .before .before .before .before .args .unpacked)) (c .before .before .before .before .before .before .before .before .before .args .n) (c .before .before .before .before .before .before .before .before .before .args .p) (now (c .before .before .before .before .before .before .before .before .before .args .word)) (c .before .before .loop .left)))
 
--- src/lib.rt:134:13
 returns-2 : tie.Need-returns-2 Inv-loop μ-loop
 returns-2 c = sym (c .before .before .before .loop .inv ∙ search-out (now (c .before .before .before .before .before .before .before .before .before .before .args .table)) (now (c .before .before .before .before .before .before .before .before .before .before .args .unpacked)) (c .before .before .before .before .before .before .before .before .before .before .args .n) (c .before .before .before .before .before .before .before .before .before .before .args .p) (now (c .before .before .before .before .before .before .before .before .before .before .args .word)) (c .before .before .before .loop .left) (c .before .before .before .loop .at) (c .if2 .taken))
 
--- src/lib.rt:136:47
 sub-is-tagged-as : tie.Need-sub-is-tagged-as Inv-loop μ-loop
 sub-is-tagged-as c = search needs
 
--- src/lib.rt:136:12
 is-tagged-as-requires : tie.Need-is-tagged-as-requires Inv-loop μ-loop
 is-tagged-as-requires c κs = search needs
 
--- src/lib.rt:137:30
 sub-t13 : tie.Need-sub-t13 Inv-loop μ-loop
 sub-t13 c = search needs
 
--- src/lib.rt:137:13
 returns-3 : tie.Need-returns-3 Inv-loop μ-loop
 returns-3 c = sym (c .before .before .before .before .before .loop .inv ∙ search-hit (now (c .before .before .before .before .before .before .before .before .before .before .before .before .args .table)) (now (c .before .before .before .before .before .before .before .before .before .before .before .before .args .unpacked)) (c .before .before .before .before .before .before .before .before .before .before .before .before .args .n) (c .before .before .before .before .before .before .before .before .before .before .before .before .args .p) (now (c .before .before .before .before .before .before .before .before .before .before .before .before .args .word)) (c .before .before .before .before .before .loop .left) (c .before .before .before .before .before .loop .at) (c .before .before .before .if1 .left) (c .before .before .if2 .left) (c .before .before .before .before .loop-test .taken) (sym (c .before .is-tagged-as .ensures) ∙ c .if3 .taken))
 
--- src/lib.rt:139:37
 sub-link-at : tie.Need-sub-link-at Inv-loop μ-loop
 sub-link-at c = search needs
 
--- src/lib.rt:139:9
 link-at-requires : tie.Need-link-at-requires Inv-loop μ-loop
 link-at-requires c κs = search needs
 
--- src/lib.rt:140:9
 sub-left : tie.Need-sub-left Inv-loop μ-loop
 sub-left c = search needs
 
--- src/lib.rt:129:5
 loop-less : tie.Need-loop-less Inv-loop μ-loop
 loop-less c = search needs
 
--- src/lib.rt:129:5
 loop-again : tie.Need-loop-again Inv-loop μ-loop
 loop-again c = c .before .before .before .before .before .before .loop .inv ∙ (search-more (now (c .before .before .before .before .before .before .before .before .before .before .before .before .before .args .table)) (now (c .before .before .before .before .before .before .before .before .before .before .before .before .before .args .unpacked)) (c .before .before .before .before .before .before .before .before .before .before .before .before .before .args .n) (c .before .before .before .before .before .before .before .before .before .before .before .before .before .args .p) (now (c .before .before .before .before .before .before .before .before .before .before .before .before .before .args .word)) (c .before .before .before .before .before .before .loop .left) (c .before .before .before .before .before .before .loop .at) (c .before .before .before .before .if1 .left) (c .before .before .before .if2 .left) (c .before .before .before .before .before .loop-test .taken) (sym (c .before .before .is-tagged-as .ensures) ∙ c .before .if3 .left) ∙ ap (searchFrom (now (c .before .before .before .before .before .before .before .before .before .before .before .before .before .args .table)) (now (c .before .before .before .before .before .before .before .before .before .before .before .before .before .args .unpacked)) (c .before .before .before .before .before .before .before .before .before .before .before .before .before .args .n) (c .before .before .before .before .before .before .before .before .before .before .before .before .before .args .p) (now (c .before .before .before .before .before .before .before .before .before .before .before .before .before .args .word)) (c .before .before .before .before .before .before .loop .left - 1)) (sym (c .link-at .ensures)))
 
--- src/lib.rt:124:1
 returns-4 : tie.Need-returns-4 Inv-loop μ-loop
 returns-4 c = let e : c .before .loop .left ≡ 0 = omega arith in sym (c .before .loop .inv ∙ (ap (λ k. searchFrom (now (c .before .before .before .before .before .before .before .before .args .table)) (now (c .before .before .before .before .before .before .before .before .args .unpacked)) (c .before .before .before .before .before .before .before .before .args .n) (c .before .before .before .before .before .before .before .before .args .p) (now (c .before .before .before .before .before .before .before .before .args .word)) k (c .before .loop .at)) e ∙ search-spent (now (c .before .before .before .before .before .before .before .before .args .table)) (now (c .before .before .before .before .before .before .before .before .args .unpacked)) (c .before .before .before .before .before .before .before .before .args .n) (c .before .before .before .before .before .before .before .before .args .p) (now (c .before .before .before .before .before .before .before .before .args .word)) (c .before .loop .at)))
 
@@ -93,8 +70,8 @@ find-spec =
     Inv-loop
     μ-loop
     key-requires
-    head-requires
-    spread-requires
+    cell-at-requires
+    wide-requires
     loop-holds
     returns
     returns-2

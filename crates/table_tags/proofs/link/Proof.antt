@@ -9,10 +9,6 @@ use Rattle.table_tags.specs.Lists.{Linked}
 use Rattle.table_tags.proofs.Linking.{linked-none, same-cleared, link-more}
 use Rattle.table_tags.proofs.link.Statement.{statement}
 use Rattle.table_tags.proofs.link.Tie as tie
-use Rattle.table_tags.proofs.link.Reads as reads
-use Rattle.table_tags.proofs.link.Lts as lts
-use Rattle.table_tags.proofs.clear.Reads as clear-reads
-use Rattle.table_tags.proofs.link_one.Reads as link-one-reads
 
 abbrev Inv-loop : tie.InvT-loop
 Inv-loop table unpacked₀ n i₀ unpacked i = ((n ≤ 256) × (i ≤ n)) × ((length unpacked ≡ length unpacked₀) × (64 + 11 * n ≤ length unpacked₀ → Linked table unpacked n i × ((j : ℕ) → recordIn table unpacked j ≡ recordIn table unpacked₀ j)))
@@ -20,39 +16,30 @@ Inv-loop table unpacked₀ n i₀ unpacked i = ((n ≤ 256) × (i ≤ n)) × ((l
 abbrev μ-loop : tie.MeasureT-loop
 μ-loop table unpacked₀ n i₀ unpacked i = i
 
--- src/lib.rt:99:9
 returns : tie.Need-returns Inv-loop μ-loop
 returns c = λ a b. absurd (omega arith)
 
--- src/lib.rt:101:5
 clear-requires : tie.Need-clear-requires Inv-loop μ-loop
 clear-requires c κs = search needs
 
--- src/lib.rt:103:5
 loop-holds : tie.Need-loop-holds Inv-loop μ-loop
 loop-holds c = ((c .before .before .before .before .if1 .left, omega arith), (refl, λ room. (linked-none _ _ _ _ (c .before .before .clear .ensures (omega (arith, c .before .before .clear .kept .0, room))), λ j. refl)))
 
--- src/lib.rt:104:9
 sub-i : tie.Need-sub-i Inv-loop μ-loop
 sub-i c = search needs
 
--- src/lib.rt:105:9
 link-one-requires : tie.Need-link-one-requires Inv-loop μ-loop
 link-one-requires c κs = search needs
 
--- src/lib.rt:103:5
 loop-less : tie.Need-loop-less Inv-loop μ-loop
 loop-less c = search needs
 
--- src/lib.rt:103:5
 loop-again : tie.Need-loop-again Inv-loop μ-loop
 loop-again c = ((c .before .before .before .before .before .loop .inv .0 .0, omega (arith, c .before .before .before .before .before .loop .inv .0 .1)), (c .before .before .link-one .kept .1 .0 ∙ c .before .before .before .before .before .loop .inv .1 .0, link-more (now (c .before .before .before .before .before .before .before .before .before .before .before .before .before .args .table)) _ (c .before .before .before .before .before .loop .unpacked) _ (c .before .before .before .before .before .before .before .before .before .before .before .before .before .args .n) (c .before .before .before .before .before .loop .i) (c .before .before .before .before .before .loop .inv .0 .0) (c .before .before .before .before .before .loop .inv .0 .1) (c .before .before .before .before .loop-test .taken) (c .before .before .before .before .before .loop .inv .1 .0) (c .before .before .link-one .ensures) (c .before .before .before .before .before .loop .inv .1 .1)))
 
--- src/lib.rt:95:1
 same-length : tie.Need-same-length Inv-loop μ-loop
 same-length c = search needs
 
--- src/lib.rt:95:1
 returns-2 : tie.Need-returns-2 Inv-loop μ-loop
 returns-2 c = λ a room. (let e : c .before .loop .i ≡ 0 = omega arith in let v = c .before .loop .inv .1 .1 (omega (arith, c .before .before .before .before .clear .kept .0, room)) in record { linked = rw e at (v .0); same = λ j. v .1 j ∙ same-cleared _ _ _ (c .before .before .before .before .clear .ensures (omega (arith, c .before .before .before .before .clear .kept .0, room))) j })
 

@@ -5,50 +5,34 @@ use Rattle.table_tags.proofs.Again.{untagged-once, top-once, again, nev
 use borrow.Author.Needs.{needs}
 use Rattle.table_tags.proofs.tag_again.Statement.{statement}
 use Rattle.table_tags.proofs.tag_again.Tie as tie
-use Rattle.table_tags.proofs.tag_again.Reads as reads
-use Rattle.table_tags.proofs.tag_again.Lts as lts
-use Rattle.table_records.proofs.label_at.Reads as label-at-reads
-use Rattle.table_records.proofs.parent_at.Reads as parent-at-reads
-use Rattle.table_records.proofs.untagged_at.Reads as untagged-at-reads
-use Rattle.table_tags.proofs.find.Reads as find-reads
 
--- src/lib.rt:150:8
 untagged-at-requires : tie.Need-untagged-at-requires
 untagged-at-requires c κs = search needs
 
--- src/lib.rt:151:9
 returns : tie.Need-returns
 returns c = untagged-once (now (c .before .before .before .before .args .table)) (now (c .before .before .before .before .args .unpacked)) (c .before .before .before .before .args .n) (c .before .before .before .before .args .i) (sym (c .before .untagged-at .ensures) ∙ c .if1 .taken)
 
--- src/lib.rt:153:9
 parent-at-requires : tie.Need-parent-at-requires
 parent-at-requires c κs = search needs
 
--- src/lib.rt:155:9
 returns-2 : tie.Need-returns-2
 returns-2 c = top-once (now (c .before .before .before .before .before .before .args .table)) (now (c .before .before .before .before .before .before .args .unpacked)) (c .before .before .before .before .before .before .args .n) (c .before .before .before .before .before .before .args .i) _ (c .before .parent-at .ensures) (c .if2 .taken)
 
--- src/lib.rt:157:35
 label-at-requires : tie.Need-label-at-requires
 label-at-requires c κs = search needs
 
--- src/lib.rt:157:11
 find-requires : tie.Need-find-requires
 find-requires c κs = search needs
 
--- src/lib.rt:158:19
 enum-known-q : tie.Need-enum-known-q
 enum-known-q c = search needs
 
--- src/lib.rt:159:27
 enum-told : tie.Need-enum-told
 enum-told c = search needs
 
--- src/lib.rt:146:1
 returns-3 : tie.Need-returns-3
 returns-3 c = again (now (c .before .before .before .before .before .before .before .before .before .before .before .args .table)) (now (c .before .before .before .before .before .before .before .before .before .before .before .args .unpacked)) (c .before .before .before .before .before .before .before .before .before .before .before .args .n) (c .before .before .before .before .before .before .before .before .before .before .before .args .i) (c .before .before .before .before .before .before .parent-at .result) (c .before .before .before .before .before .before .parent-at .ensures) (c .before .before .before .before .before .if2 .left) (sym (c .before .before .before .before .before .before .before .before .untagged-at .ensures) ∙ c .before .before .before .before .before .before .before .if1 .left) (c .before .before .before .before .before .before .before .before .before .before .before .pre .0) (c .before .before .before .before .before .before .before .before .before .before .before .pre .1) _ _ (c .before .before .before .before .label-at .ensures) (ap foundOf (sym (c .before .q .given .1)) ∙ c .before .before .before .find .ensures)
 
--- src/lib.rt:146:1
 returns-4 : tie.Need-returns-4
 returns-4 c = never (now (c .before .before .before .before .before .before .before .before .before .before .args .table)) (now (c .before .before .before .before .before .before .before .before .before .before .args .unpacked)) (c .before .before .before .before .before .before .before .before .before .before .args .n) (c .before .before .before .before .before .before .before .before .before .before .args .i) (c .before .before .before .before .before .parent-at .result) (c .before .before .before .before .before .parent-at .ensures) (c .before .before .before .before .if2 .left) (sym (c .before .before .before .before .before .before .before .untagged-at .ensures) ∙ c .before .before .before .before .before .before .if1 .left) (c .before .before .before .before .before .before .before .before .before .before .pre .0) (c .before .before .before .before .before .before .before .before .before .before .pre .1) _ (c .before .before .before .label-at .ensures) (ap foundOf (sym (c .enum-told .given .1)) ∙ c .before .before .find .ensures)
 
