@@ -1,15 +1,16 @@
 -- Rows of bytes from a place on: one byte more, the byte that decides, and the end.
 use Prim.Native.Nat.{ℕ, zero, suc, _+_, _-_, _≤_, _<_}
 use mathlib.Core.Bool.{Bool, true, false, and-false}
-use mathlib.Core.List.{List, [], _∷_}
-use mathlib.Core.Path.{_≡_, refl, ap, _∙_}
+use mathlib.Core.List.{List, [], _∷_, _++_}
+use mathlib.Core.Path.{_≡_, refl, sym, ap, _∙_}
 use native.Mathlib.Numerals.{add-one}
 use native.Mathlib.Omega.{arith}
-use borrow.Author.Tests.{eq-eqb, ne-eqb}
+use borrow.Author.Tests.{eq-eqb, ne-eqb, eqb-true}
 use lib.Dec.{eqb}
-use lib.ListN.{length, getD, take, drop, length-drop, drop-of-length-le}
-use lib.Seq.{drop-cons, take-all}
-use Rattle.classes.specs.Lists.{every, runOf, sameBytes}
+use lib.ListN.{length, getD, take, drop, replicate, length-drop, drop-of-length-le}
+use lib.Seq.{drop-cons, take-all, take-nil}
+use Rattle.classes.specs.Lists.{every, runOf, sameBytes, part}
+use Rattle.classes.proofs.Bools.{clash-bool, both-true}
 
 module _ (f : ℕ → Bool) (s : List ℕ) (i : ℕ) where
   pub every-more : i < length s → f (getD s i 0) ≡ true → every f (drop i s) ≡ every f (drop (i + 1) s)
@@ -46,6 +47,16 @@ unfolding runOf
 run-within f [] = omega arith
 run-within f (b ∷ s) = one-more (f b) (runOf f s) (length s) (run-within f s)
 
+-- the bytes of a longest row are of the class
+pub run-take : (f : ℕ → Bool) (l : List ℕ) → every f (take (runOf f l) l) ≡ true
+unfolding runOf every
+run-take f [] = refl
+run-take f (b ∷ l) = go (f b) refl (run-take f l)
+  where
+    go : (t : Bool) → f b ≡ t → every f (take (runOf f l) l) ≡ true → every f (take (elim t [ true ↦ suc (runOf f l) | false ↦ 0 ]) (b ∷ l)) ≡ true
+    go true e k = rw e k
+    go false e k = refl
+
 module _ (a b : List ℕ) (i : ℕ) where
   pub same-more : i < length a → i < length b → getD a i 0 ≡ getD b i 0 → sameBytes (drop i a) (drop i b) ≡ sameBytes (drop (i + 1) a) (drop (i + 1) b)
   unfolding sameBytes
@@ -80,6 +91,42 @@ same-not [] (b ∷ l) i h = refl
 same-not (a ∷ k) [] i h = refl
 same-not (a ∷ k) (b ∷ l) zero h = rw (ne-eqb a b h)
 same-not (a ∷ k) (b ∷ l) (suc i) h = rw (same-not k l i h) (and-false (eqb a b))
+
+pub bytes-self : (w : List ℕ) → sameBytes w w ≡ true
+unfolding sameBytes
+bytes-self [] = refl
+bytes-self (b ∷ w) = rw (eq-eqb b b refl) (bytes-self w)
+
+pub same-true : (v w : List ℕ) → sameBytes v w ≡ true → v ≡ w
+unfolding sameBytes
+same-true [] [] e = refl
+same-true [] (b ∷ w) e = clash-bool e
+same-true (a ∷ v) [] e = clash-bool e
+same-true (a ∷ v) (b ∷ w) e = let x = both-true (eqb a b) (sameBytes v w) e in let y = eqb-true a b (x .0) in let z = same-true v w (x .1) in cc
+
+-- no mark stands where there is none
+pub no-mark : (n k : ℕ) → getD (replicate n false) k false ≡ false
+no-mark zero k = refl
+no-mark (suc n) zero = refl
+no-mark (suc n) (suc k) = no-mark n k
+
+-- nothing is joined of nothing only
+pub both-nil : (x y : List ℕ) → x ++ y ≡ [] → (x ≡ []) × (y ≡ [])
+both-nil [] y e = (refl, e)
+both-nil (p ∷ x) y e = let z : _≡_ {A = ℕ} 0 1 = cc in absurd (omega arith)
+
+-- ---- a part, with any bounds
+
+pub part-over : (t : List ℕ) (p e : ℕ) → length t < e → take (length t - p) (drop p t) ≡ part t p e
+part-over t p e h =
+    take-all (length t - p) (drop p t) (simp length-drop (omega arith))
+    ∙ sym (take-all (e - p) (drop p t) (simp length-drop (omega arith)))
+
+pub part-none : (t : List ℕ) (p e : ℕ) → length t < p → [] ≡ part t p e
+part-none t p e h = let q : length t ≤ p = omega arith in rw (drop-of-length-le t q, take-nil)
+
+pub part-back : (t : List ℕ) (p e : ℕ) → e ≤ p → [] ≡ part t p e
+part-back t p e h = let q : e - p ≡ 0 = omega arith in rw q
 
 -- the part of a slice from a place to its end
 pub rest-all : (s : List ℕ) (i : ℕ) → take (length s - i) (drop i s) ≡ drop i s

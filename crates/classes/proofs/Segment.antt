@@ -7,8 +7,9 @@ use mathlib.Core.Logic.{⊎-elim}
 use native.Mathlib.Omega.{arith}
 use native.Mathlib.Nat.{eq-or-lt-of-le}
 use lib.Dec.{T, eqb, eqb→eq}
-use borrow.Author.Tests.{ne-eqb}
-use Rattle.classes.specs.Bytes.{isBlank, isWordByte, isPlain}
+use borrow.Author.Tests.{ne-eqb, eqb-true}
+use Rattle.classes.specs.Bytes.{isBlank, isMark, isWordByte, isPlain}
+use Rattle.classes.proofs.Bools.{or-case}
 
 -- b is none of the keys, the last one first
 abbrev pub Other : List ℕ → ℕ → Type 0
@@ -74,3 +75,18 @@ plain-else b x y e f h k = rw (e, f, ne-eqb b 61 h, ne-eqb b 44 k) (same (isBlan
     same true q = refl
     same false true = refl
     same false false = refl
+
+-- a definition's marks are bytes
+pub mark-small : (b : ℕ) → isMark b ≡ true → b < 256
+unfolding isMark
+mark-small b e =
+    or-case (eqb b 60) _ e (is 60 (omega arith))
+    (λ x. or-case (eqb b 62) _ x (is 62 (omega arith))
+    (λ x. or-case (eqb b 91) _ x (is 91 (omega arith))
+    (λ x. or-case (eqb b 93) _ x (is 93 (omega arith))
+    (λ x. or-case (eqb b 123) _ x (is 123 (omega arith))
+    (λ x. or-case (eqb b 125) _ x (is 125 (omega arith))
+    (λ x. or-case (eqb b 59) (eqb b 63) x (is 59 (omega arith)) (is 63 (omega arith))))))))
+  where
+    is : (c : ℕ) → c < 256 → eqb b c ≡ true → b < 256
+    is c h e = omega (arith, eqb-true b c e)

@@ -1,8 +1,9 @@
 -- Questions about a row of bytes.
 use mathlib.Core.Bool.{Bool, true, false, _&&_, _||_}
 use mathlib.Core.List.{List, [], _∷_}
-use Prim.Native.Nat.{ℕ, suc}
+use Prim.Native.Nat.{ℕ, suc, _-_}
 use lib.Dec.{eqb}
+use lib.ListN.{take, drop}
 
 -- one of two, by a test
 unfoldable pub pick : {A : Type 0} → Bool → A → A → A
@@ -39,3 +40,7 @@ sameBytes [] [] = true
 sameBytes [] (b ∷ l) = false
 sameBytes (a ∷ k) [] = false
 sameBytes (a ∷ k) (b ∷ l) = eqb a b && sameBytes k l
+
+-- the bytes from a to e, e not included
+abbrev pub part : List ℕ → ℕ → ℕ → List ℕ
+part s a e = take (e - a) (drop a s)

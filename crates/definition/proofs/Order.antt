@@ -8,7 +8,7 @@ use lib.Dec.{eqb, ltb}
 use lib.ListN.{length, getD, take, drop, length-append}
 use lib.Seq.{sets, take-at}
 use borrow.Author.Tests.{lt-ltb, le-ltb}
-use Rattle.classes.specs.Lists.{pick}
+use Rattle.classes.specs.Lists.{pick, part}
 use Rattle.numbers.specs.Limits.{parameterLimit, textLimit}
 use Rattle.reading_rules.specs.Record.{Record, Before}
 use Rattle.definition_rules.specs.Words.{kindIsCompound}
@@ -20,7 +20,7 @@ use Rattle.definition_rules.specs.Faults.{spotsWhere, recordSpots, rule7Broken,
 use Rattle.definition_rules.specs.Compile.{Check, check, Finding, clean, fault, leastOf, findingOf, firstFault, Verdict, refused, table, verdictOf, CompileAnswer, compiled, refusal, answerWithRoom, lentAfter}
 use Rattle.definition_cells.specs.declared.Place.{Place}
 use Rattle.definition_cells.specs.declared.Place.the-variants.{Nowhere, At}
-use Rattle.definition_cells.specs.Cells.{cellAt, part, notedFrom}
+use Rattle.definition_cells.specs.Cells.{cellAt, notedFrom}
 use Rattle.definition_cells.specs.Places.{atIf, lesser, leastPlace, leastFrom}
 use Rattle.definition_cells.proofs.PlaceLaws.{least-append, from-same}
 use Rattle.table_records.specs.Stored.{recordIn, recordsAt}

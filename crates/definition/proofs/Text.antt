@@ -2,7 +2,7 @@
 use mathlib.Core.Path.{_≡_, refl, ap, sym, _∙_, subst}
 use mathlib.Core.Bool.{Bool, true, false}
 use mathlib.Core.List.{List, [], _∷_, _++_}
-use Prim.Native.Nat.{ℕ, zero, suc, _≤_, _<_}
+use Prim.Native.Nat.{ℕ, zero, _≤_, _<_}
 use native.Mathlib.Omega.{arith}
 use lib.Dec.{ltb}
 use lib.ListN.{length, drop, drop-of-length-le}
@@ -11,7 +11,7 @@ use Rattle.numbers.specs.Limits.{textLimit, parameterLimit}
 use Rattle.reading_rules.specs.Record.{Record, Before}
 use Rattle.definition_rules.specs.Table.{numberUp}
 use Rattle.definition_rules.specs.Scan.{Item, itemsOf, textTokensOf, placeIf}
-use Rattle.definition_rules.specs.Declarations.{Spots, Noted, noted, Outcome, stuckAt, complete, parseTokens, declarationsOf}
+use Rattle.definition_rules.specs.Declarations.{Spots, Noted, Outcome, stuckAt, complete, parseTokens, declarationsOf}
 use Rattle.definition_rules.specs.Records.{recordsOf, topNames}
 use Rattle.definition_rules.specs.Finite.{finites, isEndless}
 use Rattle.definition_rules.specs.Faults.{spotsWhere, recordSpots, nameSpots, repeatedNames, nameBroken, referenceBroken, tagBroken, rangeBroken, countBroken, voidMany, countOnAlternative, kindsOf, rule7Broken, tagRepeated, rootNoStruct, dangling, faults4, faults5, faults6, faults7, faults8, faults9, faults10}
@@ -32,11 +32,7 @@ use Rattle.definition_forms.specs.Formed.{StuckIn, OverIn, CompleteIn, FormedAs
 use Rattle.definition_forms.proofs.PlacedLaws.{natural-type, natural-range, natural-name, natural-card, natural-tag, places-append, where-placed, records-placed, repeated-placed, declared-placed}
 use Rattle.definition.specs.Answers.{checks7to10, checks5to10, recordsOfCells, verdictFrom}
 use Rattle.definition.proofs.Order.{hit, pass, refuses}
-
-pub nothing : (ps : List ℕ) → leastPlace ps ≡ Nowhere → ps ≡ []
-unfolding leastPlace
-nothing [] e = refl
-nothing (p ∷ r) e = let z : _≡_ {A = ℕ} 0 1 = cc in absurd (omega arith)
+use Rattle.definition_rules.proofs.Spots.{names-length}
 
 module _ (text : List ℕ) where
   abbrev items : List Item
@@ -135,11 +131,6 @@ module _ (text : List ℕ) where
 
       ten : tokenPlaces text items (faults10 rs ns) ≡ faults10 rs (by ns)
       ten = records-placed text items (isEndless (finites rs)) (λ s. s .nameAt) natural-name 0 rs ns
-
-    names-length : (ns : List Noted) → length (nameSpots ns) ≡ length ns
-    unfolding nameSpots
-    names-length [] = refl
-    names-length (noted s d ∷ ns) = ap suc (names-length ns)
 
     few-names : (ns : List Noted) → length ns ≤ parameterLimit → leastPlace (tokenPlaces text items (faults4 parameterLimit ns)) ≡ Nowhere
     unfolding tokenPlaces leastPlace

@@ -31,28 +31,33 @@ enum Stop {
 
 // ---- scratch space
 
-fn blank_cells() -> [u32; 4096]
+// A byte more than the longest record has.
+const RECORD_ROOM: usize = numbers::RECORD_HEADER + numbers::LABEL_LIMIT + 1;
+
+const SCRATCH: usize = RECORD_ROOM * numbers::PARAMETER_LIMIT;
+
+fn blank_cells() -> [u32; definition_cells::ALL_CELLS]
     ensures { λ r. ⌜ length r ≡ 4096 ⌝ }
 {
-    [0; 4096]
+    [0; definition_cells::ALL_CELLS]
 }
 
-fn blank_bytes() -> [u8; 22528]
+fn blank_bytes() -> [u8; SCRATCH]
     ensures { λ r. ⌜ length r ≡ 22528 ⌝ }
 {
-    [0; 22528]
+    [0; SCRATCH]
 }
 
-fn blank_records() -> [u32; 2880]
+fn blank_records() -> [u32; table_records::ALL_CELLS]
     ensures { λ r. ⌜ length r ≡ 2880 ⌝ }
 {
-    [0; 2880]
+    [0; table_records::ALL_CELLS]
 }
 
-fn blank_marks() -> [bool; 256]
+fn blank_marks() -> [bool; numbers::PARAMETER_LIMIT]
     ensures { λ r. ⌜ length r ≡ 256 ⌝ }
 {
-    [false; 256]
+    [false; numbers::PARAMETER_LIMIT]
 }
 
 // ---- the checks on records
@@ -130,7 +135,7 @@ fn compile_declarations(text: &[u8], cells: &[u32], n: usize, table: &mut [u8]) 
     }
     let mut scratch = blank_bytes();
     let len = definition_writer::write_records(text, cells, n, &mut scratch);
-    match written_fault(text, cells, definition_cells::part(&scratch, 0, len), n) {
+    match written_fault(text, cells, classes::part(&scratch, 0, len), n) {
         Stop::Fault(k, p) => {
             return Compiled::Refused(k, p);
         }
@@ -152,8 +157,8 @@ pub fn compile(text: &[u8], table: &mut [u8]) -> Compiled
     ensures { λ r. ⌜ StuckPromise (now (text .entry)) (answerOfCompile r) ⌝ }
     ensures { λ r. ⌜ EndlessPromise (now (text .entry)) (answerOfCompile r) ⌝ }
 {
-    if 65535 < text.len() {
-        return Compiled::Refused(1, 65535);
+    if numbers::TEXT_LIMIT < text.len() {
+        return Compiled::Refused(1, numbers::TEXT_LIMIT);
     }
     match definition_scanner::scan_fault(text) {
         Place::At(p) => {

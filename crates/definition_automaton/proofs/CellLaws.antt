@@ -1,27 +1,13 @@
 -- Stores one after the other are one row of numbers.
 use mathlib.Core.Path.{_≡_, refl, _∙_}
 use mathlib.Core.List.{List, [], _∷_, _++_}
-use Prim.Native.Nat.{ℕ, suc, _+_}
-use native.Mathlib.Nat.{add-zero}
-use native.Mathlib.Omega.{arith}
+use Prim.Native.Nat.{ℕ, _+_}
 use lib.ListN.{length, set}
 use lib.Seq.{sets}
-
-four-row : (x : List ℕ) (i a b c d : ℕ) → set (set (set (set x i a) (i + 1) b) (i + 2) c) (i + 3) d ≡ sets x i (a ∷ b ∷ c ∷ d ∷ [])
-four-row x i a b c d =
-    let p1 : i + 1 ≡ suc i = omega arith in
-    let p2 : i + 2 ≡ suc (suc i) = omega arith in
-    let p3 : i + 3 ≡ suc (suc (suc i)) = omega arith in
-    rw (p1, p2, p3)
+use Rattle.classes.proofs.Stores.{sets-append, four-sets}
 
 pub four-are : (x l1 l2 l3 l4 : List ℕ) (i a b c d : ℕ) → l1 ≡ set x i a → l2 ≡ set l1 (i + 1) b → l3 ≡ set l2 (i + 2) c → l4 ≡ set l3 (i + 3) d → l4 ≡ sets x i (a ∷ b ∷ c ∷ d ∷ [])
-four-are x l1 l2 l3 l4 i a b c d q1 q2 q3 q4 = rw (q4, q3, q2, q1) (four-row x i a b c d)
-
-pub sets-append : (xs ys e : List ℕ) (i : ℕ) → sets (sets e i xs) (i + length xs) ys ≡ sets e i (xs ++ ys)
-sets-append [] ys e i = rw (add-zero i)
-sets-append (x ∷ xs) ys e i =
-    let p : i + suc (length xs) ≡ suc i + length xs = omega arith in
-    rw p (sets-append xs ys (set e i x) (suc i))
+four-are x l1 l2 l3 l4 i a b c d q1 q2 q3 q4 = rw (q4, q3, q2, q1) (four-sets x i a b c d)
 
 pub two-rows : (n : ℕ) (x y z xs ys : List ℕ) (i : ℕ) → length xs ≡ n → y ≡ sets x i xs → z ≡ sets y (i + n) ys → z ≡ sets x i (xs ++ ys)
 two-rows n x y z xs ys i l p q = rw (q, p, ← l) (sets-append xs ys x i)

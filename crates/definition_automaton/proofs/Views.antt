@@ -5,11 +5,10 @@ use mathlib.Core.List.{List, [], _∷_}
 use Prim.Native.Nat.{ℕ, zero, suc}
 use lib.Dec.{eqb}
 use lib.ListN.{getD}
-use Rattle.classes.specs.Lists.{pick}
+use Rattle.classes.specs.Lists.{pick, part}
 use Rattle.definition_rules.specs.Forms.{MaybeRun, absent, given, Tag, ownName, tagless, explicit, Heading, heading}
 use Rattle.definition_rules.specs.Declarations.{Declaration, declaration, Spots, Noted, noted, BodyMode, inFields, groupOpened, inGroup, groupsClosed, Frame, frame, afterName, afterCard, afterTag, afterPlugin, Phase, atStart, dueSemicolon, afterType, dueRange, dueRangeEnd, dueName, inHeading, dueCard, dueTag, dueCardEnd, Action, stop, move, note, fieldDone, parentOf}
 use Rattle.definition_rules.specs.Declarations.{isUnderExtension}
-use Rattle.definition_cells.specs.Cells.{part}
 use Rattle.definition_automaton.specs.Acts.{nextMode}
 use Rattle.definition_automaton.specs.Noting.{pendingBy, notes}
 use Rattle.definition_automaton.specs.declared.State.{State}

@@ -3,24 +3,155 @@
 ghost use mathlib.Core.Path.{_≡_};
 ghost use mathlib.Core.List.{[], _∷_};
 ghost use Prim.Native.Nat.{_+_, _-_, _*_, _<_};
-ghost use lib.ListN.{set};
 ghost use lib.Seq.{sets};
+ghost use Rattle.definition_cells.specs.Cells.{cellWidth};
+ghost use Rattle.numbers.specs.Limits.{parameterLimit};
 ghost use Rattle.definition_automaton.specs.Acts.{endAct, pluginAct, asAct, nameAct, typeAct, closingAct, bodyAct, startAct, runAct, markAct, typedAct, tagAct, actOf, nextMode};
 ghost use Rattle.definition_automaton.specs.States.{started, entryOf, bodyAfter, contextNumber, contextOf, parentNumber, extensionFlag, withBody, fieldDoneOf, pushedOf, poppedOf, overOf, moreOf, countedOf, modeMoved, afterOf};
 ghost use Rattle.definition_automaton.specs.Noting.{none, typedOf, rangedOf, rangelessOf, namedOf, cardedOf, taggedOf, untaggedOf, pluggedOf, pendingBy, runCells, restCells, cellsOf, notes, noteCells};
 
+// ---- numbers by name
+
+// A token's kind: the end, a bad byte, a mark's byte, or one of the runs below.
+pub const END: u32 = 0;
+
+pub const BAD: u32 = 1;
+
+const SEMICOLON: u32 = b';' as u32;
+
+const RANGE_OPENS: u32 = b'<' as u32;
+
+const RANGE_CLOSES: u32 = b'>' as u32;
+
+const QUESTION: u32 = b'?' as u32;
+
+const BRACKET_OPENS: u32 = b'[' as u32;
+
+const BRACKET_CLOSES: u32 = b']' as u32;
+
+const BRACE_OPENS: u32 = b'{' as u32;
+
+const BRACE_CLOSES: u32 = b'}' as u32;
+
+// A run's kind, past every byte: a type that may have a range, another simple type, struct or union, a reference,
+// `as`, `plugin`.
+pub const RANGED_TYPE: u32 = 256;
+
+pub const SIMPLE_TYPE: u32 = 257;
+
+pub const COMPOUND_TYPE: u32 = 258;
+
+pub const REFERENCE: u32 = 259;
+
+pub const AS: u32 = 260;
+
+pub const PLUGIN: u32 = 261;
+
+// The least kind of a run.
+const RUNS: u32 = RANGED_TYPE;
+
+// Modes: where a parameter or a body's end is due, a `;` after a body is, after a type, where its range is due, its `>`,
+// a name after a range, after a name, a cardinality, a tag, plugin, where a cardinality's range is due, a tag, a
+// cardinality's `]`.
+pub const AT_START: u32 = 0;
+
+const DUE_SEMICOLON: u32 = 1;
+
+const AFTER_TYPE: u32 = 2;
+
+const DUE_RANGE: u32 = 3;
+
+const DUE_RANGE_END: u32 = 4;
+
+const DUE_NAME: u32 = 5;
+
+const AFTER_NAME: u32 = 6;
+
+const AFTER_CARD: u32 = 7;
+
+const AFTER_TAG: u32 = 8;
+
+const AFTER_PLUGIN: u32 = 9;
+
+const DUE_CARD: u32 = 10;
+
+const DUE_TAG: u32 = 11;
+
+const DUE_CARD_END: u32 = 12;
+
+// How far a body is: among the fields, a group just opened, in a group, after a group.
+const IN_FIELDS: u32 = 0;
+
+const GROUP_OPENED: u32 = 1;
+
+const IN_GROUP: u32 = 2;
+
+const GROUPS_CLOSED: u32 = 3;
+
+// A context: at the top, or one more than how far the innermost body is.
+const AT_TOP: u32 = 0;
+
+const FIELDS_CONTEXT: u32 = IN_FIELDS + 1;
+
+const OPENED_CONTEXT: u32 = GROUP_OPENED + 1;
+
+const GROUP_CONTEXT: u32 = IN_GROUP + 1;
+
+const CLOSED_CONTEXT: u32 = GROUPS_CLOSED + 1;
+
+// What a token does: it can't go on, or it is a type, `<`, a type's range, `>`, a name, `[` of a cardinality, its range,
+// its `]`, `as`, a tag, `?`, plugin, `;`, `{`, `}`, `;` after a body, `[` and `]` of a group, a name after a range.
+pub const STUCK: u32 = 0;
+
+const TAKE_TYPE: u32 = 1;
+
+const OPEN_RANGE: u32 = 2;
+
+const TAKE_RANGE: u32 = 3;
+
+const CLOSE_RANGE: u32 = 4;
+
+const TAKE_NAME: u32 = 5;
+
+const OPEN_CARD: u32 = 6;
+
+const TAKE_CARD: u32 = 7;
+
+const CLOSE_CARD: u32 = 8;
+
+const TAKE_AS: u32 = 9;
+
+const TAKE_TAG: u32 = 10;
+
+const TAKE_NO_TAG: u32 = 11;
+
+const TAKE_PLUGIN: u32 = 12;
+
+const END_HEADING: u32 = 13;
+
+const OPEN_BODY: u32 = 14;
+
+const CLOSE_BODY: u32 = 15;
+
+const END_BODY: u32 = 16;
+
+const OPEN_GROUP: u32 = 17;
+
+const CLOSE_GROUP: u32 = 18;
+
+const TAKE_NAME_AFTER_RANGE: u32 = 19;
+
+const ACTS: u32 = 20;
+
+// ---- what is kept
+
 // Where the automaton stands: the mode, the open bodies (their parameters' numbers and how far each body is),
 // the declarations so far, the place of the 257th name.
-//
-// Modes: 0 where a parameter or a body's end is due, 1 a `;` after a body, 2 after a type, 3 a type's range, 4 its `>`,
-// 5 a name after a range, 6 after a name, 7 after a cardinality, 8 after a tag, 9 after plugin,
-// 10 a cardinality's range, 11 a tag, 12 a cardinality's `]`.
-// Bodies: 0 among the fields, 1 a group just opened, 2 in a group, 3 after a group.
 pub struct State {
     pub mode: u32,
     pub depth: usize,
-    pub numbers: [u32; 8],
-    pub bodies: [u32; 8],
+    pub numbers: [u32; numbers::DEPTH_LIMIT],
+    pub bodies: [u32; numbers::DEPTH_LIMIT],
     pub count: usize,
     pub over: usize,
 }
@@ -31,8 +162,8 @@ pub struct Span {
     pub end: u32,
 }
 
-// What was read of a declaration: its runs; 1 where a range, a cardinality, plugin is given; the tag, 0 for the name, 1 for `?`, 2 for a run;
-// the kind of its type's run.
+// What was read of a declaration, its numbers as in its cells: its runs; whether a range, a cardinality, plugin is given;
+// which tag; the kind of its type's run.
 pub struct Pending {
     pub typed: Span,
     pub range: Span,
@@ -46,114 +177,114 @@ pub struct Pending {
     pub kind: u32,
 }
 
-// ---- what a token does: 0 it can't go on
+// ---- what a token does
 
-// 13 `;` and 14 `{` end a heading.
+// `;` and `{` end a heading.
 fn end_act(kind: u32, k: u32) -> u32
     ensures { λ r. ⌜ r ≡ endAct kind k ⌝ }
 {
-    if kind == 258 {
-        if k == 123 {
-            return 14;
+    if kind == COMPOUND_TYPE {
+        if k == BRACE_OPENS {
+            return OPEN_BODY;
         }
-        return 0;
+        return STUCK;
     }
-    if k == 59 {
-        return 13;
+    if k == SEMICOLON {
+        return END_HEADING;
     }
-    0
+    STUCK
 }
 
-// 12 `plugin`.
+// `plugin`, or the heading's end.
 fn plugin_act(context: u32, kind: u32, k: u32) -> u32
     ensures { λ r. ⌜ r ≡ pluginAct context kind k ⌝ }
 {
-    if k == 261 {
-        if context == 0 {
-            return 0;
+    if k == PLUGIN {
+        if context == AT_TOP {
+            return STUCK;
         }
-        return 12;
+        return TAKE_PLUGIN;
     }
     end_act(kind, k)
 }
 
-// 9 `as`.
+// `as`, or what follows it.
 fn as_act(context: u32, kind: u32, k: u32) -> u32
     ensures { λ r. ⌜ r ≡ asAct context kind k ⌝ }
 {
-    if k == 260 {
-        if context == 0 {
-            return 0;
+    if k == AS {
+        if context == AT_TOP {
+            return STUCK;
         }
-        return 9;
+        return TAKE_AS;
     }
     plugin_act(context, kind, k)
 }
 
-// 6 `[` of a cardinality.
+// `[` of a cardinality, or what follows it.
 fn name_act(context: u32, kind: u32, k: u32) -> u32
     ensures { λ r. ⌜ r ≡ nameAct context kind k ⌝ }
 {
-    if k == 91 {
-        if context == 0 {
-            return 0;
+    if k == BRACKET_OPENS {
+        if context == AT_TOP {
+            return STUCK;
         }
-        return 6;
+        return OPEN_CARD;
     }
     as_act(context, kind, k)
 }
 
-// 1 a type.
+// A type: only a top's can't be a reference.
 fn type_act(context: u32, k: u32) -> u32
     ensures { λ r. ⌜ r ≡ typeAct context k ⌝ }
 {
-    if context == 0 {
-        if k < 259 {
-            return 1;
+    if context == AT_TOP {
+        if k < REFERENCE {
+            return TAKE_TYPE;
         }
-        return 0;
+        return STUCK;
     }
-    if context == 4 {
-        return 0;
+    if context == CLOSED_CONTEXT {
+        return STUCK;
     }
-    1
+    TAKE_TYPE
 }
 
 fn closing(context: u32, a: u32) -> u32
     ensures { λ r. ⌜ r ≡ closingAct context a ⌝ }
 {
-    if context == 1 {
+    if context == FIELDS_CONTEXT {
         return a;
     }
-    if context == 4 {
+    if context == CLOSED_CONTEXT {
         return a;
     }
-    0
+    STUCK
 }
 
-// 15 `}`, 17 `[` and 18 `]` of a group.
+// `}`, and `[` and `]` of a group.
 fn body_act(context: u32, k: u32) -> u32
     ensures { λ r. ⌜ r ≡ bodyAct context k ⌝ }
 {
-    if k == 125 {
-        return closing(context, 15);
+    if k == BRACE_CLOSES {
+        return closing(context, CLOSE_BODY);
     }
-    if k == 91 {
-        return closing(context, 17);
+    if k == BRACKET_OPENS {
+        return closing(context, OPEN_GROUP);
     }
-    if k == 93 {
-        if context == 3 {
-            return 18;
+    if k == BRACKET_CLOSES {
+        if context == GROUP_CONTEXT {
+            return CLOSE_GROUP;
         }
-        return 0;
+        return STUCK;
     }
-    0
+    STUCK
 }
 
 fn start_act(context: u32, k: u32) -> u32
     ensures { λ r. ⌜ r ≡ startAct context k ⌝ }
 {
-    if 256 <= k {
+    if RUNS <= k {
         return type_act(context, k);
     }
     body_act(context, k)
@@ -163,10 +294,10 @@ fn start_act(context: u32, k: u32) -> u32
 fn run_act(a: u32, k: u32) -> u32
     ensures { λ r. ⌜ r ≡ runAct a k ⌝ }
 {
-    if 256 <= k {
+    if RUNS <= k {
         return a;
     }
-    0
+    STUCK
 }
 
 // a where a certain mark is due.
@@ -176,86 +307,85 @@ fn mark_act(b: u32, a: u32, k: u32) -> u32
     if k == b {
         return a;
     }
-    0
+    STUCK
 }
 
-// 5 a name after a type, 2 `<`.
+// A name after a type, or `<`.
 fn typed_act(kind: u32, k: u32) -> u32
     ensures { λ r. ⌜ r ≡ typedAct kind k ⌝ }
 {
-    if 256 <= k {
-        return 5;
+    if RUNS <= k {
+        return TAKE_NAME;
     }
-    if kind == 256 {
-        return mark_act(60, 2, k);
+    if kind == RANGED_TYPE {
+        return mark_act(RANGE_OPENS, OPEN_RANGE, k);
     }
-    0
+    STUCK
 }
 
-// 10 a tag, 11 `?`.
+// A tag, or `?`.
 fn tag_act(k: u32) -> u32
     ensures { λ r. ⌜ r ≡ tagAct k ⌝ }
 {
-    if 256 <= k {
-        return 10;
+    if RUNS <= k {
+        return TAKE_TAG;
     }
-    mark_act(63, 11, k)
+    mark_act(QUESTION, TAKE_NO_TAG, k)
 }
 
-// context: 0 at the top, else one more than the body's number; kind: the type's; k: the token's.
-// 16 `;` after a body, 3 a type's range, 4 `>`, 19 a name after a range, 7 a cardinality's range, 8 its `]`.
+// What the token of kind k does, in a context, after a type of a kind.
 pub fn act(mode: u32, context: u32, kind: u32, k: u32) -> u32
     ensures { λ r. ⌜ r ≡ actOf mode context kind k ⌝ }
 {
     match mode {
-        0 => start_act(context, k),
-        1 => mark_act(59, 16, k),
-        2 => typed_act(kind, k),
-        3 => run_act(3, k),
-        4 => mark_act(62, 4, k),
-        5 => run_act(19, k),
-        6 => name_act(context, kind, k),
-        7 => as_act(context, kind, k),
-        8 => plugin_act(context, kind, k),
-        9 => end_act(kind, k),
-        10 => run_act(7, k),
-        11 => tag_act(k),
-        _ => mark_act(93, 8, k),
+        AT_START => start_act(context, k),
+        DUE_SEMICOLON => mark_act(SEMICOLON, END_BODY, k),
+        AFTER_TYPE => typed_act(kind, k),
+        DUE_RANGE => run_act(TAKE_RANGE, k),
+        DUE_RANGE_END => mark_act(RANGE_CLOSES, CLOSE_RANGE, k),
+        DUE_NAME => run_act(TAKE_NAME_AFTER_RANGE, k),
+        AFTER_NAME => name_act(context, kind, k),
+        AFTER_CARD => as_act(context, kind, k),
+        AFTER_TAG => plugin_act(context, kind, k),
+        AFTER_PLUGIN => end_act(kind, k),
+        DUE_CARD => run_act(TAKE_CARD, k),
+        DUE_TAG => tag_act(k),
+        _ => mark_act(BRACKET_CLOSES, CLOSE_CARD, k),
     }
 }
 
-// The mode after each act.
+// The mode after each act, in the order of the acts.
 const NEXT: [u32; 20] = [
-    0,
-    2,
-    3,
-    4,
-    5,
-    6,
-    10,
-    12,
-    7,
-    11,
-    8,
-    8,
-    9,
-    0,
-    0,
-    1,
-    0,
-    0,
-    0,
-    6,
+    AT_START,
+    AFTER_TYPE,
+    DUE_RANGE,
+    DUE_RANGE_END,
+    DUE_NAME,
+    AFTER_NAME,
+    DUE_CARD,
+    DUE_CARD_END,
+    AFTER_CARD,
+    DUE_TAG,
+    AFTER_TAG,
+    AFTER_TAG,
+    AFTER_PLUGIN,
+    AT_START,
+    AT_START,
+    DUE_SEMICOLON,
+    AT_START,
+    AT_START,
+    AT_START,
+    AFTER_NAME,
 ];
 
 fn next_mode(a: u32) -> u32
     ensures { λ r. ⌜ r ≡ nextMode a ⌝ }
 {
-    if a < 20 {
+    if a < ACTS {
         let i = a as usize;
         return NEXT[i];
     }
-    0
+    AT_START
 }
 
 // ---- the state
@@ -264,7 +394,7 @@ pub fn start() -> State
     ensures { λ r. ⌜ r ≡ started ⌝ }
 {
     State {
-        mode: 0,
+        mode: AT_START,
         depth: 0,
         numbers: [0, 0, 0, 0, 0, 0, 0, 0],
         bodies: [0, 0, 0, 0, 0, 0, 0, 0],
@@ -273,10 +403,10 @@ pub fn start() -> State
     }
 }
 
-fn entry(row: [u32; 8], i: usize) -> u32
+fn entry(row: [u32; numbers::DEPTH_LIMIT], i: usize) -> u32
     ensures { λ r. ⌜ r ≡ entryOf row i ⌝ }
 {
-    if i < 8 {
+    if i < numbers::DEPTH_LIMIT {
         return row[i];
     }
     0
@@ -285,8 +415,8 @@ fn entry(row: [u32; 8], i: usize) -> u32
 fn body_after(m: u32) -> u32
     ensures { λ r. ⌜ r ≡ bodyAfter m ⌝ }
 {
-    if m == 1 {
-        return 2;
+    if m == GROUP_OPENED {
+        return IN_GROUP;
     }
     m
 }
@@ -294,10 +424,10 @@ fn body_after(m: u32) -> u32
 fn context_number(m: u32) -> u32
     ensures { λ r. ⌜ r ≡ contextNumber m ⌝ }
 {
-    if m < 3 {
+    if m < GROUPS_CLOSED {
         return m + 1;
     }
-    4
+    CLOSED_CONTEXT
 }
 
 // The number before, and 0 before 0.
@@ -311,47 +441,49 @@ fn one_less(n: usize) -> usize
 fn over_after(count: usize, over: usize, name: usize) -> usize
     ensures { λ r. ⌜ r ≡ overOf count over name ⌝ }
 {
-    if count == 256 {
+    if count == numbers::PARAMETER_LIMIT {
         return name;
     }
     over
 }
 
+// More declarations than any text has, where counting stops.
+const MANY: usize = numbers::TEXT_LIMIT + 1;
+
 fn one_more(count: usize) -> usize
     ensures { λ r. ⌜ r ≡ moreOf count ⌝ }
 {
-    if count < 65536 {
+    if count < MANY {
         return count + 1;
     }
     count
 }
 
 impl State {
-    // 0 at the top, else one more than the number of the innermost body's part.
     pub fn context(self) -> u32
         ensures { λ r. ⌜ r ≡ contextOf self ⌝ }
     {
         let d = self.depth;
         if d == 0 {
-            return 0;
+            return AT_TOP;
         }
         let row = self.bodies;
         context_number(entry(row, d - 1))
     }
 
-    // The number of the parameter whose body is open, 65,535 at the top.
+    // The number of the parameter whose body is open.
     fn parent(self) -> u32
         ensures { λ r. ⌜ r ≡ parentNumber self ⌝ }
     {
         let d = self.depth;
         if d == 0 {
-            return 65535;
+            return definition_cells::NO_PARENT;
         }
         let row = self.numbers;
         entry(row, d - 1)
     }
 
-    // The innermost body is in its part m.
+    // The innermost body is as far as m.
     fn in_body(mut self, m: u32) -> State
         ensures { λ r. ⌜ r ≡ withBody self m ⌝ }
     {
@@ -360,7 +492,7 @@ impl State {
             return self;
         }
         let i = d - 1;
-        if 8 <= i {
+        if numbers::DEPTH_LIMIT <= i {
             return self;
         }
         self.bodies[i] = m;
@@ -385,11 +517,11 @@ impl State {
     {
         let d = self.depth;
         let c = self.count;
-        if 8 <= d {
+        if numbers::DEPTH_LIMIT <= d {
             return self;
         }
         self.numbers[d] = (c % 65536) as u32;
-        self.bodies[d] = 0;
+        self.bodies[d] = IN_FIELDS;
         self.depth = d + 1;
         self
     }
@@ -422,11 +554,11 @@ impl State {
     {
         let st = self.moved(a);
         match a {
-            13 => st.field_done().counted(name),
-            14 => st.field_done().pushed().counted(name),
-            15 => st.popped(),
-            17 => st.in_body(1),
-            18 => st.in_body(3),
+            END_HEADING => st.field_done().counted(name),
+            OPEN_BODY => st.field_done().pushed().counted(name),
+            CLOSE_BODY => st.popped(),
+            OPEN_GROUP => st.in_body(GROUP_OPENED),
+            CLOSE_GROUP => st.in_body(GROUPS_CLOSED),
             _ => st,
         }
     }
@@ -446,9 +578,9 @@ pub fn nothing() -> Pending
         tag: z,
         ranged: 0,
         carded: 0,
-        tagged: 0,
+        tagged: definition_cells::OWN_NAME,
         plugin: 0,
-        kind: 259,
+        kind: REFERENCE,
     }
 }
 
@@ -477,7 +609,7 @@ impl Pending {
         self.tag = x;
         self.ranged = given;
         self.carded = 0;
-        self.tagged = 0;
+        self.tagged = definition_cells::OWN_NAME;
         self.plugin = 0;
         self
     }
@@ -493,7 +625,7 @@ impl Pending {
         ensures { λ r. ⌜ r ≡ cardedOf self x ⌝ }
     {
         self.card = x;
-        self.carded = 1;
+        self.carded = definition_cells::GIVEN;
         self
     }
 
@@ -501,21 +633,21 @@ impl Pending {
         ensures { λ r. ⌜ r ≡ taggedOf self x ⌝ }
     {
         self.tag = x;
-        self.tagged = 2;
+        self.tagged = definition_cells::EXPLICIT;
         self
     }
 
     fn untagged(mut self) -> Pending
         ensures { λ r. ⌜ r ≡ untaggedOf self ⌝ }
     {
-        self.tagged = 1;
+        self.tagged = definition_cells::TAGLESS;
         self
     }
 
     fn with_plugin(mut self) -> Pending
         ensures { λ r. ⌜ r ≡ pluggedOf self ⌝ }
     {
-        self.plugin = 1;
+        self.plugin = definition_cells::GIVEN;
         self
     }
 
@@ -523,14 +655,14 @@ impl Pending {
         ensures { λ r. ⌜ r ≡ pendingBy self a kind x ⌝ }
     {
         match a {
-            1 => self.with_type(kind, x),
-            3 => self.with_range(x),
-            5 => self.rangeless().with_name(0, x),
-            7 => self.with_card(x),
-            10 => self.with_tag(x),
-            11 => self.untagged(),
-            12 => self.with_plugin(),
-            19 => self.with_name(1, x),
+            TAKE_TYPE => self.with_type(kind, x),
+            TAKE_RANGE => self.with_range(x),
+            TAKE_NAME => self.rangeless().with_name(0, x),
+            TAKE_CARD => self.with_card(x),
+            TAKE_TAG => self.with_tag(x),
+            TAKE_NO_TAG => self.untagged(),
+            TAKE_PLUGIN => self.with_plugin(),
+            TAKE_NAME_AFTER_RANGE => self.with_name(definition_cells::GIVEN, x),
             _ => self,
         }
     }
@@ -538,25 +670,18 @@ impl Pending {
 
 // ---- notes
 
-fn put(cells: &mut [u32], i: usize, x: u32)
-    ensures { λ _. ⌜ now (cells .exit) ≡ set (now (cells .entry)) i x ⌝ }
-{
-    if i < cells.len() {
-        cells[i] = x;
-    }
-}
-
 // Four numbers from a place on.
 fn put_four(cells: &mut [u32], j: usize, a: u32, b: u32, c: u32, d: u32)
     requires { ⌜ j < 1048582 ⌝ }
     ensures { λ _. ⌜ now (cells .exit) ≡ sets (now (cells .entry)) j (a ∷ b ∷ c ∷ d ∷ []) ⌝ }
 {
-    put(cells, j, a);
-    put(cells, j + 1, b);
-    put(cells, j + 2, c);
-    put(cells, j + 3, d);
+    numbers::set_cell(cells, j, a);
+    numbers::set_cell(cells, j + 1, b);
+    numbers::set_cell(cells, j + 2, c);
+    numbers::set_cell(cells, j + 3, d);
 }
 
+// The runs but for the tag's, as they stand among a declaration's numbers.
 fn put_runs(cells: &mut [u32], j: usize, p: Pending)
     requires { ⌜ j < 1048576 ⌝ }
     ensures { λ _. ⌜ now (cells .exit) ≡ sets (now (cells .entry)) j (runCells p) ⌝ }
@@ -571,7 +696,7 @@ fn put_runs(cells: &mut [u32], j: usize, p: Pending)
     );
     put_four(
         cells,
-        j + 4,
+        j + definition_cells::NAME,
         p.name.start,
         p.name.end,
         p.card.start,
@@ -579,6 +704,7 @@ fn put_runs(cells: &mut [u32], j: usize, p: Pending)
     );
 }
 
+// The numbers from the tag's on.
 fn put_rest(cells: &mut [u32], j: usize, p: Pending, extension: u32, parent: u32)
     requires { ⌜ j < 1048577 ⌝ }
     ensures { λ _. ⌜ now (cells .exit) ≡ sets (now (cells .entry)) j (restCells p extension parent) ⌝ }
@@ -589,22 +715,22 @@ fn put_rest(cells: &mut [u32], j: usize, p: Pending, extension: u32, parent: u32
 
 // The numbers of declaration i.
 fn put_cells(cells: &mut [u32], i: usize, p: Pending, extension: u32, parent: u32)
-    requires { ⌜ i < 256 ⌝ }
-    ensures { λ _. ⌜ now (cells .exit) ≡ sets (now (cells .entry)) (16 * i) (cellsOf p extension parent) ⌝ }
+    requires { ⌜ i < parameterLimit ⌝ }
+    ensures { λ _. ⌜ now (cells .exit) ≡ sets (now (cells .entry)) (cellWidth * i) (cellsOf p extension parent) ⌝ }
 {
-    let j = 16 * i;
+    let j = definition_cells::WIDTH * i;
     put_runs(cells, j, p);
-    put_rest(cells, j + 8, p, extension, parent);
+    put_rest(cells, j + definition_cells::TAG, p, extension, parent);
 }
 
 fn is_extension(context: u32) -> u32
     ensures { λ r. ⌜ r ≡ extensionFlag context ⌝ }
 {
-    if context == 2 {
-        return 1;
+    if context == OPENED_CONTEXT {
+        return definition_cells::GIVEN;
     }
-    if context == 3 {
-        return 1;
+    if context == GROUP_CONTEXT {
+        return definition_cells::GIVEN;
     }
     0
 }
@@ -612,10 +738,10 @@ fn is_extension(context: u32) -> u32
 fn is_note(a: u32) -> bool
     ensures { λ r. ⌜ r ≡ notes a ⌝ }
 {
-    if a == 13 {
+    if a == END_HEADING {
         return true;
     }
-    a == 14
+    a == OPEN_BODY
 }
 
 // Notes a declaration where its heading ends, one of the first 256.
@@ -624,7 +750,7 @@ pub fn note(st: State, p: Pending, a: u32, cells: &mut [u32])
 {
     let c = st.count;
     if is_note(a) {
-        if c < 256 {
+        if c < numbers::PARAMETER_LIMIT {
             put_cells(cells, c, p, is_extension(st.context()), st.parent());
         }
     }

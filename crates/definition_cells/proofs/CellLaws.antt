@@ -4,9 +4,10 @@ use mathlib.Core.List.{List, [], _∷_}
 use Prim.Native.Nat.{ℕ, zero, suc, _+_, _-_, _*_, _/_, _<_, _≤_}
 use native.Mathlib.Numerals.{add-one}
 use native.Mathlib.Omega.{arith}
-use lib.ListN.{length, getD, take, drop, length-drop, drop-of-length-le, List·getD-eq-default}
-use lib.Seq.{take-all, take-nil}
-use Rattle.definition_cells.specs.Cells.{cellAt, part, runAt, notedAt, notedFrom}
+use lib.ListN.{length, getD, List·getD-eq-default}
+use Rattle.classes.proofs.Rows.{part-back}
+use Rattle.classes.specs.Lists.{part}
+use Rattle.definition_cells.specs.Cells.{cellAt, runAt, notedAt, notedFrom}
 use Rattle.definition_rules.specs.Declarations.{Noted}
 
 -- ---- one number
@@ -19,19 +20,6 @@ cell-far cs i k h = cell-out cs i k (omega arith)
 
 pub cell-wide : (cs : List ℕ) (i k : ℕ) → length cs ≤ k → 0 ≡ cellAt cs i k
 cell-wide cs i k h = cell-out cs i k (omega arith)
-
--- ---- a part of a text, with any bounds
-
-pub part-over : (t : List ℕ) (p e : ℕ) → length t < e → take (length t - p) (drop p t) ≡ part t p e
-part-over t p e h =
-    take-all (length t - p) (drop p t) (simp length-drop (omega arith))
-    ∙ sym (take-all (e - p) (drop p t) (simp length-drop (omega arith)))
-
-pub part-none : (t : List ℕ) (p e : ℕ) → length t < p → [] ≡ part t p e
-part-none t p e h = let q : length t ≤ p = omega arith in rw (drop-of-length-le t q, take-nil)
-
-pub part-back : (t : List ℕ) (p e : ℕ) → e ≤ p → [] ≡ part t p e
-part-back t p e h = let q : e - p ≡ 0 = omega arith in rw q
 
 -- ---- a run
 

@@ -119,3 +119,9 @@ module _ (f : ℕ → Place) (n i : ℕ) (all best x : Place) (inv : all ≡ les
 pub loop-start : (f : ℕ → Place) (n : ℕ) → leastFrom f n 0 ≡ lesser Nowhere (leastFrom f (n - 0) 0)
 unfolding lesser
 loop-start f n = let p : n - 0 ≡ n = omega arith in rw p
+
+-- no place, no fault
+pub least-none : (l : List ℕ) → leastPlace l ≡ Nowhere → l ≡ []
+unfolding leastPlace
+least-none [] e = refl
+least-none (p ∷ l) e = let z : _≡_ {A = ℕ} 0 1 = cc in absurd (omega arith)

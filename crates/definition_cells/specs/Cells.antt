@@ -1,10 +1,10 @@
 -- The declarations of a definition as the compiler keeps them: a row of numbers, cellWidth for each declaration.
 use mathlib.Core.List.{List, [], _∷_}
 use mathlib.Core.Bool.{Bool}
-use Prim.Native.Nat.{ℕ, zero, suc, _+_, _-_, _*_}
+use Prim.Native.Nat.{ℕ, zero, suc, _+_, _*_}
 use lib.Dec.{eqb}
-use lib.ListN.{getD, take, drop}
-use Rattle.classes.specs.Lists.{pick}
+use lib.ListN.{getD}
+use Rattle.classes.specs.Lists.{pick, part}
 use Rattle.reading_rules.specs.Record.{Up}
 use Rattle.definition_rules.specs.Forms.{MaybeRun, absent, given, Tag, ownName, tagless, explicit, Heading, heading}
 use Rattle.definition_rules.specs.Declarations.{Declaration, declaration, Spots, Noted, noted}
@@ -19,10 +19,6 @@ cellWidth = 16
 
 abbrev pub cellAt : List ℕ → ℕ → ℕ → ℕ
 cellAt cs i k = getD cs (cellWidth * i + k) 0
-
--- the bytes of a text from a to e, e not included
-abbrev pub part : List ℕ → ℕ → ℕ → List ℕ
-part text a e = take (e - a) (drop a text)
 
 -- the run whose start is the declaration's k-th number
 unfoldable pub runAt : List ℕ → List ℕ → ℕ → ℕ → List ℕ

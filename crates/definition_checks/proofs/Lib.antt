@@ -1,3 +1,2 @@
 -- Laws of the checks, and of their answers.
 pub mod CheckLaws
-pub mod Findings

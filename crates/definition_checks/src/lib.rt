@@ -17,17 +17,28 @@ use definition_cells::Place;
 fn name_form_fault(text: &[u8], cells: &[u32], i: usize) -> Place
     ensures { λ r. ⌜ r ≡ spotOf nameBroken (λ s. s .nameAt) (notedAt (now (text .entry)) (now (cells .entry)) i) ⌝ }
 {
-    let broken = !definition_words::name_form(definition_cells::run(text, cells, i, 4));
-    definition_cells::at_if(broken, definition_cells::cell(cells, i, 4))
+    let broken = !definition_words::name_form(definition_cells::run(
+        text,
+        cells,
+        i,
+        definition_cells::NAME,
+    ));
+    definition_cells::at_if(
+        broken,
+        definition_cells::cell(cells, i, definition_cells::NAME),
+    )
 }
 
 fn reference_form_fault(text: &[u8], cells: &[u32], i: usize) -> Place
     ensures { λ r. ⌜ r ≡ spotOf referenceBroken (λ s. s .typeAt) (notedAt (now (text .entry)) (now (cells .entry)) i) ⌝ }
 {
-    let run = definition_cells::run(text, cells, i, 0);
-    if definition_words::kind_of_run(run) == 10 {
+    let run = definition_cells::run(text, cells, i, definition_cells::TYPE);
+    if definition_words::kind_of_run(run) == numbers::REFERENCE {
         let broken = !definition_words::name_form(run);
-        return definition_cells::at_if(broken, definition_cells::cell(cells, i, 0));
+        return definition_cells::at_if(
+            broken,
+            definition_cells::cell(cells, i, definition_cells::TYPE),
+        );
     }
     Place::Nowhere
 }
@@ -35,15 +46,23 @@ fn reference_form_fault(text: &[u8], cells: &[u32], i: usize) -> Place
 fn tag_form_fault(text: &[u8], cells: &[u32], i: usize) -> Place
     ensures { λ r. ⌜ r ≡ spotOf tagBroken (λ s. s .tagAt) (notedAt (now (text .entry)) (now (cells .entry)) i) ⌝ }
 {
-    let tag = definition_cells::cell(cells, i, 12);
-    if tag == 0 {
+    let tag = definition_cells::cell(cells, i, definition_cells::TAGGED);
+    if tag == definition_cells::OWN_NAME {
         return Place::Nowhere;
     }
-    if tag == 1 {
+    if tag == definition_cells::TAGLESS {
         return Place::Nowhere;
     }
-    let broken = !definition_words::tag_form(definition_cells::run(text, cells, i, 8));
-    definition_cells::at_if(broken, definition_cells::cell(cells, i, 8))
+    let broken = !definition_words::tag_form(definition_cells::run(
+        text,
+        cells,
+        i,
+        definition_cells::TAG,
+    ));
+    definition_cells::at_if(
+        broken,
+        definition_cells::cell(cells, i, definition_cells::TAG),
+    )
 }
 
 fn form_fault(text: &[u8], cells: &[u32], i: usize) -> Place
@@ -71,8 +90,8 @@ fn within_kind(k: u32, x: numbers::Range) -> bool
         numbers::Range::From(a, b) => within(
             a,
             b,
-            definition_headings::kind_least(k),
-            definition_headings::kind_most(k),
+            definition_words::kind_least(k),
+            definition_words::kind_most(k),
         ),
     }
 }
@@ -84,13 +103,16 @@ fn limits_fault(text: &[u8], cells: &[u32], i: usize) -> Place
         definition_headings::kind(text, cells, i),
         definition_headings::limits(text, cells, i),
     );
-    definition_cells::at_if(broken, definition_cells::cell(cells, i, 2))
+    definition_cells::at_if(
+        broken,
+        definition_cells::cell(cells, i, definition_cells::RANGE),
+    )
 }
 
 fn fine(a: u32, b: u32) -> bool
     ensures { λ r. ⌜ r ≡ (leb a 65534 && leb 1 b && leb a b) ⌝ }
 {
-    (a <= 65534) & (1 <= b) & (a <= b)
+    (a <= numbers::COUNT_LIMIT) & (1 <= b) & (a <= b)
 }
 
 fn count_fine(x: numbers::Range) -> bool
@@ -106,17 +128,17 @@ fn count_fine(x: numbers::Range) -> bool
 fn on_alternative(text: &[u8], cells: &[u32], n: usize, i: usize) -> bool
     ensures { λ r. ⌜ r ≡ onAlternative (now (text .entry)) (now (cells .entry)) n i ⌝ }
 {
-    let parent = definition_cells::cell(cells, i, 15) as usize;
-    if parent == 65535 {
+    let parent = definition_cells::cell(cells, i, definition_cells::PARENT) as usize;
+    if parent == numbers::NONE16 {
         return false;
     }
     if n <= parent {
         return false;
     }
-    if definition_headings::kind(text, cells, parent) != 9 {
+    if definition_headings::kind(text, cells, parent) != numbers::UNION {
         return false;
     }
-    definition_cells::cell(cells, i, 11) == 1
+    definition_cells::cell(cells, i, definition_cells::CARDED) == definition_cells::GIVEN
 }
 
 fn card_broken(text: &[u8], cells: &[u32], n: usize, i: usize) -> bool
@@ -124,7 +146,7 @@ fn card_broken(text: &[u8], cells: &[u32], n: usize, i: usize) -> bool
 {
     let counts = definition_headings::counts(text, cells, i);
     let broken = !count_fine(counts);
-    let many = (definition_headings::kind(text, cells, i) == 1)
+    let many = (definition_headings::kind(text, cells, i) == numbers::VOID)
         & (1 < definition_headings::high(counts));
     broken | (many | on_alternative(text, cells, n, i))
 }
@@ -133,7 +155,10 @@ fn range_fault(text: &[u8], cells: &[u32], n: usize, i: usize) -> Place
     ensures { λ r. ⌜ r ≡ rangeFault (now (text .entry)) (now (cells .entry)) n i ⌝ }
 {
     let broken = card_broken(text, cells, n, i);
-    let card = definition_cells::at_if(broken, definition_cells::cell(cells, i, 6));
+    let card = definition_cells::at_if(
+        broken,
+        definition_cells::cell(cells, i, definition_cells::CARD),
+    );
     definition_cells::lesser(limits_fault(text, cells, i), card)
 }
 
@@ -142,10 +167,12 @@ fn range_fault(text: &[u8], cells: &[u32], n: usize, i: usize) -> Place
 fn same_key(text: &[u8], cells: &[u32], i: usize, j: usize) -> bool
     ensures { λ r. ⌜ r ≡ sameKeyAt (now (text .entry)) (now (cells .entry)) i j ⌝ }
 {
-    if definition_cells::cell(cells, i, 15) == definition_cells::cell(cells, j, 15) {
+    if definition_cells::cell(cells, i, definition_cells::PARENT)
+        == definition_cells::cell(cells, j, definition_cells::PARENT)
+    {
         return classes::same_bytes(
-            definition_cells::run(text, cells, i, 4),
-            definition_cells::run(text, cells, j, 4),
+            definition_cells::run(text, cells, i, definition_cells::NAME),
+            definition_cells::run(text, cells, j, definition_cells::NAME),
         );
     }
     false
@@ -169,7 +196,10 @@ fn repeat_fault(text: &[u8], cells: &[u32], i: usize) -> Place
     ensures { λ r. ⌜ r ≡ repeatFault (now (text .entry)) (now (cells .entry)) i ⌝ }
 {
     let again = is_repeated(text, cells, i);
-    definition_cells::at_if(again, definition_cells::cell(cells, i, 4))
+    definition_cells::at_if(
+        again,
+        definition_cells::cell(cells, i, definition_cells::NAME),
+    )
 }
 
 // ---- 9: a reference to no top
@@ -177,10 +207,13 @@ fn repeat_fault(text: &[u8], cells: &[u32], i: usize) -> Place
 fn dangling_fault(text: &[u8], cells: &[u32], n: usize, i: usize) -> Place
     ensures { λ r. ⌜ r ≡ danglingFault (now (text .entry)) (now (cells .entry)) n i ⌝ }
 {
-    let run = definition_cells::run(text, cells, i, 0);
-    if definition_words::kind_of_run(run) == 10 {
-        let lost = definition_headings::find_top(text, cells, n, run) == 65535;
-        return definition_cells::at_if(lost, definition_cells::cell(cells, i, 0));
+    let run = definition_cells::run(text, cells, i, definition_cells::TYPE);
+    if definition_words::kind_of_run(run) == numbers::REFERENCE {
+        let lost = definition_headings::find_top(text, cells, n, run) == numbers::NONE16;
+        return definition_cells::at_if(
+            lost,
+            definition_cells::cell(cells, i, definition_cells::TYPE),
+        );
     }
     Place::Nowhere
 }

@@ -15,9 +15,9 @@ use Rattle.definition_rules.specs.Words.{ByteClass, inRun, classOf}
 use Rattle.definition_rules.specs.Words as words
 use Rattle.definition_rules.specs.Scan.{run, mark, Item, gap, item, bad, outside, lineComment, opening, comment, star, startsWith, scan, itemsOf}
 use mathlib.Core.Logic.{_⊎_, inl, inr}
-use Rattle.definition_rules.proofs.ScanLaws.{at-blank, at-single, at-other, at-slash, at-longest-run, StartsNoRun}
+use Rattle.definition_rules.proofs.ScanLaws.{at-blank, at-single, at-other, at-slash, at-longest-run, StartsNoRun, class-run}
 use Rattle.definition_scanner.specs.Live.{live, liveFrom}
-use Rattle.definition_scanner.proofs.Steps.{class-run, not-run, class-blank, class-single, class-other, class-slash, comment-step, comment-stop}
+use Rattle.definition_scanner.proofs.Steps.{not-run, class-blank, class-single, class-other, class-slash, comment-step, comment-stop}
 use Rattle.definition_rules.specs.Cut.{StopsRun, NoLf, NoClose, Stray, Cut, ends, blank, line, lastLine, block, endless, longest, single, other}
 
 -- ---- the scan of each part

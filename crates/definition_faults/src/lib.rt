@@ -21,18 +21,30 @@ fn fault_at(
 {
     if rule == 7 {
         let broken = table_checks::rule7_broken(table, unpacked, n, i);
-        return definition_cells::at_if(broken, definition_cells::cell(cells, i, 4));
+        return definition_cells::at_if(
+            broken,
+            definition_cells::cell(cells, i, definition_cells::NAME),
+        );
     }
     if rule == 8 {
         let again = table_tags::tag_again(table, unpacked, n, i);
-        return definition_cells::at_if(again, definition_cells::cell(cells, i, 8));
+        return definition_cells::at_if(
+            again,
+            definition_cells::cell(cells, i, definition_cells::TAG),
+        );
     }
     if rule == 9 {
         let wrong = table_checks::root_no_struct(table, unpacked, i);
-        return definition_cells::at_if(wrong, definition_cells::cell(cells, i, 4));
+        return definition_cells::at_if(
+            wrong,
+            definition_cells::cell(cells, i, definition_cells::NAME),
+        );
     }
     let endless = table_checks::is_endless(table, unpacked, have, i);
-    definition_cells::at_if(endless, definition_cells::cell(cells, i, 4))
+    definition_cells::at_if(
+        endless,
+        definition_cells::cell(cells, i, definition_cells::NAME),
+    )
 }
 
 // The least place of a fault under the refusal's number, over all parameters. The records' lists are made, so that a tag

@@ -10,16 +10,17 @@ use lib.Dec.{eqb, ltb}
 use lib.ListN.{length, getD, set, drop, length-append, length-set}
 use lib.Seq.{sets, getD-set-same, getD-set-other, length-sets, drop-append-le}
 use Rattle.numbers.specs.Limits.{none16}
-use Rattle.classes.specs.Lists.{pick, All}
+use Rattle.classes.specs.Lists.{pick, All, part}
 use Rattle.reading_rules.specs.Record.{Up, top, under}
 use Rattle.definition_rules.specs.Declarations.{Declaration, declaration, Spots, Noted, noted}
 use Rattle.definition_rules.specs.Table.{numberUp}
 use Rattle.definition_rules.specs.Faults.{nameSpots}
-use Rattle.definition_cells.specs.Cells.{cellAt, part, runAt, maybeRunAt, tagAt, notedAt, notedFrom}
+use Rattle.definition_cells.specs.Cells.{cellAt, runAt, maybeRunAt, tagAt, notedAt, notedFrom}
 use Rattle.definition_scanner.proofs.LiveLaws.{AtLeast}
 use Rattle.definition_automaton.specs.Noting.{runCells, restCells, cellsOf}
 use Rattle.definition_automaton.specs.declared.Pending.{Pending}
 use Rattle.definition_automaton.proofs.Views.{spotsIn, headingIn}
+use Rattle.definition_rules.proofs.Spots.{names-length}
 
 -- ---- stores
 
@@ -80,11 +81,6 @@ pub record Kept (text cells : List ℕ) (before : List Noted) (count over : ℕ)
   pub counted : length before ≡ count
   pub first : count ≤ 256 → notedFrom text cells count 0 ≡ before
   pub past : 256 < count → Past before over
-
-names-length : (ns : List Noted) → length (nameSpots ns) ≡ length ns
-unfolding nameSpots
-names-length [] = refl
-names-length (noted s d ∷ r) = ap suc (names-length r)
 
 names-append : (xs ys : List Noted) → nameSpots (xs ++ ys) ≡ nameSpots xs ++ nameSpots ys
 unfolding nameSpots

@@ -1,42 +1,19 @@
 -- What a run's number says of the run.
 use mathlib.Core.Path.{_≡_, refl, sym, ap, subst, _∙_}
 use mathlib.Core.Bool.{Bool, true, false, not, _&&_, _||_}
-use mathlib.Core.List.{List, [], _∷_}
-use Prim.Native.Nat.{ℕ, zero, suc, _+_, _≤_, _<_}
+use mathlib.Core.List.{List, []}
+use Prim.Native.Nat.{ℕ, zero, _≤_, _<_}
 use native.Mathlib.Omega.{arith}
 use lib.Dec.{eqb, leb, ltb}
-use lib.ListN.{length}
 use borrow.Author.Tests.{eqb-true, eqb-false, eq-eqb, ne-eqb, lt-ltb, le-ltb, lt-leb, le-leb, leb-true, leb-false, ltb-true, ltb-false}
+use Rattle.classes.proofs.Rows.{same-true}
 use Rattle.classes.specs.Lists.{pick, sameBytes}
 use Rattle.classes.specs.Bytes.{isMark}
-use Rattle.definition_rules.specs.Words.{kwAs, kwPlugin, kwVoid, kwBool, kwInt, kwAscii, kwUnquoted, kwDate, kwTime, kwStruct, kwUnion, numberIf, numberIn, kindOfRun, takesRange, isCompound, isReference}
+use Rattle.definition_rules.specs.Words.{kwAs, kwPlugin, numberIf, numberIn, kindOfRun, takesRange, isCompound, isReference}
 use Rattle.definition_words.proofs.WordLaws.{same-sym}
 use Rattle.definition_automaton.specs.Acts.{typeKind, runKind}
 use Rattle.definition_automaton.proofs.StepLaws.{KindFacts}
-
-same-eq : (a b : List ℕ) → sameBytes a b ≡ true → a ≡ b
-unfolding sameBytes
-same-eq [] [] h = refl
-same-eq [] (b ∷ l) h = absurd (let n : _≡_ {A = ℕ} 0 1 = cc in omega arith)
-same-eq (a ∷ k) [] h = absurd (let n : _≡_ {A = ℕ} 0 1 = cc in omega arith)
-same-eq (a ∷ k) (b ∷ l) h = go (eqb a b) refl h (same-eq k l)
-  where
-    go : (t : Bool) → eqb a b ≡ t → (t && sameBytes k l) ≡ true → (sameBytes k l ≡ true → k ≡ l) → a ∷ k ≡ b ∷ l
-    go true e q f = rw (eqb-true a b e, f q)
-    go false e q f = absurd (let n : _≡_ {A = ℕ} 0 1 = cc in omega arith)
-
-number-le : (vs : List (List ℕ)) (k : ℕ) (w : List ℕ) → numberIn vs k w ≤ k + length vs
-unfolding numberIn numberIf
-number-le [] k w = omega arith
-number-le (v ∷ vs) k w = go (sameBytes v w) (number-le vs (suc k) w)
-  where
-    go : (t : Bool) → numberIn vs (suc k) w ≤ suc k + length vs → numberIf t k (numberIn vs (suc k) w) ≤ k + suc (length vs)
-    go true h = omega arith
-    go false h = omega arith
-
-kind-le : (w : List ℕ) → kindOfRun w ≤ 10
-unfolding kindOfRun
-kind-le w = number-le (kwVoid ∷ kwBool ∷ kwInt ∷ kwAscii ∷ kwUnquoted ∷ kwDate ∷ kwTime ∷ kwStruct ∷ kwUnion ∷ []) 1 w
+use Rattle.definition_rules.proofs.RunLaws.{kind-le}
 
 -- the parts that depend on the kind alone
 record TypeFacts (k n : ℕ) : Type 0 where
@@ -79,8 +56,8 @@ unfolding runKind pick
 kind-facts w = go (sameBytes kwAs w) (sameBytes kwPlugin w) refl refl
   where
     go : (a b : Bool) → sameBytes kwAs w ≡ a → sameBytes kwPlugin w ≡ b → KindFacts w (pick a 260 (pick b 261 (typeKind (kindOfRun w))))
-    go true b e f = subst (λ v. KindFacts v 260) (same-eq kwAs w e) as-facts
-    go false true e f = subst (λ v. KindFacts v 261) (same-eq kwPlugin w f) plugin-facts
+    go true b e f = subst (λ v. KindFacts v 260) (same-true kwAs w e) as-facts
+    go false true e f = subst (λ v. KindFacts v 261) (same-true kwPlugin w f) plugin-facts
     go false false e f =
         let t = type-facts (kindOfRun w) (kind-le w) in
         record {
@@ -91,16 +68,6 @@ kind-facts w = go (sameBytes kwAs w) (sameBytes kwPlugin w) refl refl
           plug = same-sym w kwPlugin ∙ (f ∙ sym (ne-eqb (typeKind (kindOfRun w)) 261 (λ q. omega (arith, t .small))));
           least = t .least;
         }
-
-pub mark-small : (b : ℕ) → isMark b ≡ true → b < 256
-unfolding isMark
-mark-small b h = go (ltb b 256) refl
-  where
-    go : (t : Bool) → ltb b 256 ≡ t → b < 256
-    go true e = ltb-true b 256 e
-    go false e =
-        let l = ltb-false b 256 e in
-        absurd (let n : false ≡ true = sym (rw (ne-eqb b 60 (λ q. omega arith), ne-eqb b 62 (λ q. omega arith), ne-eqb b 91 (λ q. omega arith), ne-eqb b 93 (λ q. omega arith), ne-eqb b 123 (λ q. omega arith), ne-eqb b 125 (λ q. omega arith), ne-eqb b 59 (λ q. omega arith), ne-eqb b 63 (λ q. omega arith))) ∙ h in let z : _≡_ {A = ℕ} 0 1 = cc in omega arith)
 
 pub mark-some : (b : ℕ) → isMark b ≡ true → b ≡ 0 → ⊥
 unfolding isMark

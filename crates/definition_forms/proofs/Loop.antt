@@ -9,8 +9,10 @@ use lib.Dec.{eqb, leb, ltb}
 use lib.ListN.{length, drop}
 use lib.Seq.{sets, length-sets}
 use borrow.Author.Tests.{eqb-true, eqb-false, eq-eqb, ne-eqb, lt-ltb, le-ltb, leb-false, ltb-true, ltb-false}
+use Rattle.classes.proofs.Segment.{mark-small}
+use Rattle.classes.proofs.Rows.{both-nil}
 use Rattle.numbers.specs.Limits.{parameterLimit, depthLimit}
-use Rattle.classes.specs.Lists.{pick}
+use Rattle.classes.specs.Lists.{pick, part}
 use Rattle.classes.specs.Bytes.{isMark}
 use Rattle.definition_rules.specs.Scan.{TextToken, run, mark, Item, item, bad, itemsOf, badPlaces, deepPlaces, placeIf, isDeepBrace, bracesAfter}
 use Rattle.definition_rules.specs.Declarations.{Declaration, declaration, Noted, noted, Frame, frame, Phase, atStart, dueSemicolon, Action, stop, move, note, step, Outcome, stuckAt, complete, mapOutcome, endIf, atEnd, parentOf}
@@ -18,7 +20,7 @@ use Rattle.definition_rules.specs.Declarations.{isUnderExtension}
 use Rattle.definition_rules.specs.Table.{numberUp}
 use Rattle.definition_rules.specs.Faults.{nameSpots, faults4}
 use Rattle.definition_rules.specs.Compile.{leastOf, tokenPlace, tokenPlaces, faults2, outcomeOf}
-use Rattle.definition_cells.specs.Cells.{part, notedFrom}
+use Rattle.definition_cells.specs.Cells.{notedFrom}
 use Rattle.definition_scanner.specs.Live.{liveFrom}
 use Rattle.definition_scanner.specs.First.{faultsFrom}
 use Rattle.definition_scanner.proofs.FaultLaws.{all-faults, least-same}
@@ -40,7 +42,8 @@ use Rattle.definition_forms.proofs.PlacedLaws.{places-drop, names-place
 use Rattle.definition_forms.proofs.Placing.{parsePlaced, placedOutcome, outcome-is, stuck-back, complete-back}
 use Rattle.definition_forms.proofs.Keeping.{noted-more, Past, Kept, kept-first, kept-over, kept-past}
 use Rattle.definition_forms.proofs.Moving.{Sized, context-is, extension-is, Below, below-more, parent-is, below-stay, below-after, After, after-is, Braced, act-braced, opens, types, closes, after-deep, depth-is}
-use Rattle.definition_forms.proofs.KindLaws.{kind-facts, mark-small, mark-some, none-kind}
+use Rattle.definition_forms.proofs.KindLaws.{kind-facts, mark-some, none-kind}
+use Rattle.definition_rules.proofs.ScanLaws.{place-none}
 
 pick-on : {A : Type 0} (P : A → Type 0) (t : Bool) (a b : A) → (t ≡ true → P a) → P b → P (pick t a b)
 unfolding pick
@@ -130,10 +133,6 @@ pub record Inv (text cells : List ℕ) (x : Seen) (s : State) (p : Pending) : Ty
   pub late : 256 < s .count → s .over ≤ p .name .start
   pub counted : s .count ≤ x .start
 
-append-empty : (xs ys : List ℕ) → xs ++ ys ≡ [] → (xs ≡ []) × (ys ≡ [])
-append-empty [] ys e = (refl, e)
-append-empty (x ∷ xs) ys e = absurd (let n : _≡_ {A = ℕ} 0 1 = cc in omega arith)
-
 map-same : (o : Outcome (List Noted)) → o ≡ mapOutcome (λ r. [] ++ r) o
 unfolding mapOutcome
 map-same (stuckAt i) = refl
@@ -141,7 +140,7 @@ map-same (complete ns) = refl
 
 pub inv-start : (text cells : List ℕ) (x : Seen) (s : State) (p : Pending) → faults2 (itemsOf text) ≡ [] → Sees text 0 x → s ≡ started → p ≡ none → Inv text cells x s p
 inv-start text cells x s p clean l es ep =
-    let c = append-empty (badPlaces (liveFrom text 0)) (deepPlaces 0 (liveFrom text 0)) (unfold faultsFrom in (sym (all-faults text) ∙ clean)) in
+    let c = both-nil (badPlaces (liveFrom text 0)) (deepPlaces 0 (liveFrom text 0)) (unfold faultsFrom in (sym (all-faults text) ∙ clean)) in
     rw (es, ep) (record {
       at = 0;
       sees = l;
@@ -214,11 +213,6 @@ name-between p a n x h =
     (pick-on (Between p (x .start)) (eqb a 12) _ _ (λ _. stay)
     (pick-on (Between p (x .start)) (eqb a 19) _ _ (λ _. new) stay)))))))
 
-if-none : (t : Bool) (p : ℕ) (r : List ℕ) → placeIf t p r ≡ [] → (t ≡ false) × (r ≡ [])
-unfolding placeIf
-if-none true p r e = absurd (let n : _≡_ {A = ℕ} 0 1 = cc in omega arith)
-if-none false p r e = (refl, e)
-
 module _ {text cells : List ℕ} {x : Seen} {s : State} {p : Pending} (i : Inv text cells x s p) (a : ℕ) (act : a ≡ actOf (s .mode) (contextOf s) (p .kind) (x .kind)) where
   here : a ≡ actOf (s .mode) (contextIn (framesOf s)) (p .kind) (x .kind)
   here = act ∙ ap (λ c. actOf (s .mode) c (p .kind) (x .kind)) (context-is (s .mode) (s .numbers) (s .bodies) (s .count) (s .over) (s .depth) (i .sized .low))
@@ -232,7 +226,7 @@ module _ {text cells : List ℕ} {x : Seen} {s : State} {p : Pending} (i : Inv t
   after-mark : isMark (x .kind) ≡ true → liveFrom text (i .at) ≡ item (x .start) (mark (x .kind)) ∷ liveFrom text (x .end) → Taken text (i .at) x s p a (i .deep)
   unfolding isDeepBrace bracesAfter pick
   after-mark b e =
-      let n = if-none (isDeepBrace (i .deep) (x .kind)) (x .start) (deepPlaces (bracesAfter (i .deep) (x .kind)) (liveFrom text (x .end))) (sym (deep-mark (i .deep) (liveFrom text (i .at)) (liveFrom text (x .end)) (x .start) (x .kind) e) ∙ i .nested) in
+      let n = place-none (isDeepBrace (i .deep) (x .kind)) (x .start) (deepPlaces (bracesAfter (i .deep) (x .kind)) (liveFrom text (x .end))) (sym (deep-mark (i .deep) (liveFrom text (i .at)) (liveFrom text (x .end)) (x .start) (x .kind) e) ∙ i .nested) in
       record {
         tok = mark (x .kind);
         cut = e;

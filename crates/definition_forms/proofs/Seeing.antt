@@ -4,7 +4,7 @@ use mathlib.Core.List.{List, [], _∷_}
 use Prim.Native.Nat.{ℕ, suc, _+_, _≤_, _<_}
 use native.Mathlib.Omega.{arith}
 use lib.ListN.{length}
-use Rattle.definition_cells.specs.Cells.{part}
+use Rattle.classes.specs.Lists.{part}
 use Rattle.definition_scanner.specs.Lexed.{Lexed, RunAt, MarkAt, BadAt}
 use Rattle.definition_scanner.specs.declared.Cursor.{Cursor}
 use Rattle.definition_scanner.specs.declared.Lexeme.{Lexeme}

@@ -4,11 +4,10 @@ use mathlib.Core.List.{List, [], _∷_}
 use Prim.Native.Nat.{ℕ, _≤_, _<_}
 use lib.Dec.{eqb, ltb}
 use lib.ListN.{length}
-use Rattle.classes.specs.Lists.{pick}
+use Rattle.classes.specs.Lists.{pick, part}
 use mathlib.Core.Bool.{true}
 use Rattle.classes.specs.Bytes.{isMark}
 use Rattle.definition_rules.specs.Scan.{Item, item, bad, run, mark}
-use Rattle.definition_cells.specs.Cells.{part}
 use Rattle.definition_scanner.specs.Live.{liveFrom}
 use Rattle.definition_automaton.specs.Acts.{runKind}
 use Rattle.definition_automaton.specs.declared.State.{State}

@@ -1,8 +1,10 @@
 // The forms of a definition: refusals 3 and 4, and the declarations noted in a lent row of numbers.
 ghost use mathlib.Core.Path.{_≡_};
 ghost use mathlib.Core.List.{[]};
-ghost use Prim.Native.Nat.{_≤_};
+ghost use Prim.Native.Nat.{_*_, _≤_};
 ghost use lib.ListN.{length};
+ghost use Rattle.definition_cells.specs.Cells.{cellWidth};
+ghost use Rattle.numbers.specs.Limits.{textLimit, parameterLimit};
 ghost use Rattle.definition_rules.specs.Scan.{itemsOf};
 ghost use Rattle.definition_rules.specs.Compile.{faults2};
 ghost use Rattle.definition_automaton.specs.Acts.{typeKind, runKind};
@@ -13,7 +15,7 @@ use definition_automaton::State;
 use definition_scanner::Cursor;
 use definition_scanner::Lexeme;
 
-// The token that stands next: 0 for the end, 1 for a bad byte, a mark's byte, or 256 and more for a run; where it starts and ends.
+// The token that stands next, by its kind, and where it starts and ends.
 pub struct Seen {
     pub kind: u32,
     pub start: usize,
@@ -27,34 +29,34 @@ pub enum Formed {
     Complete(usize),
 }
 
-// 256 a type that may have a range, 257 another simple type, 258 struct or union, 259 a reference.
+// The kind of a run that names a type.
 fn type_kind(k: u32) -> u32
     ensures { λ r. ⌜ r ≡ typeKind k ⌝ }
 {
-    if k == 10 {
-        return 259;
+    if k == numbers::REFERENCE {
+        return definition_automaton::REFERENCE;
     }
-    if 8 <= k {
-        return 258;
+    if numbers::STRUCT <= k {
+        return definition_automaton::COMPOUND_TYPE;
     }
-    if k < 3 {
-        return 257;
+    if k < numbers::INT {
+        return definition_automaton::SIMPLE_TYPE;
     }
-    if k <= 5 {
-        return 256;
+    if k <= numbers::UNQUOTED {
+        return definition_automaton::RANGED_TYPE;
     }
-    257
+    definition_automaton::SIMPLE_TYPE
 }
 
-// As type_kind, and 260 `as`, 261 `plugin`.
+// The kind of a run.
 fn run_kind(w: &[u8]) -> u32
     ensures { λ r. ⌜ r ≡ runKind (now (w .entry)) ⌝ }
 {
     if definition_words::is_as(w) {
-        return 260;
+        return definition_automaton::AS;
     }
     if definition_words::is_plugin(w) {
-        return 261;
+        return definition_automaton::PLUGIN;
     }
     type_kind(definition_words::kind_of_run(w))
 }
@@ -65,7 +67,7 @@ fn seen_from(c: Cursor, text: &[u8]) -> Seen
     match c.next(text) {
         Lexeme::Run(a, d) => {
             let e = d.at;
-            let w = definition_cells::part(text, a, e);
+            let w = classes::part(text, a, e);
             Seen {
                 kind: run_kind(w),
                 start: a,
@@ -78,14 +80,14 @@ fn seen_from(c: Cursor, text: &[u8]) -> Seen
             end: d.at,
         },
         Lexeme::Bad(p) => Seen {
-            kind: 1,
+            kind: definition_automaton::BAD,
             start: p,
             end: p + 1,
         },
         Lexeme::End => {
             let n = text.len();
             Seen {
-                kind: 0,
+                kind: definition_automaton::END,
                 start: n,
                 end: n,
             }
@@ -96,7 +98,7 @@ fn seen_from(c: Cursor, text: &[u8]) -> Seen
 fn finish(st: State, len: usize) -> Formed
     ensures { λ r. ⌜ r ≡ finishOf st len ⌝ }
 {
-    if st.mode != 0 {
+    if st.mode != definition_automaton::AT_START {
         return Formed::Stuck(len);
     }
     if st.depth != 0 {
@@ -105,7 +107,7 @@ fn finish(st: State, len: usize) -> Formed
     if st.count == 0 {
         return Formed::Stuck(len);
     }
-    if 256 < st.count {
+    if numbers::PARAMETER_LIMIT < st.count {
         return Formed::Over(st.over);
     }
     Formed::Complete(st.count)
@@ -114,17 +116,17 @@ fn finish(st: State, len: usize) -> Formed
 // Reads the forms of a text without a fault of number 2 and notes the first 256 declarations.
 // A text has at most 65,535 bytes (number 1), so that its places fit the row's numbers, and the row has 16 for each declaration.
 pub fn forms(text: &[u8], cells: &mut [u32]) -> Formed
-    requires { ⌜ length (now text) ≤ 65535 ⌝ }
-    requires { ⌜ 4096 ≤ length (now cells) ⌝ }
+    requires { ⌜ length (now text) ≤ textLimit ⌝ }
+    requires { ⌜ cellWidth * parameterLimit ≤ length (now cells) ⌝ }
     ensures { λ r. ⌜ (faults2 (itemsOf (now (text .entry))) ≡ [] → FormedAs (now (text .entry)) (now (cells .exit)) r) ⌝ }
 {
     let first = Cursor { at: 0 };
     let mut x = seen_from(first, text);
     let mut st = definition_automaton::start();
     let mut p = definition_automaton::nothing();
-    while x.kind != 0 {
+    while x.kind != definition_automaton::END {
         let a = definition_automaton::act(st.mode, st.context(), p.kind, x.kind);
-        if a == 0 {
+        if a == definition_automaton::STUCK {
             return Formed::Stuck(x.start);
         }
         definition_automaton::note(st, p, a, cells);

@@ -6,14 +6,13 @@ use Prim.Native.Nat.{ℕ, suc, _+_, _-_, _<_, _≤_}
 use native.Mathlib.Numerals.{add-one}
 use native.Mathlib.Omega.{arith}
 use lib.Dec.{eqb}
-use borrow.Author.Tests.{eq-eqb, ne-eqb, le-leb, lt-leb}
+use borrow.Author.Tests.{eq-eqb, ne-eqb}
 use Rattle.classes.specs.Lists.{pick, sameBytes}
 use Rattle.numbers.specs.Limits.{none16}
 use Rattle.numbers.specs.Range.{number, unread, MaybeRange, range, readIntRange, readCountRange}
 use Rattle.reading_rules.specs.Record.{top, under}
 use Rattle.definition_rules.specs.Forms.{heading}
 use Rattle.definition_rules.specs.Declarations.{declaration, declarationsOf}
-use Rattle.definition_rules.specs.Words.{kindTakesRange}
 use Rattle.definition_rules.specs.Records.{kindLeast, kindMost, limitsOf, countRangeOf, topName, topNames, isNamed, findTop, orNone, targetOf, labelOf}
 use Rattle.definition_rules.specs.Table.{numberUp}
 use Rattle.definition_cells.specs.Cells.{cellAt, runAt, tagAt, maybeRunAt, notedAt, notedFrom}
@@ -21,35 +20,6 @@ use Rattle.definition_cells.proofs.CellLaws.{noted-end}
 use Rattle.definition_headings.specs.Heads.{declaredKind, limitsAt, countsAt, labelAt, isNamedAt, namesFrom, topAt, targetAt}
 
 -- ---- limits and counts
-
-module _ (k : ℕ) where
-  pub least-int : k ≡ 3 → 0 ≡ kindLeast k
-  unfolding kindLeast pick
-  least-int h = rw (eq-eqb k 3 h)
-
-  pub least-one : (k ≡ 3 → ⊥) → k ≡ 5 → 0x8000_0001 ≡ kindLeast k
-  unfolding kindLeast pick
-  least-one g h = rw (ne-eqb k 3 g, eq-eqb k 5 h)
-
-  pub least-none : (k ≡ 3 → ⊥) → (k ≡ 5 → ⊥) → 0x8000_0000 ≡ kindLeast k
-  unfolding kindLeast pick
-  least-none g h = rw (ne-eqb k 3 g, ne-eqb k 5 h)
-
-  pub most-int : k ≡ 3 → 0xFFFF_FFFF ≡ kindMost k
-  unfolding kindMost pick
-  most-int h = rw (eq-eqb k 3 h)
-
-  pub most-below : (k ≡ 3 → ⊥) → k < 3 → 0x8000_0000 ≡ kindMost k
-  unfolding kindMost kindTakesRange pick
-  most-below g h = rw (ne-eqb k 3 g, lt-leb 3 k h)
-
-  pub most-length : (k ≡ 3 → ⊥) → 3 ≤ k → k ≤ 5 → 0x8000_0400 ≡ kindMost k
-  unfolding kindMost kindTakesRange pick
-  most-length g a b = rw (ne-eqb k 3 g, le-leb 3 k a, le-leb k 5 b)
-
-  pub most-above : (k ≡ 3 → ⊥) → 3 ≤ k → 5 < k → 0x8000_0000 ≡ kindMost k
-  unfolding kindMost kindTakesRange pick
-  most-above g a b = rw (ne-eqb k 3 g, le-leb 3 k a, lt-leb k 5 b)
 
 module _ (t cs : List ℕ) (i a : ℕ) (x : MaybeRange) where
   pub limits-given : (s : List ℕ) → a ≡ cellAt cs i 10 → a ≡ 1 → s ≡ runAt t cs i 2 → x ≡ readIntRange s → x ≡ limitsAt t cs i

@@ -2,62 +2,45 @@
 ghost use mathlib.Core.Path.{_≡_};
 ghost use Rattle.numbers.specs.Range.{lowOf, highOf};
 ghost use Rattle.numbers.specs.Answers.{rangeOf};
-ghost use Rattle.definition_rules.specs.Records.{kindLeast, kindMost};
 ghost use Rattle.definition_headings.specs.Heads.{declaredKind, limitsAt, countsAt, labelAt, isNamedAt, topAt, targetAt};
 
 // 1 to 9 for a type keyword, 10 for a reference.
 pub fn kind(text: &[u8], cells: &[u32], i: usize) -> u32
     ensures { λ r. ⌜ r ≡ declaredKind (now (text .entry)) (now (cells .entry)) i ⌝ }
 {
-    definition_words::kind_of_run(definition_cells::run(text, cells, i, 0))
-}
-
-// What a range of a kind may not lie below, counted from the least i32: 0 itself for kinds without a range.
-pub fn kind_least(k: u32) -> u32
-    ensures { λ r. ⌜ r ≡ kindLeast k ⌝ }
-{
-    if k == 3 {
-        return 0;
-    }
-    if k == 5 {
-        return 0x8000_0001;
-    }
-    0x8000_0000
-}
-
-// What it may not exceed.
-pub fn kind_most(k: u32) -> u32
-    ensures { λ r. ⌜ r ≡ kindMost k ⌝ }
-{
-    if k == 3 {
-        return 0xFFFF_FFFF;
-    }
-    if k < 3 {
-        return 0x8000_0000;
-    }
-    if k <= 5 {
-        return 0x8000_0400;
-    }
-    0x8000_0000
+    definition_words::kind_of_run(definition_cells::run(text, cells, i, definition_cells::TYPE))
 }
 
 // The range of an int or a length, given or by default.
 pub fn limits(text: &[u8], cells: &[u32], i: usize) -> numbers::Range
     ensures { λ r. ⌜ rangeOf r ≡ limitsAt (now (text .entry)) (now (cells .entry)) i ⌝ }
 {
-    if definition_cells::cell(cells, i, 10) == 1 {
-        return numbers::read_int_range(definition_cells::run(text, cells, i, 2));
+    if definition_cells::cell(cells, i, definition_cells::RANGED) == definition_cells::GIVEN {
+        return numbers::read_int_range(definition_cells::run(
+            text,
+            cells,
+            i,
+            definition_cells::RANGE,
+        ));
     }
     let k = kind(text, cells, i);
-    numbers::Range::From(kind_least(k), kind_most(k))
+    numbers::Range::From(
+        definition_words::kind_least(k),
+        definition_words::kind_most(k),
+    )
 }
 
 // The cardinality, given or 1..1.
 pub fn counts(text: &[u8], cells: &[u32], i: usize) -> numbers::Range
     ensures { λ r. ⌜ rangeOf r ≡ countsAt (now (text .entry)) (now (cells .entry)) i ⌝ }
 {
-    if definition_cells::cell(cells, i, 11) == 1 {
-        return numbers::read_count_range(definition_cells::run(text, cells, i, 6));
+    if definition_cells::cell(cells, i, definition_cells::CARDED) == definition_cells::GIVEN {
+        return numbers::read_count_range(definition_cells::run(
+            text,
+            cells,
+            i,
+            definition_cells::CARD,
+        ));
     }
     numbers::Range::From(1, 1)
 }
@@ -85,22 +68,25 @@ pub fn high(x: numbers::Range) -> u32
 pub fn label<'a>(text: &'a [u8], cells: &[u32], i: usize) -> &'a [u8]
     ensures { λ r. ⌜ now r ≡ labelAt (now (text .entry)) (now (cells .entry)) i ⌝ }
 {
-    let tag = definition_cells::cell(cells, i, 12);
-    if tag == 0 {
-        return definition_cells::run(text, cells, i, 4);
+    let tag = definition_cells::cell(cells, i, definition_cells::TAGGED);
+    if tag == definition_cells::OWN_NAME {
+        return definition_cells::run(text, cells, i, definition_cells::NAME);
     }
-    if tag == 1 {
-        return definition_cells::run(text, cells, i, 4);
+    if tag == definition_cells::TAGLESS {
+        return definition_cells::run(text, cells, i, definition_cells::NAME);
     }
-    definition_cells::run(text, cells, i, 8)
+    definition_cells::run(text, cells, i, definition_cells::TAG)
 }
 
 // Declaration j is a top with the name w.
 fn is_named(text: &[u8], cells: &[u32], j: usize, w: &[u8]) -> bool
     ensures { λ r. ⌜ r ≡ isNamedAt (now (text .entry)) (now (cells .entry)) j (now (w .entry)) ⌝ }
 {
-    if definition_cells::cell(cells, j, 15) == 65535 {
-        return classes::same_bytes(definition_cells::run(text, cells, j, 4), w);
+    if definition_cells::cell(cells, j, definition_cells::PARENT) == definition_cells::NO_PARENT {
+        return classes::same_bytes(
+            definition_cells::run(text, cells, j, definition_cells::NAME),
+            w,
+        );
     }
     false
 }
@@ -116,7 +102,7 @@ pub fn find_top(text: &[u8], cells: &[u32], n: usize, w: &[u8]) -> usize
         }
         j += 1;
     }
-    65535
+    numbers::NONE16
 }
 
 // The number of the top that a reference names, else 65,535.
@@ -124,8 +110,13 @@ pub fn target(text: &[u8], cells: &[u32], n: usize, i: usize) -> usize
     ensures { λ r. ⌜ r ≡ targetAt (now (text .entry)) (now (cells .entry)) n i ⌝ }
 {
     let k = kind(text, cells, i);
-    if k == 10 {
-        return find_top(text, cells, n, definition_cells::run(text, cells, i, 0));
+    if k == numbers::REFERENCE {
+        return find_top(
+            text,
+            cells,
+            n,
+            definition_cells::run(text, cells, i, definition_cells::TYPE),
+        );
     }
-    65535
+    numbers::NONE16
 }

@@ -7,6 +7,8 @@ use Prim.Native.Nat.{ℕ, zero, suc, _+_, _≤_, _<_}
 use native.Mathlib.Omega.{arith}
 use lib.Dec.{leb, eqb}
 use borrow.Author.Tests.{ne-eqb, eqb-true, eqb-false, not-true}
+use Rattle.classes.proofs.Rows.{same-true}
+use Rattle.classes.proofs.Bools.{clash-bool, both-true}
 use Rattle.classes.specs.Lists.{sameBytes, pick}
 use Rattle.definition_rules.specs.Words.{kwAs, kwPlugin, takesRange, isCompound, isReference}
 use Rattle.definition_rules.specs.Scan.{TextToken, run, mark}
@@ -97,9 +99,6 @@ unfoldable pub Stands : List Frame → Form parameter → Type 0
 Stands [] x = Allowed topLevel x
 Stands (frame p m ∷ σ) x = (takesField m ≡ true) × Allowed fieldLevel x
 
-bool-no : {X : Type 0} → _≡_ {A = Bool} false true → X
-bool-no e = let x : _≡_ {A = ℕ} 0 1 = cc in absurd (omega arith)
-
 in-front : (σ : List Frame) (n m : ℕ) (x : Form parameter) (r : List TextToken) (es : List Declaration) → Stands σ x → m ≡ n + countForm x → After (fieldDone σ) m r es → After σ n (printForm x r) (declare x (parentOf σ) (isUnderExtension σ) n es)
 unfolding After Stands fieldDone afterField parentOf isUnderExtension isExtension takesField printForm declare countForm Allowed
 in-front [] n m x r es s e (inl a) = inr (lastTop x, s, ap (printForm x) (sym (a .1)), ap (declare x top false n) (sym (a .2)))
@@ -145,7 +144,7 @@ in-front (frame p inGroup ∷ σ) n m x r es s e a = (
   omega (arith, a .9),
   a .10,
 )
-in-front (frame p groupsClosed ∷ σ) n m x r es s e a = bool-no (s .0)
+in-front (frame p groupsClosed ∷ σ) n m x r es s e a = clash-bool (s .0)
 
 after-as : (σ : List Frame) (n : ℕ) (ts us : List TextToken) (ds es : List Declaration) → ts ≡ us → ds ≡ es → After σ n ts ds → After σ n us es
 after-as σ n ts us ds es p q a = rw (← p, ← q) a
@@ -231,20 +230,9 @@ unfolding pick
 pick-back σ n p x xs true a c f g = f refl
 pick-back σ n p x xs false a c f g = g
 
-and-both : (a b : Bool) → a && b ≡ true → (a ≡ true) × (b ≡ true)
-and-both true b e = (refl, e)
-and-both false b e = bool-no e
-
-pub same-true : (v w : List ℕ) → sameBytes v w ≡ true → v ≡ w
-unfolding sameBytes
-same-true [] [] e = refl
-same-true [] (b ∷ w) e = bool-no e
-same-true (a ∷ v) [] e = bool-no e
-same-true (a ∷ v) (b ∷ w) e = let x = and-both (eqb a b) (sameBytes v w) e in let y = eqb-true a b (x .0) in let z = same-true v w (x .1) in cc
-
 in-body : (σ : List Frame) (c : MaybeRun) (t : Tag) (p : Bool) → isInBody σ ≡ true → Bare σ c t p
 unfolding isInBody Bare
-in-body [] c t p e = bool-no e
+in-body [] c t p e = clash-bool e
 in-body (f ∷ σ) c t p e = tt
 
 bare : (σ : List Frame) → Bare σ absent ownName false
@@ -261,7 +249,7 @@ unfolding headingEnd Back Rest
 end-back σ n s h m p xs f =
     pick-back σ n p (mark m) xs (eqb m 59) _ _
     (λ e. allow-back σ n p (mark m) xs (not (isCompound (typeRun h))) _ (λ c ds a. f _ (unfold Ends in (xs, ds, refl, inl (is-mark 59 m xs e, not-true (isCompound (typeRun h)) c, a)))))
-    (allow-back σ n p (mark m) xs (eqb m 123 && isCompound (typeRun h)) _ (λ c ds a. let y = and-both (eqb m 123) (isCompound (typeRun h)) c in f _ (unfold Ends in (xs, ds, refl, inr (is-mark 123 m xs (y .0), y .1, a)))))
+    (allow-back σ n p (mark m) xs (eqb m 123 && isCompound (typeRun h)) _ (λ c ds a. let y = both-true (eqb m 123) (isCompound (typeRun h)) c in f _ (unfold Ends in (xs, ds, refl, inr (is-mark 123 m xs (y .0), y .1, a)))))
 
 -- an end from each stage
 ends-tail : (l : Stage) (σ : List Frame) (n : ℕ) (h : Heading) (ts : List TextToken) (ds : List Declaration) → Ends σ n h ts ds → Tail l σ n h ts ds
@@ -273,7 +261,7 @@ ends-tail afterPlugin σ n h ts ds e = e
 
 module _ (σ : List Frame) (n : ℕ) (s : Spots) (h : Heading) (w : List ℕ) (xs : List TextToken) where
   plugin-back : (l : Stage) → ((ds : List Declaration) → isInBody σ ≡ true → run kwPlugin ∷ xs ≡ run w ∷ xs → Ends σ n (withPlugin h) xs ds → Tail l σ n h (run w ∷ xs) ds) → Back σ n (inHeading l s h) (run w) xs (allow (sameBytes w kwPlugin && isInBody σ) (move σ (inHeading afterPlugin s (withPlugin h))))
-  plugin-back l f = allow-back σ n (inHeading l s h) (run w) xs (sameBytes w kwPlugin && isInBody σ) _ (λ e. unfold Back Rest in (λ ds z. let y = and-both (sameBytes w kwPlugin) (isInBody σ) e in f ds (y .1) (ap (λ q. run q ∷ xs) (sym (same-true w kwPlugin (y .0)))) (unfold Tail in z)))
+  plugin-back l f = allow-back σ n (inHeading l s h) (run w) xs (sameBytes w kwPlugin && isInBody σ) _ (λ e. unfold Back Rest in (λ ds z. let y = both-true (sameBytes w kwPlugin) (isInBody σ) e in f ds (y .1) (ap (λ q. run q ∷ xs) (sym (same-true w kwPlugin (y .0)))) (unfold Tail in z)))
 
   as-back : (l : Stage) → ((t : Tag) (p : Bool) (us : List TextToken) (ds : List Declaration) → isInBody σ ≡ true → putTag t (putPlugin p us) ≡ run w ∷ xs → Ends σ n (pluginOn p (tagOn t h)) us ds → Tail l σ n h (run w ∷ xs) ds) → sameBytes w kwAs ≡ true → Back σ n (inHeading l s h) (run w) xs (allow (isInBody σ) (move σ (dueTag s h)))
   as-back l f e = allow-back σ n (inHeading l s h) (run w) xs (isInBody σ) _ (λ b. unfold Back Rest in (λ ds z. by ds b z))
@@ -312,23 +300,23 @@ mark-back σ n s h m xs afterPlugin = end-back σ n s h m (inHeading afterPlugin
 close-after : (p : ℕ) (m : BodyMode) (σ : List Frame) (n : ℕ) (r : List TextToken) (ds : List Declaration) → takesClose m ≡ true → After σ n r ds → After (frame p m ∷ σ) n (mark 125 ∷ mark 59 ∷ r) ds
 unfolding After takesClose printForm declare countForm Allowed
 close-after p inFields σ n r ds e a = (noField, noGroup, tt, tt, r, ds, n, refl, refl, omega arith, a)
-close-after p groupOpened σ n r ds e a = bool-no e
-close-after p inGroup σ n r ds e a = bool-no e
+close-after p groupOpened σ n r ds e a = clash-bool e
+close-after p inGroup σ n r ds e a = clash-bool e
 close-after p groupsClosed σ n r ds e a = (noGroup, tt, r, ds, n, refl, refl, omega arith, a)
 
 open-after : (p : ℕ) (m : BodyMode) (σ : List Frame) (n : ℕ) (r : List TextToken) (ds : List Declaration) → takesClose m ≡ true → After (frame p groupOpened ∷ σ) n r ds → After (frame p m ∷ σ) n (mark 91 ∷ r) ds
 unfolding After takesClose printForm declare countForm Allowed
 open-after p inFields σ n r ds e a = (noField, group (a .0) (a .1) (a .2), tt, (a .3, a .4, a .5), a .6, a .7, a .8, ap (λ q. mark 91 ∷ q) (a .9), ap (λ q. declare (a .0) (under p) true q (declare (a .1) (under p) true (q + countForm (a .0)) (declare (a .2) (under p) true (q + (countForm (a .0) + countForm (a .1))) (a .7)))) (omega arith) ∙ a .10, omega (arith, a .11), a .12)
-open-after p groupOpened σ n r ds e a = bool-no e
-open-after p inGroup σ n r ds e a = bool-no e
+open-after p groupOpened σ n r ds e a = clash-bool e
+open-after p inGroup σ n r ds e a = clash-bool e
 open-after p groupsClosed σ n r ds e a = (group (a .0) (a .1) (a .2), (a .3, a .4, a .5), a .6, a .7, a .8, ap (λ q. mark 91 ∷ q) (a .9), a .10, a .11, a .12)
 
 end-group-after : (p : ℕ) (m : BodyMode) (σ : List Frame) (n : ℕ) (r : List TextToken) (ds : List Declaration) → takesGroupEnd m ≡ true → After (frame p groupsClosed ∷ σ) n r ds → After (frame p m ∷ σ) n (mark 93 ∷ r) ds
 unfolding After takesGroupEnd printForm declare countForm Allowed
-end-group-after p inFields σ n r ds e a = bool-no e
-end-group-after p groupOpened σ n r ds e a = bool-no e
+end-group-after p inFields σ n r ds e a = clash-bool e
+end-group-after p groupOpened σ n r ds e a = clash-bool e
 end-group-after p inGroup σ n r ds e a = (noField, a .0, tt, a .1, a .2, a .3, a .4, ap (λ q. mark 93 ∷ q) (a .5), ap (λ q. declare (a .0) (under p) true q (a .3)) (omega arith) ∙ a .6, omega (arith, a .7), a .8)
-end-group-after p groupsClosed σ n r ds e a = bool-no e
+end-group-after p groupsClosed σ n r ds e a = clash-bool e
 
 start-mark-back : (σ : List Frame) (n m : ℕ) (xs : List TextToken) → Back σ n atStart (mark m) xs (startMark σ m)
 unfolding startMark
@@ -338,7 +326,7 @@ start-mark-back (frame p b ∷ σ) n m xs =
     (λ e. allow-back (frame p b ∷ σ) n atStart (mark m) xs (takesClose b) (move σ dueSemicolon) (λ c. unfold Back Rest in (λ ds z. after-as (frame p b ∷ σ) n _ _ ds ds (ap (λ q. mark 125 ∷ q) (z .1) ∙ is-mark 125 m xs e) refl (close-after p b σ n (z .0) ds c (z .2)))))
     (pick-back (frame p b ∷ σ) n atStart (mark m) xs (eqb m 91) _ _
     (λ e. allow-back (frame p b ∷ σ) n atStart (mark m) xs (takesClose b) (move (frame p groupOpened ∷ σ) atStart) (λ c. unfold Back Rest in (λ ds z. after-as (frame p b ∷ σ) n _ _ ds ds (is-mark 91 m xs e) refl (open-after p b σ n xs ds c z))))
-    (allow-back (frame p b ∷ σ) n atStart (mark m) xs (eqb m 93 && takesGroupEnd b) (move (frame p groupsClosed ∷ σ) atStart) (λ c. unfold Back Rest in (λ ds z. let y = and-both (eqb m 93) (takesGroupEnd b) c in after-as (frame p b ∷ σ) n _ _ ds ds (is-mark 93 m xs (y .0)) refl (end-group-after p b σ n xs ds (y .1) z)))))
+    (allow-back (frame p b ∷ σ) n atStart (mark m) xs (eqb m 93 && takesGroupEnd b) (move (frame p groupsClosed ∷ σ) atStart) (λ c. unfold Back Rest in (λ ds z. let y = both-true (eqb m 93) (takesGroupEnd b) c in after-as (frame p b ∷ σ) n _ _ ds ds (is-mark 93 m xs (y .0)) refl (end-group-after p b σ n xs ds (y .1) z)))))
 
 start-run-back : (σ : List Frame) (n i : ℕ) (w : List ℕ) (xs : List TextToken) → Back σ n atStart (run w) xs (startRun σ i w)
 unfolding startRun
@@ -352,7 +340,7 @@ step-back σ n i atStart (mark m) xs = start-mark-back σ n m xs
 step-back σ n i dueSemicolon (run w) xs = unfold Back in tt
 step-back σ n i dueSemicolon (mark m) xs = allow-back σ n dueSemicolon (mark m) xs (eqb m 59) _ (λ e. unfold Back Rest in (λ ds z. (xs, is-mark 59 m xs e, z)))
 step-back σ n i (afterType y w) (run v) xs = unfold Back Rest RangeAllowed putRange in (λ ds z. (absent, v, xs, tt, refl, z))
-step-back σ n i (afterType y w) (mark m) xs = allow-back σ n (afterType y w) (mark m) xs (eqb m 60 && takesRange w) _ (λ e. unfold Back Rest RangeAllowed putRange in (λ ds z. let y = and-both (eqb m 60) (takesRange w) e in (given (z .0), z .1, z .2, y .1, ap (λ q. mark 60 ∷ q) (z .3) ∙ is-mark 60 m xs (y .0), z .4)))
+step-back σ n i (afterType y w) (mark m) xs = allow-back σ n (afterType y w) (mark m) xs (eqb m 60 && takesRange w) _ (λ e. unfold Back Rest RangeAllowed putRange in (λ ds z. let y = both-true (eqb m 60) (takesRange w) e in (given (z .0), z .1, z .2, y .1, ap (λ q. mark 60 ∷ q) (z .3) ∙ is-mark 60 m xs (y .0), z .4)))
 step-back σ n i (dueRange y w) (run v) xs = unfold Back Rest in (λ ds z. (v, z .0, z .1, ap (λ q. run v ∷ q) (z .2), z .3))
 step-back σ n i (dueRange y w) (mark m) xs = unfold Back in tt
 step-back σ n i (dueRangeEnd y g w v) (run u) xs = unfold Back in tt

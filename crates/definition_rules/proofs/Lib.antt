@@ -9,7 +9,8 @@ pub mod TableLaws
 pub mod FirstFault
 -- the steps of number 10
 pub mod FiniteLaws
--- laws of the scan for code
+-- laws of the scan and of runs, for code
 pub mod ScanLaws
+pub mod RunLaws
 -- the index
 pub mod Theorems

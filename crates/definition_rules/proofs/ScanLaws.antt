@@ -7,8 +7,9 @@ use native.Mathlib.Omega.{arith}
 use lib.Dec.{eqb}
 use lib.ListN.{length}
 use Rattle.classes.specs.Lists.{pick, All}
+use Rattle.classes.specs.Bytes.{isRunByte}
 use Rattle.definition_rules.specs.Words.{ByteClass, inRun, blank, single, slash, other, classOf}
-use Rattle.definition_rules.specs.Scan.{TextToken, run, mark, Item, gap, item, bad, outside, lineComment, opening, comment, star, joinRun, startsWith, scan}
+use Rattle.definition_rules.specs.Scan.{TextToken, run, mark, Item, gap, item, bad, outside, lineComment, opening, comment, star, joinRun, startsWith, scan, placeIf}
 
 pub at-blank : (b p : ℕ) (s : List ℕ) → classOf b ≡ blank → scan outside p (b ∷ s) ≡ gap ∷ scan outside (suc p) s
 unfolding scan
@@ -29,6 +30,16 @@ at-slash b p s e = rw (e, scan)
 pub at-run : (b p : ℕ) (s : List ℕ) → classOf b ≡ inRun → scan outside p (b ∷ s) ≡ joinRun b p (scan outside (suc p) s)
 unfolding scan
 at-run b p s e = rw (e, scan)
+
+pub class-run : (b : ℕ) → isRunByte b ≡ true → classOf b ≡ inRun
+unfolding classOf
+class-run b r = rw (r, classOf)
+
+-- no place where none is found
+pub place-none : (b : Bool) (p : ℕ) (r : List ℕ) → placeIf b p r ≡ [] → (b ≡ false) × (r ≡ [])
+unfolding placeIf
+place-none true p r e = let z : _≡_ {A = ℕ} 0 1 = cc in absurd (omega arith)
+place-none false p r e = (refl, e)
 
 -- no run begins there
 unfoldable pub StartsNoRun : List ℕ → Type 0

@@ -11,6 +11,7 @@ use Rattle.definition_rules.specs.Words.{kwAs, kwPlugin, takesRange, isC
 use Rattle.definition_rules.specs.Scan.{TextToken, run, mark}
 use Rattle.definition_rules.specs.Forms.{MaybeRun, absent, given, Tag, ownName, tagless, explicit, Heading, heading, typeRun, tagOf}
 use Rattle.definition_rules.specs.Declarations.{Declaration, declaration, Spots, spotsOf, cardSpot, tagSpot, Noted, noted, BodyMode, inFields, groupOpened, inGroup, groupsClosed, Frame, frame, Stage, afterName, afterCard, afterTag, afterPlugin, Phase, atStart, dueSemicolon, afterType, dueRange, dueRangeEnd, dueName, inHeading, dueCard, dueTag, dueCardEnd, Action, stop, move, note, allow, withCard, withTag, withPlugin, takesField, takesClose, takesGroupEnd, fieldDone, parentOf, isUnderExtension, isInBody, startRun, startMark, headingEnd, headingRun, headingMark, step, Outcome, stuckAt, complete, mapOutcome, endIf, atEnd, parseForms, parseTokens}
+use Rattle.definition_rules.specs.Faults.{nameSpots}
 
 -- the i-th token
 abbrev pub tokenAt : List TextToken → ℕ → TextToken
@@ -200,3 +201,9 @@ parse-there ts σ k i p (x ∷ xs) f h ns e = go (step σ k i p x) (step-there t
 pub spots-there : (ts : List TextToken) (ns : List Noted) → parseTokens ts ≡ complete ns → All (NotedThere ts) ns
 unfolding PhaseThere
 spots-there ts ns e = parse-there ts [] 0 0 atStart ts (λ j l. let y : 0 + j ≡ j = omega arith in ap (tokenAt ts) y) tt ns e
+
+-- each declaration has one
+pub names-length : (ns : List Noted) → length (nameSpots ns) ≡ length ns
+unfolding nameSpots
+names-length [] = refl
+names-length (noted s d ∷ r) = ap suc (names-length r)

@@ -70,9 +70,9 @@ up-of (under p) h = by (eqb p none16) refl
     by true e = sym (h (eqb-true p none16 e))
     by false e = refl
 
-of-up : (x : ℕ) → upNumber (numberUp x) ≡ x
+pub up-number : (x : ℕ) → upNumber (numberUp x) ≡ x
 unfolding numberUp
-of-up x = by (eqb x none16) refl
+up-number x = by (eqb x none16) refl
   where
     by : (b : Bool) → eqb x none16 ≡ b → upNumber (pick b top (under x)) ≡ x
     by true e = unfold pick upNumber in (sym (eqb-true x none16 e))
@@ -160,7 +160,7 @@ got-record s g h e z =
     got16 s _ h e (λ m s1 p0 l0 h e. got16 s1 _ h e (λ k s2 p1 l1 h e. got16 s2 _ h e (λ p s3 p2 l2 h e. got16 s3 _ h e (λ f s4 p3 l3 h e. got16 s4 _ h e (λ c s5 p4 l4 h e. got16 s5 _ h e (λ d s6 p5 l5 h e.
     got32 s6 _ h e (λ a s7 p6 l6 h e. got32 s7 _ h e (λ b s8 p7 l7 h e. got16 s8 _ h e (λ t s9 p8 l8 h e. got16 s9 _ h e (λ n s10 p9 l9 h e.
     want-just (eqb m (24 + n)) _ e (λ w e. want-just (ltb f 8) _ e (λ v e. got-bytes n s10 _ h e (λ l u p10 q h e.
-    z (recordOf k p f c d a b t l) u (rw (q, p10, of-up p, of-flags f (ltb-true f 8 v), signed-back a (omega arith), signed-back b (omega arith), p9, p8, p7, p6, p5, p4, p3, p2, p1, ← (eqb-true m (24 + n) w)) p0) h e)))))))))))))
+    z (recordOf k p f c d a b t l) u (rw (q, p10, up-number p, of-flags f (ltb-true f 8 v), signed-back a (omega arith), signed-back b (omega arith), p9, p8, p7, p6, p5, p4, p3, p2, p1, ← (eqb-true m (24 + n) w)) p0) h e)))))))))))))
 
 encode-upto : (n : ℕ) (s : List ℕ) (rs : List Record) → All Byte s → decodeUpTo n s ≡ just rs → encode rs ≡ s
 unfolding decodeUpTo encode All

@@ -76,9 +76,3 @@ open-few d b t h = go (eqb b 123) (eqb b 125) (leb 8 d) refl t
     go true y false q r = omega (arith, leb-false 8 d q)
     go false true z q r = omega arith
     go false false z q r = h
-
--- no fault, no place
-pub nowhere-none : (l : List ℕ) → Nowhere ≡ leastPlace l → l ≡ []
-unfolding leastPlace
-nowhere-none [] e = refl
-nowhere-none (p ∷ r) e = absurd (let z : _≡_ {A = ℕ} 0 1 = cc in omega arith)

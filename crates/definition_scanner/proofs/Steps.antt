@@ -9,13 +9,12 @@ use lib.Dec.{eqb}
 use lib.ListN.{length, getD, take, drop, length-drop, length-take, drop-of-length-le, take-append-drop}
 use lib.Seq.{drop-cons, drop-drop, take-all, length-take-le}
 use borrow.Author.Tests.{eq-eqb, ne-eqb}
-use Rattle.classes.specs.Lists.{pick, runOf, All}
+use Rattle.classes.specs.Lists.{pick, runOf, All, part}
 use Rattle.classes.specs.Bytes.{isRunByte, isBlank, isMark}
 use Rattle.classes.proofs.Rows.{run-within}
 use Rattle.definition_rules.specs.Words.{ByteClass, inRun, blank, single, slash, other, classOf}
 use Rattle.definition_rules.specs.Scan.{run, mark, Item, gap, item, bad, outside, lineComment, opening, comment, star, startsWith, scan}
-use Rattle.definition_rules.proofs.ScanLaws.{at-blank, at-single, at-other, at-slash, at-longest-run, StartsNoRun}
-use Rattle.definition_cells.specs.Cells.{part}
+use Rattle.definition_rules.proofs.ScanLaws.{at-blank, at-single, at-other, at-slash, at-longest-run, StartsNoRun, class-run}
 use Rattle.definition_scanner.specs.Live.{live, liveFrom, Ahead}
 use Rattle.definition_scanner.specs.Lexed.{LineEnded, CommentEnded, RunAt, MarkAt, BadAt, Lexed, Passed, LexTurned}
 use Rattle.definition_scanner.specs.declared.Lexeme.{Lexeme}
@@ -25,10 +24,6 @@ use Rattle.definition_scanner.specs.declared.Turn.the-variants.{On, Out}
 use Rattle.definition_scanner.proofs.LiveLaws.{live-ahead}
 
 -- ---- what a byte begins
-
-pub class-run : (b : ℕ) → isRunByte b ≡ true → classOf b ≡ inRun
-unfolding classOf
-class-run b r = rw (r, classOf)
 
 pub not-run : (b : ℕ) → isRunByte b ≡ false → classOf b ≡ inRun → ⊥
 unfolding classOf

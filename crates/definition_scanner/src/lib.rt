@@ -4,6 +4,7 @@ ghost use mathlib.Core.Bool.{_&&_};
 ghost use Prim.Native.Nat.{ℕ, _+_, _<_, _≤_};
 ghost use lib.Dec.{eqb};
 ghost use lib.ListN.{length, drop, getD};
+ghost use Rattle.numbers.specs.Limits.{depthLimit};
 ghost use Rattle.classes.specs.Lists.{runOf};
 ghost use Rattle.classes.specs.Bytes.{isRunByte};
 ghost use Rattle.definition_rules.specs.Scan.{itemsOf, bracesAfter, isDeepBrace};
@@ -67,7 +68,7 @@ fn line_end(text: &[u8], from: usize) -> usize
 {
     let mut at: usize = from;
     while at < text.len() {
-        if text[at] == 10 {
+        if text[at] == b'\n' {
             return at + 1;
         }
         at = at + 1;
@@ -179,7 +180,7 @@ fn too_deep(deep: usize, b: u8) -> bool
     ensures { λ r. ⌜ r ≡ isDeepBrace deep b ⌝ }
 {
     if b == b'{' {
-        return 8 <= deep;
+        return numbers::DEPTH_LIMIT <= deep;
     }
     false
 }
@@ -202,7 +203,7 @@ fn open_after(deep: usize, b: u8) -> usize
 }
 
 fn check_next(text: &[u8], c: Cursor, deep: usize) -> Step
-    requires { ⌜ deep ≤ 8 ⌝ }
+    requires { ⌜ deep ≤ depthLimit ⌝ }
     ensures { λ r. ⌜ ScanStep (now (text .entry)) (c .at) deep r ⌝ }
 {
     match c.next(text) {

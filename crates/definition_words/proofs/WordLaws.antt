@@ -5,13 +5,14 @@ use mathlib.Core.List.{List, [], _∷_}
 use mathlib.Core.Path.{_≡_, refl, sym, ap, _∙_}
 use native.Mathlib.Numerals.{add-one}
 use native.Mathlib.Omega.{arith}
-use borrow.Author.Tests.{eq-eqb, ne-eqb, eqb-true, eqb-false}
+use borrow.Author.Tests.{eq-eqb, ne-eqb, eqb-true, eqb-false, le-leb, lt-leb}
 use lib.Dec.{eqb}
 use lib.ListN.{length, getD, drop, drop-of-length-le}
 use lib.Seq.{drop-cons}
-use Rattle.classes.specs.Lists.{every, some, notEmpty, sameBytes}
+use Rattle.classes.specs.Lists.{every, some, notEmpty, sameBytes, pick}
 use Rattle.classes.specs.Bytes.{isLetter}
-use Rattle.definition_rules.specs.Words.{startsWithLetter, hasDot}
+use Rattle.definition_rules.specs.Words.{startsWithLetter, hasDot, kindTakesRange}
+use Rattle.definition_rules.specs.Records.{kindLeast, kindMost}
 
 -- ---- a byte that some byte of a row is
 
@@ -65,3 +66,34 @@ same-sym [] [] = refl
 same-sym [] (b ∷ l) = refl
 same-sym (a ∷ k) [] = refl
 same-sym (a ∷ k) (b ∷ l) = rw (eqb-sym a b, same-sym k l)
+
+-- ---- the bounds of a kind, a law for each path
+
+module _ (k : ℕ) where
+  pub least-int : k ≡ 3 → 0 ≡ kindLeast k
+  unfolding kindLeast pick
+  least-int h = rw (eq-eqb k 3 h)
+
+  pub least-one : (k ≡ 3 → ⊥) → k ≡ 5 → 0x8000_0001 ≡ kindLeast k
+  unfolding kindLeast pick
+  least-one g h = rw (ne-eqb k 3 g, eq-eqb k 5 h)
+
+  pub least-none : (k ≡ 3 → ⊥) → (k ≡ 5 → ⊥) → 0x8000_0000 ≡ kindLeast k
+  unfolding kindLeast pick
+  least-none g h = rw (ne-eqb k 3 g, ne-eqb k 5 h)
+
+  pub most-int : k ≡ 3 → 0xFFFF_FFFF ≡ kindMost k
+  unfolding kindMost pick
+  most-int h = rw (eq-eqb k 3 h)
+
+  pub most-below : (k ≡ 3 → ⊥) → k < 3 → 0x8000_0000 ≡ kindMost k
+  unfolding kindMost kindTakesRange pick
+  most-below g h = rw (ne-eqb k 3 g, lt-leb 3 k h)
+
+  pub most-length : (k ≡ 3 → ⊥) → 3 ≤ k → k ≤ 5 → 0x8000_0400 ≡ kindMost k
+  unfolding kindMost kindTakesRange pick
+  most-length g a b = rw (ne-eqb k 3 g, le-leb 3 k a, le-leb k 5 b)
+
+  pub most-above : (k ≡ 3 → ⊥) → 3 ≤ k → 5 < k → 0x8000_0000 ≡ kindMost k
+  unfolding kindMost kindTakesRange pick
+  most-above g a b = rw (ne-eqb k 3 g, le-leb 3 k a, lt-leb k 5 b)

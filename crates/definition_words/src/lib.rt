@@ -4,24 +4,25 @@ ghost use mathlib.Core.List.{[], _∷_};
 ghost use Rattle.classes.specs.Bytes.{isNameByte, isTagByte};
 ghost use Rattle.classes.specs.Lists.{every, sameBytes};
 ghost use Rattle.definition_rules.specs.Words.{kwAs, kwPlugin, kwDate, kwTime, kwStruct, kwUnion, numberIn, kindOfRun, isKeyword, startsWithLetter, nameForm, tagForm, hasDot};
+ghost use Rattle.definition_rules.specs.Records.{kindLeast, kindMost};
 
 // 6 to 9 for the last type keywords, 10 for any other run.
 fn later_kind(w: &[u8]) -> u32
     ensures { λ r. ⌜ r ≡ numberIn (kwDate ∷ kwTime ∷ kwStruct ∷ kwUnion ∷ []) 6 (now (w .entry)) ⌝ }
 {
     if classes::same_bytes(b"date", w) {
-        return 6;
+        return numbers::DATE;
     }
     if classes::same_bytes(b"time", w) {
-        return 7;
+        return numbers::TIME;
     }
     if classes::same_bytes(b"struct", w) {
-        return 8;
+        return numbers::STRUCT;
     }
     if classes::same_bytes(b"union", w) {
-        return 9;
+        return numbers::UNION;
     }
-    10
+    numbers::REFERENCE
 }
 
 // 1 to 9 for a type keyword, 10 for a reference.
@@ -29,21 +30,55 @@ pub fn kind_of_run(w: &[u8]) -> u32
     ensures { λ r. ⌜ r ≡ kindOfRun (now (w .entry)) ⌝ }
 {
     if classes::same_bytes(b"void", w) {
-        return 1;
+        return numbers::VOID;
     }
     if classes::same_bytes(b"bool", w) {
-        return 2;
+        return numbers::BOOL;
     }
     if classes::same_bytes(b"int", w) {
-        return 3;
+        return numbers::INT;
     }
     if classes::same_bytes(b"ascii", w) {
-        return 4;
+        return numbers::ASCII;
     }
     if classes::same_bytes(b"unquoted-ascii", w) {
-        return 5;
+        return numbers::UNQUOTED;
     }
     later_kind(w)
+}
+
+// The least length of an unquoted value, and the largest of any, counted from the least i32.
+const UNQUOTED_LEAST: u32 = numbers::BIAS + 1;
+
+const LENGTH_MOST: u32 = numbers::BIAS + numbers::LENGTH_LIMIT;
+
+// What a range of a kind may not lie below, counted from the least i32: 0 itself for kinds without a range.
+pub fn kind_least(k: u32) -> u32
+    ensures { λ r. ⌜ r ≡ kindLeast k ⌝ }
+{
+    if k == numbers::INT {
+        return 0;
+    }
+    if k == numbers::UNQUOTED {
+        return UNQUOTED_LEAST;
+    }
+    numbers::BIAS
+}
+
+// What it may not exceed.
+pub fn kind_most(k: u32) -> u32
+    ensures { λ r. ⌜ r ≡ kindMost k ⌝ }
+{
+    if k == numbers::INT {
+        return numbers::INT_MOST;
+    }
+    if k < numbers::INT {
+        return numbers::BIAS;
+    }
+    if k <= numbers::UNQUOTED {
+        return LENGTH_MOST;
+    }
+    numbers::BIAS
 }
 
 pub fn is_as(w: &[u8]) -> bool
@@ -62,7 +97,7 @@ pub fn is_plugin(w: &[u8]) -> bool
 pub fn is_keyword(w: &[u8]) -> bool
     ensures { λ r. ⌜ r ≡ isKeyword (now (w .entry)) ⌝ }
 {
-    if kind_of_run(w) < 10 {
+    if kind_of_run(w) < numbers::REFERENCE {
         return true;
     }
     if is_as(w) {
@@ -116,7 +151,7 @@ pub fn name_form(w: &[u8]) -> bool
     if !all_name_bytes(w) {
         return false;
     }
-    if 63 < w.len() {
+    if numbers::LABEL_LIMIT < w.len() {
         return false;
     }
     !is_keyword(w)
@@ -132,7 +167,7 @@ pub fn tag_form(w: &[u8]) -> bool
     if !all_tag_bytes(w) {
         return false;
     }
-    w.len() <= 63
+    w.len() <= numbers::LABEL_LIMIT
 }
 
 pub fn has_dot(w: &[u8]) -> bool

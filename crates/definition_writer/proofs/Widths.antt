@@ -9,14 +9,14 @@ use lib.Dec.{eqb, leb}
 use lib.ListN.{length}
 use borrow.Author.Tests.{eqb-false, leb-true, not-false}
 use Rattle.classes.specs.Lists.{pick, every, notEmpty, sameBytes, All}
+use Rattle.classes.proofs.Rows.{both-nil}
 use Rattle.classes.specs.Bytes.{isNameByte, isTagByte}
 use Rattle.numbers.specs.Limits.{none16, labelLimit, bias, intMost, countLimit}
 use Rattle.numbers.specs.Decimal.{isInt, isNatural, intWithin, biasedInt, numberOf}
 use Rattle.numbers.specs.Range.{MaybeNumber, unread, number, numberWhen, readInt, readCount, readUpper, Sides, uncut, sides, onSides, cutRange, MaybeRange, noRange, lowOf, highOf, bothRead, readIntRange, readCountRange}
 use Rattle.numbers.proofs.Digits.{and-right, within-most}
 use Rattle.reading_rules.specs.Record.{Record, top, under}
-use Rattle.definition_rules.specs.Words.{numberIf, numberIn, kindOfRun, kindTakesRange, nameForm, tagForm, isKeyword, startsWithLetter}
-use Rattle.definition_rules.specs.Scan.{placeIf}
+use Rattle.definition_rules.specs.Words.{kindTakesRange, nameForm, tagForm, isKeyword, startsWithLetter}
 use Rattle.definition_rules.specs.Forms.{MaybeRun, absent, given, Tag, ownName, tagless, explicit}
 use Rattle.definition_rules.specs.Declarations.{Declaration, Spots, Noted, noted, declarationsOf}
 use Rattle.definition_rules.specs.Records.{kindLeast, kindMost, limitsOf, countRangeOf, topNames, isNamed, findTop, orNone, targetOf, labelOf, recordFor, recordsFor, recordsOf}
@@ -27,6 +27,9 @@ use Rattle.definition_cells.specs.Cells.{cellAt, runAt, tagAt, maybeRunAt, note
 use Rattle.definition_cells.specs.Places.{leastPlace}
 use Rattle.definition_headings.specs.Heads.{declaredKind, labelAt, namesFrom}
 use Rattle.definition_writer.specs.Written.{declarationIn, recordWritten, recordsWritten}
+use Rattle.definition_rules.proofs.RunLaws.{kind-le}
+use Rattle.definition_rules.proofs.ScanLaws.{place-none}
+use Rattle.definition_cells.proofs.PlaceLaws.{least-none}
 
 -- ---- numbers that were read
 
@@ -78,19 +81,6 @@ unfolding readCountRange
 count-range w = sides-within none16 (cutRange w) (λ u v. bothRead (readCount u) (readUpper v)) (λ u v. both-within none16 (readCount u) (readUpper v) (count-within u) (upper-within v))
 
 -- ---- of a declaration
-
-number-in : (vs : List (List ℕ)) (k : ℕ) (w : List ℕ) → numberIn vs k w ≤ k + length vs
-unfolding numberIn
-number-in [] k w = omega arith
-number-in (v ∷ vs) k w = by (sameBytes v w) (number-in vs (suc k) w)
-  where
-    by : (b : Bool) → numberIn vs (suc k) w ≤ suc k + length vs → numberIf b k (numberIn vs (suc k) w) ≤ k + suc (length vs)
-    by true h = unfold numberIf in omega arith
-    by false h = unfold numberIf in omega arith
-
-pub kind-ten : (w : List ℕ) → kindOfRun w ≤ 10
-unfolding kindOfRun
-kind-ten w = number-in _ 1 w
 
 limits-within : (k : ℕ) (g : MaybeRun) → Both intMost (limitsOf k g)
 unfolding limitsOf kindLeast kindMost lowOf highOf
@@ -175,7 +165,7 @@ module _ (t cs : List ℕ) (n i : ℕ) where
   narrow : Fit t cs n → i < n → Narrow (recordWritten t cs n i)
   unfolding recordWritten recordFor notedAt declarationIn
   narrow f h = record {
-    kinds = omega (arith, kind-ten (runAt t cs i 0));
+    kinds = omega (arith, kind-le (runAt t cs i 0));
     parents = up-narrow (cellAt cs i 15) (f .parents i h);
     los = counts-within (maybeRunAt t cs i 11 6) .0;
     his = counts-within (maybeRunAt t cs i 11 6) .1;
@@ -209,23 +199,9 @@ module _ (t cs : List ℕ) (n : ℕ) where
 
 -- ---- labels, where number 5 finds nothing
 
-least-none : (l : List ℕ) → leastPlace l ≡ Nowhere → l ≡ []
-unfolding leastPlace
-least-none [] e = refl
-least-none (p ∷ l) e = let z : _≡_ {A = ℕ} 0 1 = cc in absurd (omega arith)
-
-none-both : (x y : List ℕ) → x ++ y ≡ [] → (x ≡ []) × (y ≡ [])
-none-both [] y e = (refl, e)
-none-both (p ∷ x) y e = let z : _≡_ {A = ℕ} 0 1 = cc in absurd (omega arith)
-
-none-if : (b : Bool) (p : ℕ) (r : List ℕ) → placeIf b p r ≡ [] → (b ≡ false) × (r ≡ [])
-unfolding placeIf
-none-if true p r e = let z : _≡_ {A = ℕ} 0 1 = cc in absurd (omega arith)
-none-if false p r e = (refl, e)
-
 spot-none : (f : Declaration → Bool) (at : Spots → ℕ) (x : Noted) (ns : List Noted) → spotsWhere f at (x ∷ ns) ≡ [] → (f (declarationIn x) ≡ false) × (spotsWhere f at ns ≡ [])
 unfolding spotsWhere declarationIn
-spot-none f at (noted s d) ns e = none-if (f d) (at s) (spotsWhere f at ns) e
+spot-none f at (noted s d) ns e = place-none (f d) (at s) (spotsWhere f at ns) e
 
 spots-none : (f : Declaration → Bool) (at : Spots → ℕ) (t cs : List ℕ) (n i j : ℕ) → spotsWhere f at (notedFrom t cs n i) ≡ [] → j < n → f (declarationIn (notedAt t cs (i + j))) ≡ false
 unfolding notedFrom
@@ -258,8 +234,8 @@ label-short n (explicit v) h e = tag-short v (not-false (tagForm v) e)
 pub labels-short : (t cs : List ℕ) (n : ℕ) → leastPlace (faults5 (notedFrom t cs n 0)) ≡ Nowhere → (i : ℕ) → i < n → length (labelAt t cs i) ≤ labelLimit
 labels-short t cs n e i h =
     label-short (runAt t cs i 4) (tagAt t cs i)
-    (not-false (nameForm (runAt t cs i 4)) (name (none-both A (B ++ C) (least-none (A ++ (B ++ C)) e) .0)))
-    (tag (none-both B C (none-both A (B ++ C) (least-none (A ++ (B ++ C)) e) .1) .1))
+    (not-false (nameForm (runAt t cs i 4)) (name (both-nil A (B ++ C) (least-none (A ++ (B ++ C)) e) .0)))
+    (tag (both-nil B C (both-nil A (B ++ C) (least-none (A ++ (B ++ C)) e) .1) .1))
   where
     A : List ℕ
     A = spotsWhere nameBroken (λ s. s .nameAt) (notedFrom t cs n 0)

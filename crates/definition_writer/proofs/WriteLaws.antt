@@ -4,36 +4,28 @@ use mathlib.Core.Bool.{Bool, true, false}
 use mathlib.Core.List.{List, [], _∷_, _++_}
 use Prim.Native.Nat.{ℕ, suc, _+_, _-_, _*_, _%_, _<_, _≤_}
 use native.Mathlib.Numerals.{add-one}
-use native.Mathlib.Nat.{add-zero, zero-add}
+use native.Mathlib.Nat.{zero-add}
 use native.Mathlib.Omega.{arith}
 use lib.Dec.{eqb}
 use lib.ListN.{length, getD, take, drop, set, length-append, length-drop, length-take}
-use lib.Seq.{sets, take-suc, length-take-le, sets-eq, set-out}
+use lib.Seq.{sets, take-suc, length-take-le, sets-eq}
 use borrow.Author.Tests.{eqb-true}
-use Rattle.classes.specs.Lists.{pick}
+use Rattle.classes.proofs.Stores.{sets-append}
+use Rattle.classes.specs.Lists.{pick, part}
 use Rattle.numbers.specs.LittleEndian.{put16, put32, signed, set16, set32}
 use Rattle.numbers.specs.Range.{MaybeRange, lowOf, highOf}
-use Rattle.reading_rules.specs.Record.{Record, top, under}
+use Rattle.reading_rules.specs.Record.{Record}
 use Rattle.definition_rules.specs.Forms.{ownName, tagless, explicit}
 use Rattle.definition_rules.specs.Declarations.{Noted, noted, declarationsOf}
 use Rattle.definition_rules.specs.Records.{recordFor, recordsFor, recordsOf, isTagless, labelOf}
-use Rattle.definition_rules.specs.Table.{upNumber, numberUp, bit, flagsNumber, encodeRecord, encode}
-use Rattle.definition_cells.specs.Cells.{cellAt, part, runAt, tagAt, notedAt, notedFrom}
+use Rattle.definition_rules.specs.Table.{bit, flagsNumber, encodeRecord, encode}
+use Rattle.definition_cells.specs.Cells.{cellAt, runAt, tagAt, notedAt, notedFrom}
 use Rattle.definition_cells.proofs.CellLaws.{noted-more, noted-end, noted-all}
 use Rattle.definition_headings.specs.Heads.{declaredKind, limitsAt, countsAt, labelAt, targetAt, namesFrom}
 use Rattle.definition_writer.specs.Written.{declarationIn, recordWritten, recordsWritten, recordsAfter, low16, cutBytes, encodeCut}
+use Rattle.definition_rules.proofs.TableLaws.{up-number}
 
 -- ---- stores in a row
-
-pub sets-out : (vs l : List ℕ) (i : ℕ) → length l ≤ i → sets l i vs ≡ l
-sets-out [] l i h = refl
-sets-out (v ∷ vs) l i h = rw (set-out l i v h) (sets-out vs l (suc i) (omega arith))
-
-pub sets-append : (xs ys l : List ℕ) (i : ℕ) → sets (sets l i xs) (i + length xs) ys ≡ sets l i (xs ++ ys)
-sets-append [] ys l i = rw (add-zero i)
-sets-append (x ∷ xs) ys l i =
-    let p : i + suc (length xs) ≡ suc i + length xs = omega arith in
-    rw p (sets-append xs ys (set l i x) (suc i))
 
 -- a row that fits takes the place of what stood there
 pub sets-front : (vs l : List ℕ) → length vs ≤ length l → sets l 0 vs ≡ vs ++ drop (length vs) l
@@ -48,9 +40,6 @@ unfolding put16 put32
 set-four l at v =
     let p : at + 2 ≡ suc (suc at) = omega arith in
     rw (p, add-one (suc (suc at)), add-one at)
-
-pub copy-start : (l s : List ℕ) (at : ℕ) → l ≡ sets l at (take 0 s)
-copy-start l s at = refl
 
 pub copy-more : (l s : List ℕ) (at i : ℕ) → i < length s → set (sets l at (take i s)) (at + i) (getD s i 0) ≡ sets l at (take (i + 1) s)
 copy-more l s at i h =
@@ -90,14 +79,6 @@ tagless-is t cs i = by (eqb (cellAt cs i 12) 0) (eqb (cellAt cs i 12) 1) refl re
     by true false p q = unfold pick isTagless in refl
     by false true p q = unfold pick isTagless in refl
     by false false p q = unfold pick isTagless in refl
-
-up-number : (x : ℕ) → upNumber (numberUp x) ≡ x
-unfolding numberUp
-up-number x = by (eqb x 65535) refl
-  where
-    by : (b : Bool) → eqb x 65535 ≡ b → upNumber (pick b top (under x)) ≡ x
-    by true e = unfold pick upNumber in (sym (eqb-true x 65535 e))
-    by false e = unfold pick upNumber in refl
 
 -- the eleven stores
 pub record-is : (t cs : List ℕ) (n i at k p f g lo hi a b : ℕ) (l : List ℕ) (c m : MaybeRange) (e e1 e2 e3 e4 e5 e6 e7 e8 e9 e10 e11 : List ℕ)

@@ -5,6 +5,7 @@ ghost use Prim.Native.Nat.{_+_, _≤_, _%_};
 ghost use lib.Dec.{eqb};
 ghost use lib.ListN.{length, take};
 ghost use lib.Seq.{sets};
+ghost use Rattle.numbers.specs.Limits.{textLimit, parameterLimit};
 ghost use Rattle.numbers.specs.LittleEndian.{put16, put32, signed};
 ghost use Rattle.definition_rules.specs.Table.{bit as bitOf, flagsNumber};
 ghost use Rattle.definition_cells.specs.Cells.{cellAt};
@@ -52,14 +53,25 @@ fn bit(b: bool) -> usize
     0
 }
 
-// 1 untagged, 2 directly in an extension, 4 plugin.
+// What each flag adds.
+const EXTENSION: usize = numbers::EXTENSION as usize;
+
+const PLUGIN: usize = numbers::PLUGIN as usize;
+
+// Untagged, directly in an extension, plugin.
 fn flags(cells: &[u32], i: usize) -> usize
     ensures { λ r. ⌜ r ≡ flagsNumber (eqb (cellAt (now (cells .entry)) i 12) 1) (eqb (cellAt (now (cells .entry)) i 14) 1) (eqb (cellAt (now (cells .entry)) i 13) 1) ⌝ }
 {
-    let untagged = bit(definition_cells::cell(cells, i, 12) == 1);
-    let extension = bit(definition_cells::cell(cells, i, 14) == 1);
-    let plugin = bit(definition_cells::cell(cells, i, 13) == 1);
-    untagged + 2 * extension + 4 * plugin
+    let untagged = bit(
+        definition_cells::cell(cells, i, definition_cells::TAGGED) == definition_cells::TAGLESS,
+    );
+    let extension = bit(
+        definition_cells::cell(cells, i, definition_cells::EXTENDED) == definition_cells::GIVEN,
+    );
+    let plugin = bit(
+        definition_cells::cell(cells, i, definition_cells::PLUGGED) == definition_cells::GIVEN,
+    );
+    untagged + EXTENSION * extension + PLUGIN * plugin
 }
 
 fn write_record(text: &[u8], cells: &[u32], n: usize, i: usize, table: &mut [u8], at: usize)
@@ -71,7 +83,7 @@ fn write_record(text: &[u8], cells: &[u32], n: usize, i: usize, table: &mut [u8]
     let label = definition_headings::label(text, cells, i);
     let len = label.len() % 65536;
     let kind = definition_headings::kind(text, cells, i) as usize;
-    let parent = definition_cells::cell(cells, i, 15) as usize;
+    let parent = definition_cells::cell(cells, i, definition_cells::PARENT) as usize;
     let flags = flags(cells, i);
     let counts = definition_headings::counts(text, cells, i);
     let lo = definition_headings::low(counts) as usize;
@@ -80,34 +92,34 @@ fn write_record(text: &[u8], cells: &[u32], n: usize, i: usize, table: &mut [u8]
     let least = definition_headings::low(limits);
     let most = definition_headings::high(limits);
     let target = definition_headings::target(text, cells, n, i);
-    put_cut(table, at, 24 + len);
-    put_cut(table, at + 2, kind);
-    put_cut(table, at + 4, parent);
-    put_cut(table, at + 6, flags);
-    put_cut(table, at + 8, lo);
-    put_cut(table, at + 10, hi);
-    put_limit(table, at + 12, least);
-    put_limit(table, at + 16, most);
-    put_cut(table, at + 20, target);
-    put_cut(table, at + 22, len);
-    put_bytes(table, at + 24, label);
+    put_cut(table, at, numbers::RECORD_HEADER + len);
+    put_cut(table, at + numbers::KIND_AT, kind);
+    put_cut(table, at + numbers::PARENT_AT, parent);
+    put_cut(table, at + numbers::FLAGS_AT, flags);
+    put_cut(table, at + numbers::LO_COUNT_AT, lo);
+    put_cut(table, at + numbers::HI_COUNT_AT, hi);
+    put_limit(table, at + numbers::LEAST_AT, least);
+    put_limit(table, at + numbers::MOST_AT, most);
+    put_cut(table, at + numbers::TARGET_AT, target);
+    put_cut(table, at + numbers::LABEL_LENGTH_AT, len);
+    put_bytes(table, at + numbers::RECORD_HEADER, label);
 }
 
 // ---- all records
 
 // How long a record is.
 fn record_length(text: &[u8], cells: &[u32], i: usize) -> usize
-    requires { ⌜ length (now text) ≤ 65535 ⌝ }
+    requires { ⌜ length (now text) ≤ textLimit ⌝ }
     ensures { λ r. ⌜ (r ≡ 24 + length (labelAt (now (text .entry)) (now (cells .entry)) i)) × (r ≤ 65559) ⌝ }
 {
     let label = definition_headings::label(text, cells, i);
-    24 + label.len()
+    numbers::RECORD_HEADER + label.len()
 }
 
 // Writes the records one after the other; gives the length of all.
 // The sizes are those that the first and the fourth refusal leave: with them the length is a number of 32 bits.
 pub fn write_records(text: &[u8], cells: &[u32], n: usize, table: &mut [u8]) -> usize
-    requires { ⌜ (n ≤ 256) × (length (now text) ≤ 65535) ⌝ }
+    requires { ⌜ (n ≤ parameterLimit) × (length (now text) ≤ textLimit) ⌝ }
     ensures { λ r. ⌜ WroteRecords (recordsWritten (now (text .entry)) (now (cells .entry)) n) r (now (table .entry)) (now (table .exit)) ⌝ }
 {
     let mut i: usize = 0;
@@ -126,5 +138,5 @@ pub fn write_records(text: &[u8], cells: &[u32], n: usize, table: &mut [u8]) -> 
 pub fn copy_out(scratch: &[u8], len: usize, table: &mut [u8])
     ensures { λ _. ⌜ now (table .exit) ≡ sets (now (table .entry)) 0 (take len (now (scratch .entry))) ⌝ }
 {
-    put_bytes(table, 0, definition_cells::part(scratch, 0, len));
+    put_bytes(table, 0, classes::part(scratch, 0, len));
 }

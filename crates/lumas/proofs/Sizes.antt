@@ -7,6 +7,7 @@ use native.Mathlib.Omega.{arith}
 use lib.Dec.{leb, ltb}
 use lib.ListN.{length}
 use borrow.Author.Tests.{leb-true, ltb-true}
+use Rattle.classes.proofs.Bools.{both-true}
 use Rattle.classes.specs.Lists.{pick}
 use Rattle.numbers.specs.Limits.{parameterLimit}
 use Rattle.reading_rules.specs.Record.{Record}
@@ -15,7 +16,6 @@ use Rattle.definition_rules.specs.Faults.{isUnionAt}
 use Rattle.definition_rules.specs.Table.{encode}
 use Rattle.definition_rules.specs.Compile.{Finding, clean, fault, firstFault, checks, recordsOfText, table, verdictOf, verdict, compiled, refusal, answerWithRoom, compileAnswer}
 use Rattle.table_rules.specs.RecordRules.{ordered, kindsOfRecords, countsFine, rangeFine, targetFine, showsName, labelFine, topFine, recordFine, everyRecord, recordRules}
-use Rattle.table_rules.proofs.Witness.{and-both}
 use Rattle.table_rules.proofs.Made.{name-len, tag-len}
 use Rattle.table_rules.proofs.TextRules.{text-rules-records}
 use Rattle.definition_writer.proofs.WriteLaws.{encode-length}
@@ -34,27 +34,27 @@ module _ (rs : List Record) (isUnion : ℕ → Bool) where
   fine-label : (r : Record) → recordFine rs isUnion r ≡ true → length (r .label) ≤ 63
   unfolding recordFine
   fine-label r e =
-      let a = and-both (leb 1 (r .kind)) _ e .1 in
-      let b = and-both (leb (r .kind) 10) _ a .1 in
-      let c = and-both (countsFine isUnion r) _ b .1 in
-      let d = and-both (rangeFine r) _ c .1 in
-      let f = and-both (targetFine rs r) _ d .1 in
-      label-short r (and-both (labelFine r) (topFine r) f .0)
+      let a = both-true (leb 1 (r .kind)) _ e .1 in
+      let b = both-true (leb (r .kind) 10) _ a .1 in
+      let c = both-true (countsFine isUnion r) _ b .1 in
+      let d = both-true (rangeFine r) _ c .1 in
+      let f = both-true (targetFine rs r) _ d .1 in
+      label-short r (both-true (labelFine r) (topFine r) f .0)
 
   records-short : (l : List Record) → everyRecord (recordFine rs isUnion) l ≡ true → length (encode l) ≤ 87 * length l
   unfolding everyRecord encode
   records-short [] e = omega arith
   records-short (r ∷ l) e =
-      let a = and-both (recordFine rs isUnion r) (everyRecord (recordFine rs isUnion) l) e in
+      let a = both-true (recordFine rs isUnion r) (everyRecord (recordFine rs isUnion) l) e in
       omega (arith, encode-length r (encode l), fine-label r (a .0), records-short l (a .1))
 
 rules-short : (rs : List Record) → recordRules parameterLimit rs ≡ true → length (encode rs) ≤ tableMost
 unfolding recordRules
 rules-short rs e =
-    let a = and-both (leb 1 (length rs)) _ e .1 in
-    let b = and-both (leb (length rs) parameterLimit) _ a in
-    let c = and-both (ordered [] 0 rs) _ (b .1) .1 in
-    let d = and-both (everyRecord (recordFine rs (isUnionAt (kindsOfRecords rs))) rs) _ c .0 in
+    let a = both-true (leb 1 (length rs)) _ e .1 in
+    let b = both-true (leb (length rs) parameterLimit) _ a in
+    let c = both-true (ordered [] 0 rs) _ (b .1) .1 in
+    let d = both-true (everyRecord (recordFine rs (isUnionAt (kindsOfRecords rs))) rs) _ c .0 in
     omega (arith, leb-true (length rs) parameterLimit (b .0), records-short rs (isUnionAt (kindsOfRecords rs)) rs d)
 
 module _ (text : List ℕ) (room p : ℕ) (enough : tableMost ≤ room) where

@@ -20,8 +20,6 @@ ghost use Rattle.lumas.specs.Told.{tableMost, compileValue, compileHeard
 
 const SUCCESS: u32 = 0;
 
-const ROW_WIDTH: usize = 4;
-
 // Compiles a definition into the lent table. The value is the table's length, or the refusal's place.
 // Where as much is lent as the longest table has, it is never refused for its length.
 #[no_mangle]
@@ -81,12 +79,6 @@ pub extern "C" fn lumas_read(
     }
 }
 
-fn wide(x: u32) -> usize
-    ensures { λ r. ⌜ r ≡ x ⌝ }
-{
-    x as usize
-}
-
 // The number of a row's bytes, and where in the message they start: 0 and 0 where there are none.
 #[no_mangle]
 pub extern "C" fn lumas_row(message: &[u8], rows: &[u32], row: usize, start: &mut usize) -> usize
@@ -97,6 +89,6 @@ pub extern "C" fn lumas_row(message: &[u8], rows: &[u32], row: usize, start: &mu
         *start = 0;
         return 0;
     }
-    *start = wide(rows[ROW_WIDTH * row + 2]);
+    *start = numbers::wide(rows[numbers::ROW_WIDTH * row + numbers::ROW_START]);
     count
 }

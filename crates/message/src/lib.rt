@@ -25,18 +25,6 @@ pub enum Verdict {
     Refused(u32, usize),
 }
 
-const MESSAGE_LIMIT: usize = 16_384;
-
-const ROW_WIDTH: usize = 4;
-
-const NO_ROW: usize = 4_294_967_295;
-
-fn wide(x: u32) -> usize
-    ensures { λ r. ⌜ r ≡ x ⌝ }
-{
-    x as usize
-}
-
 fn empty_part<'a>(message: &'a [u8]) -> &'a [u8]
     ensures { λ r. ⌜ now r ≡ [] ⌝ }
     ensures { λ r. ⌜ r .ptr ≡ further ((message .entry) .ptr) 0 ⌝ }
@@ -49,11 +37,11 @@ pub fn row_bytes<'a>(message: &'a [u8], rows: &[u32], row: usize) -> &'a [u8]
     ensures { λ r. ⌜ now r ≡ rowBytes (now (message .entry)) (now (rows .entry)) row ⌝ }
     ensures { λ r. ⌜ r .ptr ≡ further ((message .entry) .ptr) (rowStart (now (message .entry)) (now (rows .entry)) row) ⌝ }
 {
-    if rows.len() / ROW_WIDTH <= row {
+    if rows.len() / numbers::ROW_WIDTH <= row {
         return empty_part(message);
     }
-    let start = wide(rows[ROW_WIDTH * row + 2]);
-    let end = wide(rows[ROW_WIDTH * row + 3]);
+    let start = numbers::wide(rows[numbers::ROW_WIDTH * row + numbers::ROW_START]);
+    let end = numbers::wide(rows[numbers::ROW_WIDTH * row + numbers::ROW_END]);
     if end < start {
         return empty_part(message);
     }
@@ -63,7 +51,10 @@ pub fn row_bytes<'a>(message: &'a [u8], rows: &[u32], row: usize) -> &'a [u8]
     &message[start..end]
 }
 
-// The frame of the root's body, with the depth of 16 braces.
+// How deep a reading goes: the root's body, and a body for each brace that may be open.
+const DEPTH: usize = numbers::OPEN_LIMIT + 1;
+
+// The frame of the root's body.
 fn root() -> Frame
     ensures { λ r. ⌜ r ≡ rootFrame ⌝ }
 {
@@ -73,7 +64,7 @@ fn root() -> Frame
         row: 1,
         parameter: 0,
         parent: 0,
-        depth: 17,
+        depth: DEPTH,
     }
 }
 
@@ -96,7 +87,7 @@ fn fill(table: &[u8], unpacked: &[u32], n: usize, message: &[u8], rows: &mut [u3
         0,
         Row {
             parameter: 0,
-            parent: NO_ROW,
+            parent: numbers::NO_ROW,
             start: 0,
             end: message.len(),
         },
@@ -117,8 +108,8 @@ fn read_records(
     ensures { λ r. ⌜ answerOfRead r ≡ withRoom (length (now (rows .entry))) (roomFree (recordsAt (now (table .entry)) (now (unpacked .entry)) n) (now (message .entry))) ⌝ }
     ensures { λ _. ⌜ now (rows .exit) ≡ written (now (rows .entry)) (roomFree (recordsAt (now (table .entry)) (now (unpacked .entry)) n) (now (message .entry))) ⌝ }
 {
-    if MESSAGE_LIMIT < message.len() {
-        return Verdict::Refused(21, MESSAGE_LIMIT);
+    if numbers::MESSAGE_LIMIT < message.len() {
+        return Verdict::Refused(21, numbers::MESSAGE_LIMIT);
     }
     match message_tokens::scan_fault(message) {
         Scanned::Fault(at) => {
@@ -144,7 +135,7 @@ fn read_tokens(
 {
     match count(table, unpacked, n, message, rows) {
         Got::Done(_, m) => {
-            if rows.len() / ROW_WIDTH < m {
+            if rows.len() / numbers::ROW_WIDTH < m {
                 return Verdict::Refused(29, m);
             }
             fill(table, unpacked, n, message, rows);
@@ -176,7 +167,7 @@ pub fn read(table: &[u8], message: &[u8], rows: &mut [u32]) -> Verdict
     ensures { λ _. ⌜ now (rows .exit) ≡ rowsAfter (now (table .entry)) (now (message .entry)) (now (rows .entry)) ⌝ }
     ensures { λ r. ⌜ ReadPromise (now (table .entry)) (now (message .entry)) (now (rows .entry)) (answerOfRead r) (now (rows .exit)) ⌝ }
 {
-    if table.len() <= 400 {
+    if table.len() <= table::FEW_BYTES {
         let mut few = table::few_cells();
         return read_with(table, &mut few, message, rows);
     }

@@ -6,9 +6,9 @@ ghost use lib.ListN.{length};
 ghost use Rattle.numbers.specs.Limits.{messageLimit};
 ghost use Rattle.message_bodies.specs.Bodies.{endNumberAt, endAt, StartAt, ItemAt, KnownAt, UnknownAt};
 use message_frame::Frame;
-use message_lookup::Found;
 use message_tokens::Cursor;
 use message_unknown::Passed;
+use table_tags::Found;
 
 // Where no token (kind 0) or a `}` (kind 6) stands at a place where a body may end, its number, 0 where it ends; else other.
 fn end_at(kind: u8, inside: bool, complete: bool, other: u32) -> u32
@@ -100,7 +100,7 @@ fn known_item(
     n: usize,
     s: &[u8],
     base: usize,
-    seen: &[bool; 256],
+    seen: &[bool; numbers::PARAMETER_LIMIT],
     q: usize,
     a: usize,
     past: Cursor,
@@ -108,7 +108,7 @@ fn known_item(
     requires { ⌜ (base + length (now s) ≤ messageLimit) × (a ≤ length (now s)) ⌝ }
     ensures { λ r. ⌜ KnownAt (now (table .entry)) (now (unpacked .entry)) n (now (s .entry)) base (now (seen .entry)) q a (past .at) r ⌝ }
 {
-    if message_lookup::is_marked(seen, q) {
+    if numbers::mark_at(seen, q) {
         return Item::Refused(26, base + a);
     }
     if message_lookup::is_void(table, unpacked, n, q) {
@@ -130,7 +130,7 @@ pub fn item_at(
     s: &[u8],
     f: Frame,
     inside: bool,
-    seen: &[bool; 256],
+    seen: &[bool; numbers::PARAMETER_LIMIT],
 ) -> Item
     requires { ⌜ f .base + length (now s) ≤ messageLimit ⌝ }
     ensures { λ r. ⌜ ItemAt (now (table .entry)) (now (unpacked .entry)) n (now (s .entry)) f inside (now (seen .entry)) r ⌝ }

@@ -20,8 +20,8 @@ use Rattle.message_tokens.specs.declared.Head.{Head}
 use Rattle.message_tokens.proofs.Heads.{head-not, step-tokens}
 use Rattle.message_unknown.specs.Along.{here, tokensAt, Stopped}
 use Rattle.message_unknown.proofs.AlongLaws.{step-tail}
-use Rattle.message_lookup.specs.Questions.{withFind, schemaAt, foundOf}
-use Rattle.message_lookup.specs.declared.Found.{Found}
+use Rattle.message_lookup.specs.Questions.{withFind, schemaAt}
+use Rattle.table_tags.specs.declared.Found.{Found}
 use Rattle.message_lookup.proofs.Laws.{find-below, untagged-below}
 use Rattle.message_frame.specs.Ends.{Values, endOf}
 use Rattle.message_choices.specs.Choices.{Deeper, Whole, ChoiceAt, KnownEquals, KnownWhole, ChosenAt}
@@ -30,6 +30,7 @@ use Rattle.message_choices.specs.declared.Choice.{Choice}
 use Rattle.message_choices.specs.declared.Choice.the-variants as choice
 use Rattle.message_frame.proofs.GoingLaws.{stopped-before}
 use Rattle.message_frame.proofs.AtToken.{stop-here, stop-at, step-of-equals, equals-none}
+use Rattle.table_tags.specs.Lists.{foundOf}
 
 module _ (t o : List ℕ) (n : ℕ) where
   bare-below : (u q : ℕ) → schemaAt t o n .bare u ≡ found q → q < n

@@ -13,12 +13,13 @@ use Rattle.reading_rules.specs.Reading.{width}
 use Rattle.message_rules.specs.Rows.{rowOver, rowsOf}
 use Rattle.message_tokens.specs.Cursor.{part, cutAt, lexemesAt, Step}
 use Rattle.message_unknown.specs.Along.{tokensAt, Stopped}
-use Rattle.message_lookup.specs.Questions.{schemaAt, foundOf}
-use Rattle.message_lookup.specs.declared.Found.{Found}
+use Rattle.message_lookup.specs.Questions.{schemaAt}
 use Rattle.message_frame.specs.Ends.{Values, endOf}
 use Rattle.message_frame.specs.declared.Frame.{Frame}
+use Rattle.table_tags.specs.declared.Found.{Found}
 use Rattle.message_choices.specs.declared.Choice.{Choice}
 use Rattle.message_choices.specs.declared.Choice.the-variants as choice
+use Rattle.table_tags.specs.Lists.{foundOf}
 
 -- a choice of q whose value is due at e
 pub record Deeper (S : Schema) (n : ℕ) (s : List ℕ) (f : Frame) (u q a e : ℕ) : Type 0 where

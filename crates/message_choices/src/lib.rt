@@ -5,8 +5,8 @@ ghost use lib.ListN.{length};
 ghost use Rattle.numbers.specs.Limits.{messageLimit};
 ghost use Rattle.message_choices.specs.Choices.{ChoiceAt, ChosenAt, bareAt};
 use message_frame::Frame;
-use message_lookup::Found;
 use message_tokens::Cursor;
+use table_tags::Found;
 
 // A step down a chain of choices, with the alternative and its word's start: its value is due past the cursor, or it is whole.
 pub enum Choice {

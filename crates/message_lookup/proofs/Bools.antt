@@ -1,5 +1,5 @@
 -- Tests one after the other.
-use mathlib.Core.Path.{_≡_, refl, sym, _∙_}
+use mathlib.Core.Path.{_≡_, refl, _∙_}
 use mathlib.Core.Bool.{Bool, true, false, not, _&&_}
 
 -- x and y are the answers to a and b
@@ -22,15 +22,3 @@ stopped a e h = rw (← e, h) (go a)
     go : (z : Bool) → false ≡ z && false
     go true = refl
     go false = refl
-
--- the same, the second part known first
-pub both-last : {r a s t : Bool} → r ≡ a → t ≡ s → t ≡ true → r ≡ a && s
-both-last {r} {a} {s} {t} e f g = e ∙ go a s (sym f ∙ g)
-  where
-    go : (a s : Bool) → s ≡ true → a ≡ a && s
-    go true s h = sym h
-    go false s h = refl
-
-pub stops-last : {s t : Bool} (a : Bool) → t ≡ s → t ≡ false → false ≡ a && s
-stops-last true f g = sym g ∙ f
-stops-last false f g = refl

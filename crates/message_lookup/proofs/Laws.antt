@@ -8,12 +8,12 @@ use native.Mathlib.Numerals.{add-one}
 use lib.ListN.{length, getD, drop, length-drop}
 use lib.Seq.{drop-drop}
 use Rattle.reading_rules.specs.Record.{Record}
-use Rattle.reading_rules.specs.Schema.{nowhere, found, schemaOf, first, numbersWhere, isUntaggedOf, kindOf}
+use Rattle.reading_rules.specs.Schema.{nowhere, found, schemaOf, first, numbersWhere, isUntaggedOf}
 use Rattle.table_records.specs.Stored.{recordsAt}
 use Rattle.table_records.proofs.Laws.{length-records}
 use Rattle.table_tags.specs.Lists.{listKey, Linked}
 use Rattle.table_tags.proofs.Searching.{search-below, search-first}
-use Rattle.message_lookup.specs.Questions.{withFind, schemaAt, nth, untaggedFrom}
+use Rattle.message_lookup.specs.Questions.{withFind, schemaAt, untaggedFrom}
 use Rattle.message_lookup.proofs.Steps.{where-true, where-false}
 
 -- ---- numbers of records for which a test holds
@@ -104,7 +104,3 @@ unfolding schemaOf withFind
 schema-is t unpacked n l = ap (withFind (schemaOf (recordsAt t unpacked n))) (fun-ext (λ p. fun-ext (λ w. search-first t unpacked n p w l)))
 
 -- ---- one parameter
-
-pub kind-answer : (t unpacked : List ℕ) (n p : ℕ) → schemaAt t unpacked n .kind p ≡ kindOf (nth t unpacked n p .kind)
-unfolding schemaOf withFind
-kind-answer t unpacked n p = refl

@@ -4,6 +4,5 @@ mod Steps
 mod Judging
 -- laws that other crates cite
 pub mod Laws
-pub mod Search
 pub mod Marked
 pub mod IntLists

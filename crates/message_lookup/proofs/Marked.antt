@@ -2,11 +2,12 @@
 use mathlib.Core.Path.{_≡_, refl, ap, sym, _∙_}
 use mathlib.Core.Bool.{Bool, true, false, not, _&&_, _||_}
 use mathlib.Core.List.{List, [], _∷_}
-use Prim.Native.Nat.{ℕ, zero, suc, _+_, _<_}
+use Prim.Native.Nat.{ℕ, suc, _+_, _<_}
 use native.Mathlib.Omega.{arith}
 use lib.Dec.{eqb, ltb}
-use lib.ListN.{length, getD, set, replicate, length-set, length-replicate}
+use lib.ListN.{length, getD, set, length-set, length-replicate}
 use lib.Seq.{getD-set-same, getD-set-other}
+use Rattle.classes.proofs.Rows.{no-mark}
 use Rattle.numbers.specs.Limits.{parameterLimit}
 use Rattle.reading_rules.specs.Record.{Record, blank, recordAt}
 use Rattle.reading_rules.specs.Schema.{Schema, Found, schemaOf, numbersWhere, isTaggedOf}
@@ -22,13 +23,8 @@ pub marks-none : Marks noMarks []
 unfolding noMarks times
 marks-none = record {
   size = length-replicate parameterLimit false;
-  marked = λ k. getD-all parameterLimit k ∙ sym (out-hasnt [] k refl);
+  marked = λ k. no-mark parameterLimit k ∙ sym (out-hasnt [] k refl);
 }
-  where
-    getD-all : (n k : ℕ) → getD (replicate n false) k false ≡ false
-    getD-all zero k = refl
-    getD-all (suc n) zero = refl
-    getD-all (suc n) (suc k) = getD-all n k
 
 -- one more
 has-more : (ks : List ℕ) (k j : ℕ) → same k j ≡ 0 → has ks j ≡ has (k ∷ ks) j

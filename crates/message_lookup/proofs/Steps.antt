@@ -1,14 +1,14 @@
 -- One record more in each loop, and the blank record past the last.
 use mathlib.Core.Path.{_≡_, refl, ap, sym, _∙_}
 use mathlib.Core.Bool.{Bool, true, false, not, _&&_}
-use mathlib.Core.List.{List, [], _∷_}
+use mathlib.Core.List.{List, _∷_}
 use Prim.Native.Nat.{ℕ, suc, _+_, _-_, _≤_, _<_}
 use native.Mathlib.Numerals.{add-one}
 use borrow.Author.Tests.{ne-eqb}
 use lib.Dec.{eqb}
 use lib.ListN.{drop}
 use Rattle.reading_rules.specs.Record.{Record, blank}
-use Rattle.reading_rules.specs.Schema.{Kind, void, simple, struct, union, reference, Found, nowhere, found, schemaOf, first, firstWhere, numbersWhere, isTaggedAs, isVoid, kindOf, coreOf}
+use Rattle.reading_rules.specs.Schema.{Kind, void, simple, struct, union, reference, Found, nowhere, found, schemaOf, first, numbersWhere, isTaggedAs, isVoid, kindOf, coreOf}
 use Rattle.reading_rules.proofs.CountLaws.{clash-bool}
 use Rattle.table_records.specs.Stored.{recordIn, recordsFrom, recordsAt}
 use Rattle.table_records.proofs.Laws.{record-at, record-past, records-left, records-more, records-end, records-all}
@@ -72,15 +72,6 @@ module _ (f : Record → Bool) (i : ℕ) (r : Record) (rs : List Record) where
   pub where-false : f r ≡ false → numbersWhere f i (r ∷ rs) ≡ numbersWhere f (suc i) rs
   unfolding numbersWhere
   where-false e = rw (e, numbersWhere)
-
-pub first-where : (f : Record → Bool) (i : ℕ) (rs : List Record) → first (numbersWhere f i rs) ≡ firstWhere f i rs
-unfolding first firstWhere numbersWhere
-first-where f i [] = refl
-first-where f i (r ∷ rs) = go (first-where f (suc i) rs) (f r)
-  where
-    go : first (numbersWhere f (suc i) rs) ≡ firstWhere f (suc i) rs → (b : Bool) → first (elim b [ true ↦ i ∷ numbersWhere f (suc i) rs | false ↦ numbersWhere f (suc i) rs ]) ≡ elim b [ true ↦ found i | false ↦ firstWhere f (suc i) rs ]
-    go e true = refl
-    go e false = e
 
 -- the first from the k-th record on
 abbrev pub firstFrom : List ℕ → List ℕ → ℕ → (Record → Bool) → ℕ → Found

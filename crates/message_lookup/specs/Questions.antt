@@ -12,8 +12,6 @@ use Rattle.reading_rules.specs.Schema as schema
 use Rattle.reading_rules.specs.Schema.{Schema, schemaOf, numbersWhere, isUntaggedOf}
 use Rattle.table_records.specs.Stored.{recordsAt}
 use Rattle.table_tags.specs.Lists.{searched}
-use Rattle.message_lookup.specs.declared.Found.{Found}
-use Rattle.message_lookup.specs.declared.Found.the-variants.{Nowhere, At}
 use Rattle.message_lookup.specs.declared.Shape.{Shape}
 use Rattle.message_lookup.specs.declared.Shape.the-variants.{Void, Simple, Struct, Union, Reference}
 
@@ -40,11 +38,6 @@ schemaAt t unpacked n = withFind (schemaOf (recordsAt t unpacked n)) (searched t
 -- the p-th of n records, or the blank one
 abbrev pub nth : List ℕ → List ℕ → ℕ → ℕ → Record
 nth t unpacked n p = recordAt (recordsAt t unpacked n) p
-
--- what the code's answer to a search means
-abbrev pub foundOf : Found → schema.Found
-foundOf Nowhere = schema.nowhere
-foundOf (At q) = schema.found q
 
 -- what the code's shapes mean
 abbrev pub shapeOf : Shape → schema.Kind

@@ -3,22 +3,26 @@
 ghost use mathlib.Core.Path.{_≡_};
 ghost use mathlib.Core.Bool.{true, false};
 ghost use Prim.Native.Nat.{ℕ, _+_, _-_, _<_};
-ghost use lib.ListN.{length, getD, set};
+ghost use lib.ListN.{length, set};
 ghost use Rattle.classes.specs.Bytes.{between};
 ghost use Rattle.numbers.specs.Limits.{bias};
 ghost use Rattle.reading_rules.specs.Value.{isBool, formThenRange};
 ghost use Rattle.reading_rules.specs.Schema.{isVoid, isUntaggedOf, isTaggedOf, isTaggedAs, first};
 ghost use Rattle.reading_rules.specs.Parse.{mayGrow};
 ghost use Rattle.table_records.specs.Stored.{recordIn, recordsAt};
-ghost use Rattle.message_lookup.specs.Questions.{schemaAt, nth, foundOf, shapeOf, untaggedFrom, textToken, lengthLies, intLies};
+ghost use Rattle.table_tags.specs.Lists.{foundOf};
+ghost use Rattle.message_lookup.specs.Questions.{schemaAt, nth, shapeOf, untaggedFrom, textToken, lengthLies, intLies};
 ghost use Rattle.message_lookup.specs.Seen.{noMarks, isRequiredOf, isMissing, completeFrom};
 ghost use Rattle.message_lookup.specs.IntList.{IntsOf};
+use table_tags::Found;
 
-// What a search finds.
-pub enum Found {
-    Nowhere,
-    At(usize),
-}
+// A hi count that sets no limit.
+const NO_LIMIT: usize = numbers::NO_LIMIT as usize;
+
+// The bias and the largest number of a range, as places are counted.
+const ZERO: usize = numbers::BIAS as usize;
+
+const LARGEST: usize = numbers::INT_MOST as usize;
 
 // How a parameter's values are read.
 pub enum Shape {
@@ -36,7 +40,7 @@ pub fn kind_number(table: &[u8], unpacked: &[u32], n: usize, p: usize) -> u32
     ensures { λ r. ⌜ r ≡ nth (now (table .entry)) (now (unpacked .entry)) n p .kind ⌝ }
 {
     if n <= p {
-        return 1;
+        return numbers::VOID;
     }
     table_records::kind_at(table, unpacked, p)
 }
@@ -46,10 +50,10 @@ pub fn kind(table: &[u8], unpacked: &[u32], n: usize, p: usize) -> Shape
 {
     let number = kind_number(table, unpacked, n, p);
     match number {
-        1 => Shape::Void,
-        8 => Shape::Struct,
-        9 => Shape::Union,
-        10 => Shape::Reference,
+        numbers::VOID => Shape::Void,
+        numbers::STRUCT => Shape::Struct,
+        numbers::UNION => Shape::Union,
+        numbers::REFERENCE => Shape::Reference,
         _ => Shape::Simple,
     }
 }
@@ -57,7 +61,7 @@ pub fn kind(table: &[u8], unpacked: &[u32], n: usize, p: usize) -> Shape
 pub fn is_void(table: &[u8], unpacked: &[u32], n: usize, p: usize) -> bool
     ensures { λ r. ⌜ r ≡ isVoid (schemaAt (now (table .entry)) (now (unpacked .entry)) n .kind p) ⌝ }
 {
-    kind_number(table, unpacked, n, p) == 1
+    kind_number(table, unpacked, n, p) == numbers::VOID
 }
 
 // A reference's target, else the parameter itself.
@@ -67,7 +71,7 @@ pub fn core(table: &[u8], unpacked: &[u32], n: usize, p: usize) -> usize
     if n <= p {
         return p;
     }
-    if table_records::kind_at(table, unpacked, p) == 10 {
+    if table_records::kind_at(table, unpacked, p) == numbers::REFERENCE {
         return table_records::target_at(table, unpacked, p);
     }
     p
@@ -96,17 +100,7 @@ pub fn hi(table: &[u8], unpacked: &[u32], n: usize, p: usize) -> usize
 pub fn may_grow(hi: usize, c: usize) -> bool
     ensures { λ r. ⌜ r ≡ mayGrow hi c ⌝ }
 {
-    (hi == 65_535) | (c < hi)
-}
-
-// Directly in an extension, or plugin.
-pub fn optional(table: &[u8], unpacked: &[u32], n: usize, p: usize) -> bool
-    ensures { λ r. ⌜ r ≡ schemaAt (now (table .entry)) (now (unpacked .entry)) n .optional p ⌝ }
-{
-    if n <= p {
-        return false;
-    }
-    table_records::extension_at(table, unpacked, p) | table_records::plugin_at(table, unpacked, p)
+    (hi == NO_LIMIT) | (c < hi)
 }
 
 // What a list of ints takes, in packed digits: from least to most; fewer than hi values may have one more. Without on it is
@@ -122,18 +116,18 @@ pub struct Ints {
 fn above_zero(x: u32) -> u32
     ensures { λ r. ⌜ r ≡ x - bias ⌝ }
 {
-    if x < 0x8000_0000 {
+    if x < numbers::BIAS {
         return 0;
     }
-    x - 0x8000_0000
+    x - numbers::BIAS
 }
 
 // How many values a list may have, where no limit is more than any list has.
 fn most_values(hi: usize) -> usize
     ensures { λ r. ⌜ ((c : ℕ) → c < r → mayGrow hi c ≡ true) ⌝ }
 {
-    if hi == 65_535 {
-        return 0xFFFF_FFFF;
+    if hi == NO_LIMIT {
+        return LARGEST;
     }
     hi
 }
@@ -154,7 +148,7 @@ pub fn ints_of(table: &[u8], unpacked: &[u32], n: usize, p: usize) -> Ints
     }
     let most = table_records::most_at(table, unpacked, u);
     Ints {
-        on: (table_records::kind_at(table, unpacked, u) == 3) & (0x8000_0000 <= most),
+        on: (table_records::kind_at(table, unpacked, u) == numbers::INT) & (numbers::BIAS <= most),
         least: numbers::packed(above_zero(table_records::least_at(table, unpacked, u))),
         most: numbers::packed(above_zero(most)),
         hi: most_count,
@@ -206,36 +200,21 @@ pub fn bare(table: &[u8], unpacked: &[u32], n: usize, p: usize) -> Found
 pub fn find(table: &[u8], unpacked: &[u32], n: usize, p: usize, word: &[u8]) -> Found
     ensures { λ r. ⌜ foundOf r ≡ schemaAt (now (table .entry)) (now (unpacked .entry)) n .find p (now (word .entry)) ⌝ }
 {
-    match table_tags::find(table, unpacked, n, p, word) {
-        table_tags::Found::Nowhere => Found::Nowhere,
-        table_tags::Found::At(q) => Found::At(q),
-    }
+    table_tags::find(table, unpacked, n, p, word)
 }
 
 // ---- the fields that have appeared
 
-pub fn no_marks() -> [bool; 256]
+pub fn no_marks() -> [bool; numbers::PARAMETER_LIMIT]
     ensures { λ r. ⌜ r ≡ noMarks ⌝ }
 {
-    [false; 256]
-}
-
-pub fn is_marked(seen: &[bool], k: usize) -> bool
-    ensures { λ r. ⌜ r ≡ getD (now (seen .entry)) k false ⌝ }
-{
-    if k < seen.len() {
-        return seen[k];
-    }
-    false
+    [false; numbers::PARAMETER_LIMIT]
 }
 
 pub fn mark(seen: &mut [bool], k: usize)
     ensures { λ _. ⌜ now (seen .exit) ≡ set (now (seen .entry)) k true ⌝ }
 {
-    if seen.len() <= k {
-        return;
-    }
-    seen[k] = true;
+    numbers::set_mark(seen, k, true);
 }
 
 fn is_required_of(table: &[u8], unpacked: &[u32], p: usize, i: usize) -> bool
@@ -252,7 +231,7 @@ fn is_required_of(table: &[u8], unpacked: &[u32], p: usize, i: usize) -> bool
 fn is_missing(table: &[u8], unpacked: &[u32], p: usize, seen: &[bool], i: usize) -> bool
     ensures { λ r. ⌜ r ≡ isMissing p (now (seen .entry)) i (recordIn (now (table .entry)) (now (unpacked .entry)) i) ⌝ }
 {
-    if is_marked(seen, i) {
+    if numbers::mark_at(seen, i) {
         return false;
     }
     is_required_of(table, unpacked, p, i)
@@ -295,10 +274,10 @@ fn length_within(text: &[u8], least: u32, most: u32) -> bool
     ensures { λ r. ⌜ r ≡ between least most (bias + length (now (text .entry))) ⌝ }
 {
     let n = text.len();
-    if 0xFFFF_FFFF < n {
+    if LARGEST < n {
         return false;
     }
-    (least as usize <= 0x8000_0000 + n) & (0x8000_0000 + n <= most as usize)
+    (least as usize <= ZERO + n) & (ZERO + n <= most as usize)
 }
 
 fn length_in_range(table: &[u8], unpacked: &[u32], q: usize, text: &[u8]) -> bool
@@ -330,15 +309,15 @@ pub fn judge(table: &[u8], unpacked: &[u32], n: usize, q: usize, text: &[u8], qu
     }
     let kind = table_records::kind_at(table, unpacked, q);
     match kind {
-        2 => form_then_range(!quoted & is_bool(text), true),
-        3 => form_then_range(
+        numbers::BOOL => form_then_range(!quoted & is_bool(text), true),
+        numbers::INT => form_then_range(
             !quoted & numbers::is_int(text),
             int_in_range(table, unpacked, q, text),
         ),
-        4 => form_then_range(quoted, length_in_range(table, unpacked, q, text)),
-        5 => form_then_range(!quoted, length_in_range(table, unpacked, q, text)),
-        6 => form_then_range(!quoted & calendar::is_date(text), true),
-        7 => form_then_range(!quoted & calendar::is_time(text), true),
+        numbers::ASCII => form_then_range(quoted, length_in_range(table, unpacked, q, text)),
+        numbers::UNQUOTED => form_then_range(!quoted, length_in_range(table, unpacked, q, text)),
+        numbers::DATE => form_then_range(!quoted & calendar::is_date(text), true),
+        numbers::TIME => form_then_range(!quoted & calendar::is_time(text), true),
         _ => 24,
     }
 }

@@ -19,12 +19,12 @@ use message_frame::Frame;
 use message_frame::Got;
 use message_lists::After;
 use message_lists::Quick;
-use message_lookup::Found;
 use message_lookup::Ints;
 use message_lookup::Shape;
 use message_rows::Row;
 use message_tokens::Cursor;
 use message_values::Opened;
+use table_tags::Found;
 
 // ---- frames
 
@@ -390,7 +390,7 @@ fn item(
     rows: &mut [u32],
     f: Frame,
     inside: bool,
-    seen: &mut [bool; 256],
+    seen: &mut [bool; numbers::PARAMETER_LIMIT],
 ) -> Part
     requires { ⌜ Room f (length (now s)) n ⌝ }
     requires { ⌜ Marked (now seen) ⌝ }
@@ -430,7 +430,7 @@ fn next_part(
     rows: &mut [u32],
     f: Frame,
     inside: bool,
-    seen: &mut [bool; 256],
+    seen: &mut [bool; numbers::PARAMETER_LIMIT],
     i: usize,
 ) -> Part
     requires { ⌜ Room f (length (now s)) n ⌝ }

@@ -2,33 +2,20 @@
 use mathlib.Core.Path.{_≡_, refl, sym, ap, _∙_}
 use mathlib.Core.List.{List, [], _∷_, _++_}
 use Prim.Native.Nat.{ℕ, zero, suc, _+_, _-_, _*_, _<_, _≤_}
-use native.Mathlib.Nat.{add-zero}
 use native.Mathlib.Omega.{arith}
 use lib.ListN.{length, set}
 use lib.Seq.{sets, set-comm, set-set, set-out}
+use Rattle.classes.proofs.Stores.{sets-append, four-sets}
 use Rattle.numbers.specs.Limits.{rowWidth}
 use Rattle.message_rules.specs.Rows.{Row, cells}
 use Rattle.message_rules.proofs.RowLaws.{cells-counted}
 use Rattle.message_rows.specs.Filled.{withEnds, ended}
 
-pub row-cells : (e : List ℕ) (i a b c d : ℕ) → set (set (set (set e i a) (i + 1) b) (i + 2) c) (i + 3) d ≡ sets e i (a ∷ b ∷ c ∷ d ∷ [])
-row-cells e i a b c d =
-    let p : i + 1 ≡ suc i = omega arith in
-    let q : i + 2 ≡ suc (suc i) = omega arith in
-    let r : i + 3 ≡ suc (suc (suc i)) = omega arith in
-    rw (p, q, r)
-
 -- a row past the end is not stored
 pub row-out : (e : List ℕ) (i a b c d : ℕ) → length e ≤ i → e ≡ sets e i (a ∷ b ∷ c ∷ d ∷ [])
 row-out e i a b c d h =
     sym (rw (set-out e i a h, set-out e (i + 1) b (omega arith), set-out e (i + 2) c (omega arith), set-out e (i + 3) d (omega arith)) refl)
-    ∙ row-cells e i a b c d
-
-sets-append : (xs ys e : List ℕ) (i : ℕ) → sets (sets e i xs) (i + length xs) ys ≡ sets e i (xs ++ ys)
-sets-append [] ys e i = rw (add-zero i)
-sets-append (x ∷ xs) ys e i =
-    let p : i + suc (length xs) ≡ suc i + length xs = omega arith in
-    rw p (sets-append xs ys (set e i x) (suc i))
+    ∙ four-sets e i a b c d
 
 set-sets : (ys e : List ℕ) (i j x : ℕ) → i < j → set (sets e j ys) i x ≡ sets (set e i x) j ys
 set-sets [] e i j x h = refl

@@ -16,16 +16,12 @@ pub struct Row {
     pub end: usize,
 }
 
-const ROW_WIDTH: usize = 4;
-
 // A number of a row fits 32 bits.
 fn put(rows: &mut [u32], i: usize, x: usize)
     requires { ⌜ x < 4294967296 ⌝ }
     ensures { λ _. ⌜ now (rows .exit) ≡ set (now (rows .entry)) i x ⌝ }
 {
-    if i < rows.len() {
-        rows[i] = x as u32;
-    }
+    numbers::set_cell(rows, i, x as u32);
 }
 
 // In the reader's first pass no rows are lent, which is told first. Places and row numbers are small, as messages are.
@@ -37,18 +33,18 @@ pub fn put_row(rows: &mut [u32], row: usize, r: Row)
     if rows.len() == 0 {
         return;
     }
-    let i = ROW_WIDTH * row;
-    if i + ROW_WIDTH <= rows.len() {
+    let i = numbers::ROW_WIDTH * row;
+    if i + numbers::ROW_WIDTH <= rows.len() {
         rows[i] = r.parameter as u32;
-        rows[i + 1] = r.parent as u32;
-        rows[i + 2] = r.start as u32;
-        rows[i + 3] = r.end as u32;
+        rows[i + numbers::ROW_PARENT] = r.parent as u32;
+        rows[i + numbers::ROW_START] = r.start as u32;
+        rows[i + numbers::ROW_END] = r.end as u32;
         return;
     }
     put(rows, i, r.parameter);
-    put(rows, i + 1, r.parent);
-    put(rows, i + 2, r.start);
-    put(rows, i + 3, r.end);
+    put(rows, i + numbers::ROW_PARENT, r.parent);
+    put(rows, i + numbers::ROW_START, r.start);
+    put(rows, i + numbers::ROW_END, r.end);
 }
 
 // The same end for each row from first up to last. Both are small, as messages are.
@@ -58,7 +54,7 @@ pub fn put_ends(rows: &mut [u32], first: usize, last: usize, end: usize)
 {
     let mut k = first;
     while k < last {
-        put(rows, ROW_WIDTH * k + 3, end);
+        put(rows, numbers::ROW_WIDTH * k + numbers::ROW_END, end);
         k += 1;
     }
 }

@@ -8,12 +8,14 @@ use lib.Dec.{eqb, leb, ltb}
 use lib.ListN.{length, take, drop, getD, length-append, length-drop, take-append-drop, List·getD-eq-default}
 use lib.Seq.{drop-length, take-append-seam, drop-append-seam, getD-append-seam, length-take-le, split-at}
 use borrow.Author.Tests.{leb-true, leb-false, eqb-true, ne-eqb, not-true}
+use Rattle.classes.proofs.Rows.{run-take, run-within}
 use Rattle.classes.specs.Bytes.{between, isBlank, isWordByte, isStringByte, isQuote}
 use Rattle.classes.specs.Lists.{every, runOf}
 use Rattle.reading_rules.specs.Token.{Token, word, string, equals, comma, opening, closing, isToken}
 use Rattle.reading_rules.specs.Schema.{Found, nowhere, found}
 use Rattle.reading_rules.proofs.CountLaws.{clash-bool, and-both}
 use Rattle.message_rules.specs.Scan.{Lexeme, CutResult, clean, badAt, putFirst, lexeme, Begins, plain, quoted, nothing, mark, beginsOf, cutToken, cutRest, cutFrom, cut, spelledThen, spelledLength, noWordByte, endsThere, Spelled, noneBegun, beginsNone, Faulty}
+use Rattle.table_rules.proofs.Words.{word-token}
 
 -- runs
 run-all : (f : ℕ → Bool) (l : List ℕ) → every f l ≡ true → runOf f l ≡ length l
@@ -50,7 +52,7 @@ starts-solid comma r e = refl
 starts-solid opening r e = refl
 starts-solid closing r e = refl
 
-word-begins : (b : ℕ) → isWordByte b ≡ true → beginsOf b ≡ plain
+pub word-begins : (b : ℕ) → isWordByte b ≡ true → beginsOf b ≡ plain
 unfolding beginsOf
 word-begins b e = rw (e, beginsOf)
 
@@ -134,15 +136,6 @@ spelled-cut (suc fuel) at bytes (l ∷ ls) h m =
         (token-cut (cutFrom fuel) (l .start) (l .token) (h .1) (h .4) (h .5) ∙ rw (← d, r))
 
 -- and what is cut is spelled
-run-take : (f : ℕ → Bool) (l : List ℕ) → every f (take (runOf f l) l) ≡ true
-unfolding runOf every
-run-take f [] = refl
-run-take f (b ∷ l) = go (f b) refl (run-take f l)
-  where
-    go : (t : Bool) → f b ≡ t → every f (take (runOf f l) l) ≡ true → every f (take (elim t [ true ↦ suc (runOf f l) | false ↦ 0 ]) (b ∷ l)) ≡ true
-    go true e k = rw e k
-    go false e k = refl
-
 run-stop : (f : ℕ → Bool) (l : List ℕ) → stopsAt f (drop (runOf f l) l) ≡ true
 unfolding runOf stopsAt
 run-stop f [] = refl
@@ -152,15 +145,6 @@ run-stop f (b ∷ l) = go (f b) refl (run-stop f l)
     go true e k = k
     go false e k = ap not e
 
-run-le : (f : ℕ → Bool) (l : List ℕ) → runOf f l ≤ length l
-unfolding runOf
-run-le f [] = omega arith
-run-le f (b ∷ l) = go (f b) (run-le f l)
-  where
-    go : (t : Bool) → runOf f l ≤ length l → elim t [ true ↦ suc (runOf f l) | false ↦ 0 ] ≤ suc (length l)
-    go true k = omega arith
-    go false k = omega arith
-
 run-first : (f : ℕ → Bool) (b : ℕ) (l : List ℕ) → f b ≡ true → 1 ≤ runOf f (b ∷ l)
 unfolding runOf
 run-first f b l e = rw (e, runOf) (omega arith)
@@ -169,11 +153,6 @@ every-nil : (f : ℕ → Bool) (l : List ℕ) → every f l ≡ true → every f
 unfolding every
 every-nil f [] e = refl
 every-nil f (b ∷ l) e = and-both (f b) (every f l) e (λ a c. rw a (every-nil f l c))
-
-word-token : (w : List ℕ) → 1 ≤ length w → every isWordByte w ≡ true → isToken (word w) ≡ true
-unfolding isToken
-word-token [] m e = absurd (omega arith)
-word-token (b ∷ w) m e = e
 
 -- what a byte begins
 begins-what : {X : Type 0} (b : ℕ) (k : Begins) → beginsOf b ≡ k → (isWordByte b ≡ true → k ≡ plain → X) → (b ≡ 34 → k ≡ quoted → X) → ((t : Token) → k ≡ mark t → isToken t ≡ true → ((r : List ℕ) → (spelledThen t r ≡ b ∷ r) × (endsThere t r ≡ true)) → spelledLength t ≡ 1 → X) → (k ≡ nothing → X) → X
@@ -222,7 +201,7 @@ module _ (fuel : ℕ) (ih : (at : ℕ) (y : List ℕ) → length y ≤ fuel → 
   word-spelled b l m e bad =
       let n = runOf isWordByte (b ∷ l) in
       let pos = run-first isWordByte b l e in
-      let k : length (take n (b ∷ l)) ≡ n = length-take-le n (b ∷ l) (run-le isWordByte (b ∷ l)) in (
+      let k : length (take n (b ∷ l)) ≡ n = length-take-le n (b ∷ l) (run-within isWordByte (b ∷ l)) in (
         gap,
         drop n (b ∷ l),
         ap (λ z. gap ++ z) (sym (take-append-drop n (b ∷ l))),
@@ -244,7 +223,7 @@ module _ (fuel : ℕ) (ih : (at : ℕ) (y : List ℕ) → length y ≤ fuel → 
       go true q b =
           let n = runOf isStringByte l in
           let inside = quote-inside l n q in
-          let k : length (take n l) ≡ n = length-take-le n l (run-le isStringByte l) in
+          let k : length (take n l) ≡ n = length-take-le n l (run-within isStringByte l) in
           let s : l ≡ take n l ++ getD l n 0 ∷ drop (suc n) l = split-at l n 0 inside in
           let d : getD l n 0 ≡ 34 = eqb-true (getD l n 0) 34 q in
           let c : l ≡ take n l ++ 34 ∷ drop (suc n) l = s ∙ ap (λ x. take n l ++ x ∷ drop (suc n) l) d in (
@@ -287,7 +266,7 @@ cut-spelled zero at [] m e = refl
 cut-spelled zero at (b ∷ l) m e = absurd (omega arith)
 cut-spelled (suc fuel) at bytes m e =
     let n = runOf isBlank bytes in
-    let k : length (take n bytes) ≡ n = length-take-le n bytes (run-le isBlank bytes) in
+    let k : length (take n bytes) ≡ n = length-take-le n bytes (run-within isBlank bytes) in
     go (take n bytes) (drop n bytes) (take-append-drop n bytes) n k (run-take isBlank bytes) (omega (arith, length-drop n bytes)) (λ a y j b. cut-spelled fuel a y j b) e
   where
     go : (gap y : List ℕ) → gap ++ y ≡ bytes → (n : ℕ) → length gap ≡ n → every isBlank gap ≡ true → length y ≤ suc fuel → ((a : ℕ) (z : List ℕ) → length z ≤ fuel → cutFrom fuel a z .bad ≡ nowhere → Spelled a z (cutFrom fuel a z .lexemes)) → cutRest (cutFrom fuel) (at + n) y .bad ≡ nowhere → Spelled at bytes (cutRest (cutFrom fuel) (at + n) y .lexemes)
@@ -374,7 +353,7 @@ module _ (fuel bad : ℕ) (ih : (at : ℕ) (y : List ℕ) → length y ≤ fuel 
   word-faulty b l m e f =
       let n = runOf isWordByte (b ∷ l) in
       let pos = run-first isWordByte b l e in
-      let k : length (take n (b ∷ l)) ≡ n = length-take-le n (b ∷ l) (run-le isWordByte (b ∷ l)) in (
+      let k : length (take n (b ∷ l)) ≡ n = length-take-le n (b ∷ l) (run-within isWordByte (b ∷ l)) in (
         gap,
         drop n (b ∷ l),
         ap (λ z. gap ++ z) (sym (take-append-drop n (b ∷ l))),
@@ -396,7 +375,7 @@ module _ (fuel bad : ℕ) (ih : (at : ℕ) (y : List ℕ) → length y ≤ fuel 
       go true q b =
           let n = runOf isStringByte l in
           let inside = quote-inside l n q in
-          let k : length (take n l) ≡ n = length-take-le n l (run-le isStringByte l) in
+          let k : length (take n l) ≡ n = length-take-le n l (run-within isStringByte l) in
           let s : l ≡ take n l ++ getD l n 0 ∷ drop (suc n) l = split-at l n 0 inside in
           let d : getD l n 0 ≡ 34 = eqb-true (getD l n 0) 34 q in
           let c : l ≡ take n l ++ 34 ∷ drop (suc n) l = s ∙ ap (λ x. take n l ++ x ∷ drop (suc n) l) d in (
@@ -443,7 +422,7 @@ unfolding cutFrom
 cut-faulty zero at bytes bad m e = let z : _≡_ {A = ℕ} 0 1 = cc in absurd (omega arith)
 cut-faulty (suc fuel) at bytes bad m e =
     let n = runOf isBlank bytes in
-    let k : length (take n bytes) ≡ n = length-take-le n bytes (run-le isBlank bytes) in
+    let k : length (take n bytes) ≡ n = length-take-le n bytes (run-within isBlank bytes) in
     go (take n bytes) (drop n bytes) (take-append-drop n bytes) n k (run-take isBlank bytes) (run-stop isBlank bytes) (omega (arith, length-drop n bytes)) (λ a y j b. cut-faulty fuel a y bad j b) e
   where
     go : (gap y : List ℕ) → gap ++ y ≡ bytes → (n : ℕ) → length gap ≡ n → every isBlank gap ≡ true → stopsAt isBlank y ≡ true → length y ≤ suc fuel → ((a : ℕ) (z : List ℕ) → length z ≤ fuel → cutFrom fuel a z .bad ≡ found bad → Faulty a z (cutFrom fuel a z .lexemes) bad) → cutRest (cutFrom fuel) (at + n) y .bad ≡ found bad → Faulty at bytes (cutRest (cutFrom fuel) (at + n) y .lexemes) bad

@@ -14,9 +14,10 @@ use Rattle.classes.specs.Bytes.{isBlank, isWordByte, isStringByte, isQuote}
 use Rattle.classes.specs.Lists.{runOf}
 use Rattle.classes.proofs.Rows.{run-more, run-within}
 use Rattle.reading_rules.specs.Token.{Token, word, string}
-use Rattle.message_rules.specs.Scan.{lexeme, CutResult, clean, badAt, putFirst, plain, nothing, mark, beginsOf, cutToken, cutRest, cutFrom, cut}
+use Rattle.message_rules.specs.Scan.{lexeme, CutResult, clean, badAt, putFirst, nothing, mark, beginsOf, cutToken, cutRest, cutFrom, cut}
 use Rattle.message_rules.proofs.CutLaws.{cut-enough}
 use Rattle.message_tokens.specs.Cursor.{part, rowEnd, cutAt, restAt}
+use Rattle.message_rules.proofs.Spelling.{word-begins}
 
 pub row-in : (f : ℕ → Bool) (s : List ℕ) (i e : ℕ) → e ≡ rowEnd f s i → i ≤ length s → (i ≤ e) × (e ≤ length s)
 row-in f s i e q h = (omega (arith, q), omega (arith, q, run-within f (drop i s), length-drop i s))
@@ -52,10 +53,7 @@ cut-part base s a j =
 -- one token, over the bytes in front
 word-cut : (next : ℕ → List ℕ → CutResult) (p b : ℕ) (l bytes : List ℕ) → bytes ≡ b ∷ l → isWordByte b ≡ true → cutRest next p bytes ≡ putFirst (lexeme (word (take (runOf isWordByte bytes) bytes)) p (p + runOf isWordByte bytes)) (next (p + runOf isWordByte bytes) (drop (runOf isWordByte bytes) bytes))
 unfolding cutRest cutToken beginsOf
-word-cut next p b l bytes e t = rw e (ap (cutToken next p b l) (plain-begins b t))
-  where
-    plain-begins : (b : ℕ) → isWordByte b ≡ true → beginsOf b ≡ plain
-    plain-begins b t = rw (t, beginsOf) refl
+word-cut next p b l bytes e t = rw e (ap (cutToken next p b l) (word-begins b t))
 
 string-cut : (next : ℕ → List ℕ → CutResult) (p : ℕ) (l bytes : List ℕ) → bytes ≡ 34 ∷ l → isQuote (getD l (runOf isStringByte l) 0) ≡ true → cutRest next p bytes ≡ putFirst (lexeme (string (take (runOf isStringByte l) l)) p (p + runOf isStringByte l + 2)) (next (p + runOf isStringByte l + 2) (drop (suc (runOf isStringByte l)) l))
 unfolding cutRest cutToken beginsOf isWordByte

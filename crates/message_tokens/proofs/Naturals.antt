@@ -7,12 +7,12 @@ use native.Mathlib.Omega.{arith}
 use native.Mathlib.Numerals.{add-one}
 use native.Mathlib.Nat.{add-zero}
 use lib.Dec.{eqb, leb, ltb}
-use lib.ListN.{length, getD, take, drop, length-drop, List·getD-eq-default}
+use lib.ListN.{length, getD, drop, length-drop, List·getD-eq-default}
 use lib.Seq.{drop-cons, getD-drop, getD-take, length-take-le}
 use borrow.Author.Tests.{lt-ltb, leb-true, ltb-true, ltb-false}
 use Rattle.classes.specs.Bytes.{between, isDigit, isBlank, isWordByte}
 use Rattle.classes.specs.Lists.{every, runOf}
-use Rattle.classes.proofs.Rows.{run-more, run-stop, run-end}
+use Rattle.classes.proofs.Rows.{run-more, run-stop, run-end, run-take}
 use Rattle.numbers.specs.Decimal.{readDigits, numberOf, isNatural}
 use Rattle.numbers.specs.Packed.{Packed, none, more}
 use Rattle.reading_rules.specs.Token.{word, comma}
@@ -28,15 +28,6 @@ use Rattle.message_tokens.proofs.Steps.{step-comma, step-word}
 use Rattle.message_tokens.proofs.Plain.{solid}
 
 -- ---- rows of a class
-
-every-run : (f : ℕ → Bool) (l : List ℕ) → every f (take (runOf f l) l) ≡ true
-unfolding runOf every
-every-run f [] = refl
-every-run f (b ∷ l) = go (f b) refl (every-run f l)
-  where
-    go : (t : Bool) → f b ≡ t → every f (take (runOf f l) l) ≡ true → every f (take (elim t [ true ↦ suc (runOf f l) | false ↦ 0 ]) (b ∷ l)) ≡ true
-    go true e r = unfold every in (rw (e, r))
-    go false e r = unfold every in refl
 
 module _ (f : ℕ → Bool) (b : ℕ) (l : List ℕ) where
   run-in : f b ≡ true → runOf f (b ∷ l) ≡ suc (runOf f l)
@@ -128,7 +119,7 @@ module _ (s : List ℕ) (at i sum : ℕ) (m : Summed s at i sum) (none-here : is
   end-is = sym (m .ends) ∙ digits-stop s i none-here
 
   digits-all : every isDigit (part s at i) ≡ true
-  digits-all = let q : runOf isDigit (drop at s) ≡ i - at = omega (arith, end-is) in rw q at (every-run isDigit (drop at s))
+  digits-all = let q : runOf isDigit (drop at s) ≡ i - at = omega (arith, end-is) in rw q at (run-take isDigit (drop at s))
 
   first-digit : at < i → isDigit (getD s at 0) ≡ true
   first-digit l = go (isDigit (getD s at 0)) refl

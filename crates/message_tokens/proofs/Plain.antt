@@ -8,12 +8,12 @@ use native.Mathlib.Nat.{zero-add}
 use lib.Dec.{eqb, leb, ltb}
 use lib.ListN.{length, getD}
 use borrow.Author.Tests.{eqb-true, eqb-false, leb-true, ltb-true, ltb-false}
+use Rattle.classes.proofs.Bools.{or-case}
 use Rattle.classes.specs.Bytes.{isBlank, isWordByte, isPlain}
 use Rattle.classes.proofs.Rows.{run-more, run-stop, run-end}
 use Rattle.classes.proofs.Segment.{segment}
 use Rattle.reading_rules.specs.Token.{Token, word, equals, comma}
 use Rattle.reading_rules.proofs.CountLaws.{clash-bool, and-both}
-use Rattle.reading_rules.proofs.Inverse.{or-case}
 use Rattle.message_rules.specs.Scan.{lexeme, putFirst, isOpening, openAfter}
 use Rattle.message_rules.proofs.Spelling.{word-not-blank}
 use Rattle.message_tokens.specs.Cursor.{part, rowEnd, cutAt, restAt, Step}

@@ -3,18 +3,15 @@ use mathlib.Core.Path.{_≡_}
 use mathlib.Core.Bool.{Bool}
 use mathlib.Core.List.{List}
 use Prim.Native.Nat.{ℕ, suc, _+_, _-_, _≤_, _<_}
-use lib.ListN.{length, take, drop}
+use lib.ListN.{length, drop}
 use Rattle.classes.specs.Lists.{runOf}
+pub use Rattle.classes.specs.Lists.{part}
 use Rattle.reading_rules.specs.Token.{Token, word, string, equals, comma, opening, closing}
 use Rattle.message_rules.specs.Scan.{lexeme, CutResult, clean, badAt, putFirst, cutRest, cutFrom, tokensOf}
 use Rattle.message_rules.specs.Scan.{Lexeme as Lex}
 use Rattle.message_tokens.specs.declared.Cursor.{Cursor}
 use Rattle.message_tokens.specs.declared.Lexeme.{Lexeme}
 use Rattle.message_tokens.specs.declared.Lexeme.the-variants.{Word, Text, Equals, Comma, Opening, Closing, End, Bad}
-
--- the bytes from a to e
-abbrev pub part : List ℕ → ℕ → ℕ → List ℕ
-part s a e = take (e - a) (drop a s)
 
 -- the place past the longest row of bytes of the class f from i
 abbrev pub rowEnd : (ℕ → Bool) → List ℕ → ℕ → ℕ

@@ -13,9 +13,6 @@ ghost use Rattle.message_tokens.specs.Scanned.{faultOf};
 ghost use Rattle.message_tokens.specs.Digits.{Led, DigitsEnd, DigitsAt, joined, zeros, Nines};
 ghost use Rattle.message_tokens.specs.Turn.{ScanTurn, Plains, PlainEnd};
 
-// How many braces may be open.
-const OPEN_LIMIT: usize = 16;
-
 // A place in a message or in a part of one.
 pub struct Cursor {
     pub at: usize,
@@ -325,12 +322,7 @@ fn digit_guess(s: &[u8], at: usize) -> usize
         | wide(s[at + 5]) << 40
         | wide(s[at + 6]) << 48
         | wide(s[at + 7]) << 56;
-    count(u64::trailing_zeros(!w & BITS) / 8)
-}
-
-// A u32 as a usize.
-fn count(n: u32) -> usize {
-    n as usize
+    numbers::wide(u64::trailing_zeros(!w & BITS) / 8)
 }
 
 // Four bytes as one number, the first highest.
@@ -441,7 +433,7 @@ fn scan_turn(s: &[u8], u: Cursor, deep: usize) -> Turn
         Lexeme::Equals(_, v) => Turn::On(v, deep),
         Lexeme::Comma(_, v) => Turn::On(v, deep),
         Lexeme::Opening(a, v) => {
-            if OPEN_LIMIT <= deep {
+            if numbers::OPEN_LIMIT <= deep {
                 return Turn::Out(Scanned::Fault(a));
             }
             Turn::On(v, deep + 1)

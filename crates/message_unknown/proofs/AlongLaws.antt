@@ -5,7 +5,7 @@ use Prim.Native.Nat.{ℕ, zero, suc, _+_, _-_, _≤_, _<_}
 use native.Mathlib.Omega.{arith}
 use native.Mathlib.Nat.{add-zero}
 use lib.ListN.{length, take, drop, length-drop}
-use lib.Seq.{take-all}
+use Rattle.classes.proofs.Rows.{rest-all}
 use Rattle.reading_rules.specs.Token.{Token}
 use Rattle.message_rules.specs.Scan.{lexeme, CutResult, tokensOf}
 use Rattle.message_rules.specs.Scan.{Lexeme as Lex}
@@ -46,19 +46,15 @@ place-left s x y t = ap (startOr (length s)) (rw (tokens-length y) (tail-drop x 
 pub step-tail : (base : ℕ) (s : List ℕ) (i : ℕ) (t : Token) (a e : ℕ) → Step (cutAt base s i) base s i t a e → Tail (lexemesAt base s e) (lexemesAt base s i)
 step-tail base s i t a e h = rw (step-lex base s i t a e h) (later (lexeme t (base + a) (base + e)) (lexemesAt base s e) here)
 
--- a part up to the end
-pub rest : (s : List ℕ) (a : ℕ) → take (length s - a) (drop a s) ≡ drop a s
-rest s a = take-all (length s - a) (drop a s) (simp length-drop (omega arith))
-
 -- the part after e, which starts at base + e, has the same tokens
 pub part-lexemes : (base : ℕ) (s : List ℕ) (e j : ℕ) → lexemesAt (base + e) (take (length s - e) (drop e s)) j ≡ lexemesAt base s (e + j)
-part-lexemes base s e j = rw (rest s e) (ap (λ (c : CutResult). c .lexemes) (cut-part base s e j))
+part-lexemes base s e j = rw (rest-all s e) (ap (λ (c : CutResult). c .lexemes) (cut-part base s e j))
 
 pub part-start : (base : ℕ) (s : List ℕ) (e : ℕ) → lexemesAt (base + e) (take (length s - e) (drop e s)) 0 ≡ lexemesAt base s e
 part-start base s e = part-lexemes base s e 0 ∙ ap (lexemesAt base s) (add-zero e)
 
 pub part-end : (base : ℕ) (s : List ℕ) (e : ℕ) → e ≤ length s → base + e + length (take (length s - e) (drop e s)) ≡ base + length s
-part-end base s e h = rw (rest s e) (omega (arith, length-drop e s))
+part-end base s e h = rw (rest-all s e) (omega (arith, length-drop e s))
 
 pub part-length : (s : List ℕ) (e : ℕ) → length (take (length s - e) (drop e s)) ≡ length s - e
-part-length s e = rw (rest s e) (length-drop e s)
+part-length s e = rw (rest-all s e) (length-drop e s)

@@ -60,11 +60,12 @@ pub fn braces(s: &[u8], base: usize) -> Passed
     }
 }
 
-// The same from a brace that ends at e: the part after it is handed on.
-fn braces_at(s: &[u8], base: usize, e: usize) -> Passed
-    requires { ⌜ (base + length (now s) ≤ messageLimit) × (e ≤ length (now s)) ⌝ }
-    ensures { λ r. ⌜ PassesTo (bracesFrom base (now (s .entry)) e 0) base (now (s .entry)) e r ⌝ }
+// The same from a brace that ends at past: the part after it is handed on.
+fn braces_at(s: &[u8], base: usize, past: Cursor) -> Passed
+    requires { ⌜ (base + length (now s) ≤ messageLimit) × (past .at ≤ length (now s)) ⌝ }
+    ensures { λ r. ⌜ PassesTo (bracesFrom base (now (s .entry)) (past .at) 0) base (now (s .entry)) (past .at) r ⌝ }
 {
+    let e = past.at;
     match braces(&s[e..], base + e) {
         Passed::Past(v) => Passed::Past(Cursor { at: e + v.at }),
         Passed::Refused(n, q) => Passed::Refused(n, q),
@@ -96,7 +97,7 @@ fn value_turn(s: &[u8], base: usize, u: Cursor) -> Turn
         return Turn::Out(Passed::Past(past));
     }
     if h.kind == message_tokens::OPENING {
-        let g = braces_at(s, base, past.at);
+        let g = braces_at(s, base, past);
         return Turn::Out(g);
     }
     Turn::Out(Passed::Refused(23, base + h.start))

@@ -9,6 +9,7 @@ use borrow.Author.Tests.{lt-ltb, le-ltb, le-leb, lt-leb, ne-eqb, leb-true}
 use lib.Dec.{eqb, leb, ltb}
 use lib.ListN.{length, getD, drop, drop-of-length-le}
 use lib.Seq.{drop-cons}
+use Rattle.classes.proofs.Bools.{clash-bool}
 use Rattle.classes.specs.Lists.{every}
 use Rattle.classes.specs.Bytes.{between, isDigit}
 use Rattle.numbers.proofs.Order.{leb-same}
@@ -130,15 +131,12 @@ module _ (w : List ℕ) (h : getD w 0 0 ≡ 45 → ⊥) where
   pub within-plain : (least most n : ℕ) → (length w ≡ 0 → ⊥) → n ≡ min cap (numberOf w) → least ≤ intMost → most ≤ intMost → intWithin least most w ≡ between least most (bias + n)
   within-plain least most n k e l m = within-number least most k ∙ rw e (sym (capped-within least most (numberOf w) l m))
 
-clash : {X : Type 0} → false ≡ true → X
-clash e = let x : _≡_ {A = ℕ} 0 1 = cc in absurd (omega arith)
-
 -- digits without leading zero begin with no `-`
 pub natural-first : (w : List ℕ) → isNatural w ≡ true → (getD w 0 0 ≡ 45 → ⊥) × (length w ≡ 0 → ⊥)
 unfolding isNatural isDigit
-natural-first [] e = clash e
-natural-first (b ∷ []) e = (λ z. clash (rw z at e), λ z. omega arith)
-natural-first (b ∷ c ∷ l) e = (λ z. clash (rw z at e), λ z. omega arith)
+natural-first [] e = clash-bool e
+natural-first (b ∷ []) e = (λ z. clash-bool (rw z at e), λ z. omega arith)
+natural-first (b ∷ c ∷ l) e = (λ z. clash-bool (rw z at e), λ z. omega arith)
 
 -- an int within the limits has its number there
 biased-most : (minus p : Bool) (a n : ℕ) → a ≤ intMost → elim minus [ true ↦ p | false ↦ between 0 intMost n ] ≡ true → elim minus [ true ↦ a | false ↦ n ] ≤ intMost

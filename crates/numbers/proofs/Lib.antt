@@ -1,7 +1,6 @@
 -- Laws that other crates' proofs may cite.
 pub mod Order
 pub mod Bytes
-pub mod Bits
 pub mod Digits
 pub mod Ranges
 pub mod Packing

@@ -4,5 +4,4 @@ pub mod Decimal
 pub mod Packed
 pub mod Range
 pub mod LittleEndian
-pub mod Bits
 pub mod Answers

@@ -7,6 +7,7 @@ use native.Mathlib.Omega.{arith}
 use lib.Dec.{eqb, leb, ltb}
 use lib.ListN.{length}
 use borrow.Author.Tests.{leb-true, eqb-true, le-leb, lt-ltb}
+use Rattle.classes.proofs.Bools.{or-case, or-left, or-right}
 use Rattle.numbers.specs.Limits.{noLimit}
 use Rattle.numbers.specs.Decimal.{isIntLike}
 use Rattle.reading_rules.specs.Token.{Token, word, string, equals, comma, opening, closing, isText}
@@ -15,7 +16,7 @@ use Rattle.reading_rules.specs.Count.{same, times, In, Once, has, allIn}
 use Rattle.reading_rules.proofs.CountLaws.{clash-bool, in-all, out-hasnt, was-new, once-nil}
 use Rattle.reading_rules.specs.Reading.{TreeSort, unknownValue, unknownList, value, list, body, items, Tree, unknownWord, unknownString, unknownBraces, unknownPair, unknownLast, unknownMore, leaf, braced, chosenVoid, chosen, chosenInt, last, more, listed, stopped, itemized, noItem, voidItem, listItem, unknownItem, unknownListItem, leavesThen, balancedFrom, count, fieldsOf, InRange, Full, For, Law}
 use Rattle.reading_rules.specs.Parse.{Result, refused, got, then, need, whether, onEquals, afterToken, pairWith, bracesAt, unknownAt, afterUnknown, unknownsAt, judged, simpleAt, shut, structAt, alternative, bareFor, choose, unionAt, noneAt, byKind, valueAt, mayGrow, listEnds, afterValue, listAt, wholeList, requiredOf, endNumber, bodyEnds, unknownAfter, itemAt, itemsAt, listThen, listsAt, wholeValue, bodyAt}
-use Rattle.reading_rules.proofs.Inverse.{required-is, Ends, or-case, or-left, or-right}
+use Rattle.reading_rules.proofs.Inverse.{required-is, Ends}
 use Rattle.reading_rules.specs.Reading.{width}
 
 -- how many braces of structs stand open at once

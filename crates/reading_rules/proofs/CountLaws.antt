@@ -6,6 +6,7 @@ use Prim.Native.Nat.{ℕ, zero, suc, _+_, _≤_}
 use native.Mathlib.Omega.{arith}
 use lib.Dec.{eqb, ltb}
 use borrow.Author.Tests.{eqb-true, eq-eqb, ltb-true, ltb-false, lt-ltb, le-ltb}
+pub use Rattle.classes.proofs.Bools.{clash-bool}
 use Rattle.reading_rules.specs.Count.{same, times, In, Once, has, allIn}
 
 pub same-self : (k : ℕ) → same k k ≡ 1
@@ -39,9 +40,6 @@ in-has z k h = lt-ltb 0 (times k z) h
 pub out-hasnt : (z : List ℕ) (k : ℕ) → times k z ≡ 0 → has z k ≡ false
 unfolding has
 out-hasnt z k h = le-ltb 0 (times k z) (omega arith)
-
-pub clash-bool : {X : Type 0} → false ≡ true → X
-clash-bool e = let x : _≡_ {A = ℕ} 0 1 = cc in absurd (omega arith)
 
 pub and-both : {X : Type 0} (a b : Bool) → a && b ≡ true → (a ≡ true → b ≡ true → X) → X
 and-both true b e f = f refl e

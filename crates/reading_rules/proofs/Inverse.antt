@@ -1,16 +1,17 @@
 -- What an answer of a step says about its parts.
-use mathlib.Core.Path.{_≡_, refl, ap, subst₂, sym, _∙_}
+use mathlib.Core.Path.{_≡_, refl, ap, subst₂, _∙_}
 use mathlib.Core.Bool.{Bool, true, false, not, _&&_, _||_}
 use mathlib.Core.List.{List, [], _∷_, _++_}
 use Prim.Native.Nat.{ℕ, zero, suc, _+_, _≤_}
 use native.Mathlib.Omega.{arith}
 use lib.Dec.{eqb, leb, ltb}
 use borrow.Author.Tests.{leb-true, ltb-true, eqb-true, eqb-false, not-true}
+use Rattle.classes.proofs.Bools.{or-off}
 use Rattle.numbers.specs.Limits.{noLimit}
 use Rattle.reading_rules.specs.Token.{Token, word, string, equals, comma, opening, closing}
 use Rattle.reading_rules.specs.Schema.{Schema, atMost}
 use Rattle.reading_rules.specs.Count.{times, In}
-use Rattle.reading_rules.proofs.CountLaws.{clash-bool, in-head, in-tail, in-cons, in-nil}
+use Rattle.reading_rules.proofs.CountLaws.{in-head, in-tail, in-cons, in-nil}
 use Rattle.reading_rules.specs.Reading.{TreeSort, unknownValue, Tree, unknownPair}
 use Rattle.reading_rules.specs.Parse.{Result, refused, got, then, need, whether, onEquals, afterToken, pairWith, judged, mayGrow, requiredOf, endNumber, bodyEnds}
 
@@ -93,23 +94,6 @@ end-closing false false r e = nought e
 pub ends-got : {A X : Type 0} (inside complete : Bool) (t : A) (x : List Token) {u : A} {s : List Token} → bodyEnds inside complete t x ≡ got u s → (endNumber inside complete x ≡ 0 → got t x ≡ got u s → X) → X
 unfolding bodyEnds
 ends-got inside complete t x e f = need-got (eqb (endNumber inside complete x) 0) _ x (got t) x e (λ a e1. f (eqb-true _ 0 a) e1)
-
--- counts of a list
-pub or-case : {X : Type 0} (a b : Bool) → a || b ≡ true → (a ≡ true → X) → (b ≡ true → X) → X
-or-case true b e f g = f refl
-or-case false b e f g = g e
-
-pub or-left : (a b : Bool) → a ≡ true → a || b ≡ true
-or-left true b e = refl
-or-left false b e = clash-bool e
-
-pub or-right : (a b : Bool) → b ≡ true → a || b ≡ true
-or-right true b e = refl
-or-right false b e = e
-
-pub or-off : {X : Type 0} (a b : Bool) → a || b ≡ false → (a ≡ false → b ≡ false → X) → X
-or-off true b e f = clash-bool (sym e)
-or-off false b e f = f refl e
 
 -- a field that must appear is a field of the body, not optional, with lo over 0
 pub required-is : (S : Schema) (k : ℕ) (l : List ℕ) → In k (requiredOf S l) → In k l × (S .optional k ≡ false) × (1 ≤ S .lo k)

@@ -4,9 +4,10 @@ use mathlib.Core.Bool.{Bool, true, false, not, _&&_, _||_}
 use mathlib.Core.List.{List, [], _∷_}
 use Prim.Native.Nat.{ℕ, zero, suc, _+_, _≤_, _<_}
 use native.Mathlib.Omega.{arith}
-use lib.Dec.{eqb, leb, ltb}
+use lib.Dec.{leb, ltb}
 use lib.ListN.{length, getD, List·getD-eq-default}
-use borrow.Author.Tests.{eqb-true, eq-eqb, leb-true, leb-false}
+use borrow.Author.Tests.{eq-eqb, leb-true, leb-false}
+use Rattle.classes.proofs.Rows.{same-true}
 use Rattle.classes.specs.Lists.{every, sameBytes}
 use Rattle.classes.specs.Bytes.{isDigit}
 use Rattle.numbers.specs.Decimal.{isDigits, isNatural, isIntLike, isInt, isMinus, numberOf}
@@ -71,13 +72,6 @@ tag-found table apart p k w h e = go (firstWhere (isTaggedAs p w) 0 table) refl
         let g = where-is (isTaggedAs p w) 0 table j a in
         let m : g .0 ≡ k = apart p (g .0) k w (g .2) h (g .3) e in
         a ∙ ap found (omega (arith, g .1, m))
-
-pub same-bytes : (a b : List ℕ) → sameBytes a b ≡ true → a ≡ b
-unfolding sameBytes
-same-bytes [] [] e = refl
-same-bytes [] (y ∷ b) e = clash-bool e
-same-bytes (x ∷ a) [] e = clash-bool e
-same-bytes (x ∷ a) (y ∷ b) e = and-both (eqb x y) (sameBytes a b) e (λ p q. let r = eqb-true x y p in let s = same-bytes a b q in cc)
 
 -- an int's word is digits with an optional `-`
 natural-digits : (l : List ℕ) → isNatural l ≡ true → isDigits l ≡ true
@@ -159,5 +153,5 @@ well-formed table R =
           let m : q ≡ g .0 = omega (arith, g .1) in
           let j : k ≡ h .0 = omega (arith, h .1) in
           and-both (isTaggedOf u (recordAt table (h .0))) (sameBytes (recordAt table (h .0) .label) w) (h .3) (λ x y.
-          rw (← (same-bytes (recordAt table (h .0) .label) w y)) (R .noDigitTags u (g .0) (h .0) n (g .2) (h .2) (g .3) x));
+          rw (← (same-true (recordAt table (h .0) .label) w y)) (R .noDigitTags u (g .0) (h .0) n (g .2) (h .2) (g .3) x));
     }

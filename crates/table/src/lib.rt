@@ -64,14 +64,14 @@ fn none_endless(table: &[u8], unpacked: &[u32], n: usize, have: &[bool]) -> bool
     true
 }
 
-fn none_yet() -> [bool; 256]
-    ensures { λ r. ⌜ 256 ≡ length r ⌝ }
+fn none_yet() -> [bool; numbers::PARAMETER_LIMIT]
+    ensures { λ r. ⌜ parameterLimit ≡ length r ⌝ }
 {
-    [false; 256]
+    [false; numbers::PARAMETER_LIMIT]
 }
 
 fn checks_fine(table: &[u8], unpacked: &[u32], n: usize) -> bool
-    requires { ⌜ (n ≤ 256) × Linked (now table) (now unpacked) n 0 ⌝ }
+    requires { ⌜ (n ≤ parameterLimit) × Linked (now table) (now unpacked) n 0 ⌝ }
     ensures { λ r. ⌜ (Nested (recordsAt (now (table .entry)) (now (unpacked .entry)) n) → r ≡ recordChecks (recordsAt (now (table .entry)) (now (unpacked .entry)) n)) ⌝ }
 {
     if !none_broken(table, unpacked, n) {
@@ -87,7 +87,7 @@ fn checks_fine(table: &[u8], unpacked: &[u32], n: usize) -> bool
 }
 
 fn rules(table: &[u8], unpacked: &[u32], n: usize) -> bool
-    requires { ⌜ (n ≤ 256) × Linked (now table) (now unpacked) n 0 ⌝ }
+    requires { ⌜ (n ≤ parameterLimit) × Linked (now table) (now unpacked) n 0 ⌝ }
     ensures { λ r. ⌜ r ≡ recordRules parameterLimit (recordsAt (now (table .entry)) (now (unpacked .entry)) n) ⌝ }
 {
     if n == 0 {
@@ -135,17 +135,24 @@ fn passes(table: &[u8], unpacked: &mut [u32]) -> bool
     }
 }
 
-// Cells for 16 records, which is all that 400 bytes can hold, and for as many as there may be.
-pub fn few_cells() -> [u32; 240]
+// A small table, the records that it can hold, each with a label of one byte or more, and the cells for them.
+const FEW_RECORDS: usize = 16;
+
+pub const FEW_BYTES: usize = FEW_RECORDS * (numbers::RECORD_HEADER + 1);
+
+const FEW_CELLS: usize = table_records::HEADS + table_records::WIDTH * FEW_RECORDS;
+
+// Cells for the records of a small table, and for as many as there may be.
+pub fn few_cells() -> [u32; FEW_CELLS]
     ensures { λ r. ⌜ 240 ≡ length r ⌝ }
 {
-    [0u32; 240]
+    [0u32; FEW_CELLS]
 }
 
-pub fn many_cells() -> [u32; 2880]
+pub fn many_cells() -> [u32; table_records::ALL_CELLS]
     ensures { λ r. ⌜ 2880 ≡ length r ⌝ }
 {
-    [0u32; 2880]
+    [0u32; table_records::ALL_CELLS]
 }
 
 // Some definition compiles to the table: the record rules hold, which is to say that there are a text and a room with which
@@ -154,7 +161,7 @@ pub fn table_ok(table: &[u8]) -> bool
     ensures { λ r. ⌜ r ≡ tableRules parameterLimit (now (table .entry)) ⌝ }
     ensures { λ r. ⌜ (r ≡ true) ↔ Compilable (now (table .entry)) ⌝ }
 {
-    if table.len() <= 400 {
+    if table.len() <= FEW_BYTES {
         let mut few = few_cells();
         return passes(table, &mut few);
     }

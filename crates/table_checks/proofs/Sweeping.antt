@@ -9,6 +9,7 @@ use lib.Dec.{eqb, ltb}
 use lib.ListN.{length, getD, set, replicate, length-set, List·getD-eq-default}
 use lib.Seq.{getD-set-same, getD-set-other}
 use borrow.Author.Tests.{eqb-true, eqb-false, ltb-true, ltb-false}
+use Rattle.classes.proofs.Rows.{no-mark}
 use Rattle.classes.specs.Lists.{pick}
 use Rattle.reading_rules.specs.Record.{Record, recordAt, blank, Nested}
 use Rattle.reading_rules.proofs.CountLaws.{clash-bool}
@@ -145,11 +146,6 @@ module _ (rs : List Record) where
   abbrev none : List Bool
   none = replicate (length rs) false
 
-  none-at : (n k : ℕ) → getD (replicate n false) k false ≡ false
-  none-at zero k = refl
-  none-at (suc n) zero = refl
-  none-at (suc n) (suc k) = none-at n k
-
   -- as far as one round more
   swept-ahead : (m : ℕ) (have : List Bool) → length rs ≤ length have → In (rounds m rs none) have → In (rounds (suc m) rs none) (swept rs (length rs) have)
   swept-ahead m have l w k e =
@@ -175,7 +171,7 @@ module _ (rs : List Record) where
           (rw (q .0) (y .0), λ k h s. one k (eqb k i) refl s (λ l. y .1 k l s) (q .1) h)
 
   rounds-closed : (have : List Bool) → ((k : ℕ) → k < length rs → Up (stepAt have k) (getD have k false)) → (m : ℕ) → In (rounds m rs none) have
-  rounds-closed have c zero k e = unfold rounds in (clash-bool (sym (none-at (length rs) k) ∙ e))
+  rounds-closed have c zero k e = unfold rounds in (clash-bool (sym (no-mark (length rs) k) ∙ e))
   rounds-closed have c (suc m) k e =
       let z = rw (rounds-more m rs none) at e in
       let h = round-in rs (rounds m rs none) 0 rs k z in
@@ -202,7 +198,7 @@ module _ (rs : List Record) where
   going-start have r e = record {
     room = r;
     within = λ i z. clash-bool (sym (e i) ∙ z);
-    ahead = λ i z. clash-bool (sym (none-at (length rs) i) ∙ z);
+    ahead = λ i z. clash-bool (sym (no-mark (length rs) i) ∙ z);
   }
 
   module _ (k : ℕ) (have after : List Bool) (more : Bool) (s : length after ≡ length have) (w : Swept rs have after more) (g : Going k have) where

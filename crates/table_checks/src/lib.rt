@@ -4,7 +4,7 @@ ghost use mathlib.Core.Path.{_≡_};
 ghost use mathlib.Core.Bool.{Bool, true, false};
 ghost use mathlib.Core.List.{List};
 ghost use Prim.Native.Nat.{_≤_};
-ghost use lib.ListN.{length, getD, set};
+ghost use lib.ListN.{length, getD};
 ghost use Rattle.reading_rules.specs.Record.{isTop, Nested};
 ghost use Rattle.definition_rules.specs.Finite.{canDoWithout, endsNeeds, isEndless};
 ghost use Rattle.definition_rules.specs.Faults.{voidMany, anyBefore, parentKind, beside as isBeside, misplacedField, misplacedAlternative, misplacedUntagged, numberTag, voidTop, pluginUndotted, rule7Broken, rootNoStruct};
@@ -24,7 +24,7 @@ enum Such {
 pub fn is_top(table: &[u8], unpacked: &[u32], i: usize) -> bool
     ensures { λ r. ⌜ r ≡ isTop (recordIn (now (table .entry)) (now (unpacked .entry)) i .parent) ⌝ }
 {
-    table_records::parent_at(table, unpacked, i) == 65_535
+    table_records::parent_at(table, unpacked, i) == numbers::NONE16
 }
 
 // j stands in i's body, or both are tops.
@@ -39,11 +39,11 @@ fn parent_kind(table: &[u8], unpacked: &[u32], n: usize, i: usize) -> u32
     ensures { λ r. ⌜ r ≡ parentKind (recordsAt (now (table .entry)) (now (unpacked .entry)) n) (recordIn (now (table .entry)) (now (unpacked .entry)) i .parent) ⌝ }
 {
     let p = table_records::parent_at(table, unpacked, i);
-    if p == 65_535 {
+    if p == numbers::NONE16 {
         return 0;
     }
     if n <= p {
-        return 1;
+        return numbers::VOID;
     }
     table_records::kind_at(table, unpacked, p)
 }
@@ -85,7 +85,7 @@ fn any_such(table: &[u8], unpacked: &[u32], n: usize, m: usize, i: usize, such: 
 pub fn void_many(table: &[u8], unpacked: &[u32], i: usize) -> bool
     ensures { λ r. ⌜ r ≡ voidMany i (recordIn (now (table .entry)) (now (unpacked .entry)) i) ⌝ }
 {
-    (table_records::kind_at(table, unpacked, i) == 1)
+    (table_records::kind_at(table, unpacked, i) == numbers::VOID)
         & (1 < table_records::hi_count_at(table, unpacked, i))
 }
 
@@ -98,7 +98,7 @@ fn misplaced_field(table: &[u8], unpacked: &[u32], n: usize, i: usize) -> bool
     if table_records::extension_at(table, unpacked, i) { // clause b
         return true;
     }
-    if table_records::kind_at(table, unpacked, i) == 1 {
+    if table_records::kind_at(table, unpacked, i) == numbers::VOID {
         return true;
     }
     any_such(table, unpacked, n, i, i, Such::Tagged)
@@ -111,7 +111,7 @@ fn misplaced_alternative(table: &[u8], unpacked: &[u32], n: usize, i: usize) -> 
     if table_records::extension_at(table, unpacked, i) { // clause f
         return true;
     }
-    if table_records::kind_at(table, unpacked, i) != 3 {
+    if table_records::kind_at(table, unpacked, i) != numbers::INT {
         return true;
     }
     any_such(table, unpacked, n, i, i, Such::Any)
@@ -123,7 +123,7 @@ fn misplaced_untagged(table: &[u8], unpacked: &[u32], n: usize, i: usize) -> boo
     if !table_records::untagged_at(table, unpacked, i) {
         return false;
     }
-    if parent_kind(table, unpacked, n, i) == 9 {
+    if parent_kind(table, unpacked, n, i) == numbers::UNION {
         return misplaced_alternative(table, unpacked, n, i);
     }
     misplaced_field(table, unpacked, n, i)
@@ -133,7 +133,7 @@ fn misplaced_untagged(table: &[u8], unpacked: &[u32], n: usize, i: usize) -> boo
 fn number_tag(table: &[u8], unpacked: &[u32], n: usize, i: usize) -> bool
     ensures { λ r. ⌜ r ≡ numberTag (recordsAt (now (table .entry)) (now (unpacked .entry)) n) i (recordIn (now (table .entry)) (now (unpacked .entry)) i) ⌝ }
 {
-    if parent_kind(table, unpacked, n, i) != 9 {
+    if parent_kind(table, unpacked, n, i) != numbers::UNION {
         return false;
     }
     if table_records::untagged_at(table, unpacked, i) {
@@ -148,7 +148,7 @@ fn number_tag(table: &[u8], unpacked: &[u32], n: usize, i: usize) -> bool
 fn void_top(table: &[u8], unpacked: &[u32], i: usize) -> bool
     ensures { λ r. ⌜ r ≡ voidTop (recordIn (now (table .entry)) (now (unpacked .entry)) i) ⌝ }
 {
-    is_top(table, unpacked, i) & (table_records::kind_at(table, unpacked, i) == 1)
+    is_top(table, unpacked, i) & (table_records::kind_at(table, unpacked, i) == numbers::VOID)
 }
 
 // A plugin without a tag that has a dot.
@@ -174,7 +174,7 @@ pub fn is_tagged_field(table: &[u8], unpacked: &[u32], n: usize, i: usize) -> bo
     if table_records::plugin_at(table, unpacked, i) {
         return false;
     }
-    parent_kind(table, unpacked, n, i) == 8
+    parent_kind(table, unpacked, n, i) == numbers::STRUCT
 }
 
 pub fn rule7_broken(table: &[u8], unpacked: &[u32], n: usize, i: usize) -> bool
@@ -195,29 +195,12 @@ pub fn root_no_struct(table: &[u8], unpacked: &[u32], i: usize) -> bool
     ensures { λ r. ⌜ r ≡ rootNoStruct i (recordIn (now (table .entry)) (now (unpacked .entry)) i) ⌝ }
 {
     if i == 0 {
-        return table_records::kind_at(table, unpacked, i) != 8;
+        return table_records::kind_at(table, unpacked, i) != numbers::STRUCT;
     }
     false
 }
 
 // ---- number 10
-
-fn has(have: &[bool], i: usize) -> bool
-    ensures { λ r. ⌜ r ≡ getD (now (have .entry)) i false ⌝ }
-{
-    if i < have.len() {
-        return have[i];
-    }
-    false
-}
-
-fn put(marks: &mut [bool], i: usize, mark: bool)
-    ensures { λ _. ⌜ now (marks .exit) ≡ set (now (marks .entry)) i mark ⌝ }
-{
-    if i < marks.len() {
-        marks[i] = mark;
-    }
-}
 
 fn can_do_without(table: &[u8], unpacked: &[u32], i: usize) -> bool
     ensures { λ r. ⌜ r ≡ canDoWithout (recordIn (now (table .entry)) (now (unpacked .entry)) i) ⌝ }
@@ -241,7 +224,7 @@ fn begin(table: &[u8], unpacked: &[u32], n: usize, rest: &mut [bool])
 {
     let mut i: usize = 0;
     while i < n {
-        rest[i] = table_records::kind_at(table, unpacked, i) != 9;
+        rest[i] = table_records::kind_at(table, unpacked, i) != numbers::UNION;
         i += 1;
     }
 }
@@ -251,15 +234,15 @@ fn has_value(table: &[u8], unpacked: &[u32], have: &[bool], rest: &[bool], i: us
     ensures { λ r. ⌜ r ≡ stepBy (now (have .entry)) (getD (now (rest .entry)) i false) (recordIn (now (table .entry)) (now (unpacked .entry)) i) ⌝ }
 {
     let k = table_records::kind_at(table, unpacked, i);
-    if k == 8 {
-        return has(rest, i);
+    if k == numbers::STRUCT {
+        return numbers::mark_at(rest, i);
     }
-    if k == 9 {
-        return has(rest, i);
+    if k == numbers::UNION {
+        return numbers::mark_at(rest, i);
     }
-    if k == 10 {
+    if k == numbers::REFERENCE {
         let t = table_records::target_at(table, unpacked, i);
-        return has(have, t);
+        return numbers::mark_at(have, t);
     }
     true
 }
@@ -269,11 +252,11 @@ fn add_if(table: &[u8], unpacked: &[u32], have: &mut [bool], rest: &[bool], i: u
     ensures { λ r. ⌜ r ≡ isNewlyFinite (now (have .entry)) (getD (now (rest .entry)) i false) i (recordIn (now (table .entry)) (now (unpacked .entry)) i) ⌝ }
     ensures { λ _. ⌜ now (have .exit) ≡ addIf (isNewlyFinite (now (have .entry)) (getD (now (rest .entry)) i false) i (recordIn (now (table .entry)) (now (unpacked .entry)) i)) (now (have .entry)) i ⌝ }
 {
-    if has(have, i) {
+    if numbers::mark_at(have, i) {
         return false;
     }
     if has_value(table, unpacked, have, rest, i) {
-        put(have, i, true);
+        numbers::set_mark(have, i, true);
         return true;
     }
     false
@@ -284,12 +267,12 @@ fn joined(table: &[u8], unpacked: &[u32], have: &[bool], p: usize, i: usize, res
     ensures { λ r. ⌜ r ≡ stepWith (now (have .entry)) (recordIn (now (table .entry)) (now (unpacked .entry)) p .kind) i (recordIn (now (table .entry)) (now (unpacked .entry)) i) rest ⌝ }
 {
     let k = table_records::kind_at(table, unpacked, p);
-    if k == 8 {
+    if k == numbers::STRUCT {
         return ends_needs(table, unpacked, i)
-            | ((can_do_without(table, unpacked, i) | has(have, i)) & rest);
+            | ((can_do_without(table, unpacked, i) | numbers::mark_at(have, i)) & rest);
     }
-    if k == 9 {
-        return has(have, i) | rest;
+    if k == numbers::UNION {
+        return numbers::mark_at(have, i) | rest;
     }
     rest
 }
@@ -299,12 +282,12 @@ fn join(table: &[u8], unpacked: &[u32], have: &[bool], rest: &mut [bool], i: usi
     ensures { λ _. ⌜ now (rest .exit) ≡ gathered (now (table .entry)) (now (unpacked .entry)) (now (have .entry)) i (recordIn (now (table .entry)) (now (unpacked .entry)) i .parent) (now (rest .entry)) ⌝ }
 {
     let p = table_records::parent_at(table, unpacked, i);
-    if p == 65_535 {
+    if p == numbers::NONE16 {
         return;
     }
-    let after = has(rest, p);
+    let after = numbers::mark_at(rest, p);
     let mark = joined(table, unpacked, have, p, i, after);
-    put(rest, p, mark);
+    numbers::set_mark(rest, p, mark);
 }
 
 // A sweep in place, from the last record to the first, and whether it added any. A body's records stand after its own, so that
@@ -359,7 +342,7 @@ pub fn is_endless(table: &[u8], unpacked: &[u32], have: &[bool], i: usize) -> bo
     ensures { λ r. ⌜ r ≡ isEndless (now (have .entry)) i (recordIn (now (table .entry)) (now (unpacked .entry)) i) ⌝ }
 {
     let k = table_records::kind_at(table, unpacked, i);
-    (8 <= k) & (k <= 9) & !has(have, i)
+    (numbers::STRUCT <= k) & (k <= numbers::UNION) & !numbers::mark_at(have, i)
 }
 
 // No record is a union or a reference, so that each has a finite value: the records of a struct's body stand after it.
@@ -368,7 +351,7 @@ pub fn only_structs(table: &[u8], unpacked: &[u32], n: usize) -> bool
 {
     let mut i: usize = 0;
     while i < n {
-        if 9 <= table_records::kind_at(table, unpacked, i) {
+        if numbers::UNION <= table_records::kind_at(table, unpacked, i) {
             return false;
         }
         i += 1;

@@ -2,11 +2,15 @@
 ghost use mathlib.Core.Path.{_≡_};
 ghost use mathlib.Core.Bool.{not, _&&_};
 ghost use Prim.Native.Nat.{_+_, _-_, _<_};
-ghost use Rattle.definition_rules.specs.Records.{kindLeast, kindMost};
 ghost use Rattle.definition_rules.specs.Faults.{isUnionAt, sameKey, isNewKey};
 ghost use Rattle.table_rules.specs.RecordRules.{kindsOfRecords, isSingleValue, countsFine, rangeFine, isTopAt, targetFine, showsName, labelFine, topFine, recordFine, everyRecord, shownNames, allNew};
 ghost use Rattle.table_records.specs.Stored.{recordIn, recordsFrom, recordsAt};
 ghost use Rattle.table_fields.specs.Keys.{labelKey};
+
+// The largest count, and the one that sets no limit.
+const COUNT_LIMIT: usize = numbers::COUNT_LIMIT as usize;
+
+const NO_LIMIT: usize = numbers::NO_LIMIT as usize;
 
 // ---- one record
 
@@ -14,7 +18,7 @@ fn is_union(table: &[u8], unpacked: &[u32], n: usize, p: usize) -> bool
     ensures { λ r. ⌜ r ≡ isUnionAt (kindsOfRecords (recordsAt (now (table .entry)) (now (unpacked .entry)) n)) p ⌝ }
 {
     if p < n {
-        return table_records::kind_at(table, unpacked, p) == 9;
+        return table_records::kind_at(table, unpacked, p) == numbers::UNION;
     }
     false
 }
@@ -40,33 +44,9 @@ fn counts_fine(table: &[u8], unpacked: &[u32], n: usize, i: usize) -> bool
     let lo = table_records::lo_count_at(table, unpacked, i);
     let hi = table_records::hi_count_at(table, unpacked, i);
     let single = (lo == 1) & (hi == 1);
-    (lo <= 65_534)
+    (lo <= COUNT_LIMIT)
         & ((1 <= hi)
-            & ((lo <= hi) & ((hi <= 65_535) & (!is_single(table, unpacked, n, i) | single))))
-}
-
-fn kind_least(k: u32) -> u32
-    ensures { λ r. ⌜ r ≡ kindLeast k ⌝ }
-{
-    if k == 3 {
-        return 0;
-    }
-    if k == 5 {
-        return 2_147_483_649;
-    }
-    2_147_483_648
-}
-
-fn kind_most(k: u32) -> u32
-    ensures { λ r. ⌜ r ≡ kindMost k ⌝ }
-{
-    if k == 3 {
-        return 4_294_967_295;
-    }
-    if (3 <= k) & (k <= 5) {
-        return 2_147_484_672;
-    }
-    2_147_483_648
+            & ((lo <= hi) & ((hi <= NO_LIMIT) & (!is_single(table, unpacked, n, i) | single))))
 }
 
 fn range_fine(table: &[u8], unpacked: &[u32], i: usize) -> bool
@@ -75,7 +55,7 @@ fn range_fine(table: &[u8], unpacked: &[u32], i: usize) -> bool
     let k = table_records::kind_at(table, unpacked, i);
     let a = table_records::least_at(table, unpacked, i);
     let b = table_records::most_at(table, unpacked, i);
-    (kind_least(k) <= a) & ((a <= b) & (b <= kind_most(k)))
+    (definition_words::kind_least(k) <= a) & ((a <= b) & (b <= definition_words::kind_most(k)))
 }
 
 fn is_top_at(table: &[u8], unpacked: &[u32], n: usize, i: usize) -> bool
@@ -91,10 +71,10 @@ fn target_fine(table: &[u8], unpacked: &[u32], n: usize, i: usize) -> bool
     ensures { λ r. ⌜ r ≡ targetFine (recordsAt (now (table .entry)) (now (unpacked .entry)) n) (recordIn (now (table .entry)) (now (unpacked .entry)) i) ⌝ }
 {
     let t = table_records::target_at(table, unpacked, i);
-    if table_records::kind_at(table, unpacked, i) == 10 {
+    if table_records::kind_at(table, unpacked, i) == numbers::REFERENCE {
         return is_top_at(table, unpacked, n, t);
     }
-    t == 65_535
+    t == numbers::NONE16
 }
 
 // Tops and untagged fields.
@@ -120,17 +100,17 @@ fn top_fine(table: &[u8], unpacked: &[u32], i: usize) -> bool
     !table_checks::is_top(table, unpacked, i)
         | (!table_records::untagged_at(table, unpacked, i)
             & (!table_records::plugin_at(table, unpacked, i)
-                & (table_records::kind_at(table, unpacked, i) != 10)))
+                & (table_records::kind_at(table, unpacked, i) != numbers::REFERENCE)))
 }
 
 fn record_fine(table: &[u8], unpacked: &[u32], n: usize, i: usize) -> bool
     ensures { λ r. ⌜ r ≡ recordFine (recordsAt (now (table .entry)) (now (unpacked .entry)) n) (isUnionAt (kindsOfRecords (recordsAt (now (table .entry)) (now (unpacked .entry)) n))) (recordIn (now (table .entry)) (now (unpacked .entry)) i) ⌝ }
 {
     let k = table_records::kind_at(table, unpacked, i);
-    if k < 1 {
+    if k < numbers::VOID {
         return false;
     }
-    if 10 < k {
+    if numbers::REFERENCE < k {
         return false;
     }
     if !counts_fine(table, unpacked, n, i) {

@@ -4,7 +4,8 @@ ghost use mathlib.Core.Path.{_≡_};
 ghost use mathlib.Core.Bool.{true};
 ghost use mathlib.Core.List.{[]};
 ghost use Prim.Native.Nat.{_≤_, _<_, _/_};
-ghost use lib.ListN.{length, getD, set};
+ghost use lib.ListN.{length};
+ghost use Rattle.numbers.specs.Limits.{depthLimit, parameterLimit};
 ghost use Rattle.reading_rules.specs.Record.{sameUp};
 ghost use Rattle.definition_rules.specs.Words.{kindIsCompound};
 ghost use Rattle.definition_rules.specs.Table.{numberUp};
@@ -12,23 +13,6 @@ ghost use Rattle.definition_rules.specs.Declarations.{parentOf};
 ghost use Rattle.table_rules.specs.RecordRules.{isOpen, closedTo, inExtension, pushIf, mayStand, standsIn, ordered as isOrdered};
 ghost use Rattle.table_records.specs.Stored.{recordIn, recordsAt};
 ghost use Rattle.table_order.specs.Open.{framesOf};
-
-fn cell(bodies: &[u32], i: usize) -> u32
-    ensures { λ r. ⌜ r ≡ getD (now (bodies .entry)) i 0 ⌝ }
-{
-    if i < bodies.len() {
-        return bodies[i];
-    }
-    0
-}
-
-fn put(bodies: &mut [u32], i: usize, x: u32)
-    ensures { λ _. ⌜ now (bodies .exit) ≡ set (now (bodies .entry)) i x ⌝ }
-{
-    if i < bodies.len() {
-        bodies[i] = x;
-    }
-}
 
 fn number(x: u32) -> usize
     ensures { λ r. ⌜ r ≡ x / 2 ⌝ }
@@ -39,7 +23,7 @@ fn number(x: u32) -> usize
 fn is_open(x: u32, p: usize) -> bool
     ensures { λ r. ⌜ r ≡ isOpen (numberUp p) (x / 2) ⌝ }
 {
-    (p != 65_535) & (number(x) == p)
+    (p != numbers::NONE16) & (number(x) == p)
 }
 
 // How many bodies stay open once all inside p's are closed.
@@ -48,7 +32,7 @@ fn closed_to(bodies: &[u32], depth: usize, p: usize) -> usize
 {
     let mut d = depth;
     while 0 < d {
-        if is_open(cell(bodies, d - 1), p) {
+        if is_open(numbers::cell_at(bodies, d - 1), p) {
             return d;
         }
         d -= 1;
@@ -59,7 +43,7 @@ fn closed_to(bodies: &[u32], depth: usize, p: usize) -> usize
 fn is_compound(k: u32) -> bool
     ensures { λ r. ⌜ r ≡ kindIsCompound k ⌝ }
 {
-    (8 <= k) & (k <= 9)
+    (numbers::STRUCT <= k) & (k <= numbers::UNION)
 }
 
 // The innermost open body is p's; outside all, p is none.
@@ -67,9 +51,9 @@ fn is_parent(bodies: &[u32], depth: usize, p: usize) -> bool
     ensures { λ r. ⌜ r ≡ sameUp (parentOf (framesOf (now (bodies .entry)) depth)) (numberUp p) ⌝ }
 {
     if depth == 0 {
-        return p == 65_535;
+        return p == numbers::NONE16;
     }
-    is_open(cell(bodies, depth - 1), p)
+    is_open(numbers::cell_at(bodies, depth - 1), p)
 }
 
 // No field outside an extension after one inside, and no extension outside all bodies.
@@ -79,7 +63,7 @@ fn may_stand(bodies: &[u32], depth: usize, extension: bool) -> bool
     if depth == 0 {
         return !extension;
     }
-    if cell(bodies, depth - 1) % 2 == 1 {
+    if numbers::cell_at(bodies, depth - 1) % 2 == 1 {
         return extension;
     }
     true
@@ -98,7 +82,7 @@ fn stands_in(table: &[u8], unpacked: &[u32], i: usize, bodies: &[u32], depth: us
     ) {
         return false;
     }
-    !is_compound(table_records::kind_at(table, unpacked, i)) | (depth < 8)
+    !is_compound(table_records::kind_at(table, unpacked, i)) | (depth < numbers::DEPTH_LIMIT)
 }
 
 // A field in an extension: from here on the body has only such fields.
@@ -110,14 +94,14 @@ fn note_extension(bodies: &mut [u32], depth: usize, extension: bool)
         return;
     }
     if extension {
-        let x = cell(bodies, depth - 1);
-        put(bodies, depth - 1, x / 2 * 2 + 1);
+        let x = numbers::cell_at(bodies, depth - 1);
+        numbers::set_cell(bodies, depth - 1, x / 2 * 2 + 1);
     }
 }
 
 // How many bodies are open after record i, which opens one where it is a struct or a union.
 fn opened(table: &[u8], unpacked: &[u32], i: usize, bodies: &mut [u32], depth: usize) -> usize
-    requires { ⌜ (i < 256) × (depth ≤ length (now bodies)) × (kindIsCompound (recordIn (now table) (now unpacked) i .kind) ≡ true → depth < length (now bodies)) ⌝ }
+    requires { ⌜ (i < parameterLimit) × (depth ≤ length (now bodies)) × (kindIsCompound (recordIn (now table) (now unpacked) i .kind) ≡ true → depth < length (now bodies)) ⌝ }
     ensures { λ r. ⌜ (framesOf (now (bodies .exit)) r ≡ pushIf (kindIsCompound (recordIn (now (table .entry)) (now (unpacked .entry)) i .kind)) i (inExtension (recordIn (now (table .entry)) (now (unpacked .entry)) i .extension) (framesOf (now (bodies .entry)) depth))) × (r ≤ length (now (bodies .entry))) ⌝ }
 {
     note_extension(
@@ -126,21 +110,21 @@ fn opened(table: &[u8], unpacked: &[u32], i: usize, bodies: &mut [u32], depth: u
         table_records::extension_at(table, unpacked, i),
     );
     if is_compound(table_records::kind_at(table, unpacked, i)) {
-        put(bodies, depth, 2 * (i as u32));
+        numbers::set_cell(bodies, depth, 2 * (i as u32));
         return depth + 1;
     }
     depth
 }
 
-fn no_bodies() -> [u32; 8]
-    ensures { λ r. ⌜ 8 ≡ length r ⌝ }
+fn no_bodies() -> [u32; numbers::DEPTH_LIMIT]
+    ensures { λ r. ⌜ depthLimit ≡ length r ⌝ }
 {
-    [0u32; 8]
+    [0u32; numbers::DEPTH_LIMIT]
 }
 
 // The bound keeps a record's number in a u32.
 pub fn ordered(table: &[u8], unpacked: &[u32], n: usize) -> bool
-    requires { ⌜ n ≤ 256 ⌝ }
+    requires { ⌜ n ≤ parameterLimit ⌝ }
     ensures { λ r. ⌜ r ≡ isOrdered [] 0 (recordsAt (now (table .entry)) (now (unpacked .entry)) n) ⌝ }
 {
     let mut bodies = no_bodies();

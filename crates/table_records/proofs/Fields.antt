@@ -4,7 +4,7 @@ use mathlib.Core.Bool.{Bool, true, false, not, _&&_}
 use mathlib.Core.List.{List, [], _∷_, _++_, append-assoc}
 use Prim.Native.Nat.{ℕ, suc, _+_, _-_, _*_, _≤_, _<_}
 use native.Mathlib.Omega.{arith}
-use borrow.Author.Tests.{eqb-true, lt-ltb, le-ltb, lt-leb}
+use borrow.Author.Tests.{lt-ltb, le-ltb, lt-leb}
 use lib.Dec.{eqb}
 use lib.ListN.{length, getD, set, take, drop, length-set, length-take, length-drop, drop-of-length-le, List·getD-append}
 use lib.Seq.{take-all, take-nil, sets, sets-eq, length-sets, getD-set-other, getD-append-add}
@@ -13,17 +13,9 @@ use Rattle.numbers.specs.Limits.{none16, parameterLimit}
 use Rattle.numbers.specs.LittleEndian.{le16, leInt}
 use Rattle.reading_rules.specs.Record.{top, under}
 use Rattle.reading_rules.specs.Schema.{isUnder}
-use Rattle.definition_rules.specs.Table.{upNumber, numberUp}
+use Rattle.definition_rules.specs.Table.{numberUp}
 use Rattle.table_records.specs.Stored.{storedAt, headCells, recordCells, cellPlace, isThere, cellIn, keptIn, recordIn, Unpacked}
 use Rattle.table_records.proofs.Laws.{there, cell-agree, record-agree}
-
-pub up-number : (x : ℕ) → upNumber (numberUp x) ≡ x
-unfolding upNumber numberUp pick
-up-number x = go (eqb x none16) refl
-  where
-    go : (b : Bool) → eqb x none16 ≡ b → upNumber (pick b top (under x)) ≡ x
-    go true e = sym (eqb-true x none16 e)
-    go false e = refl
 
 pub is-under : (p x : ℕ) → isUnder p (numberUp x) ≡ not (eqb x none16) && eqb x p
 unfolding isUnder numberUp pick

@@ -10,10 +10,35 @@ ghost use Rattle.reading_rules.specs.Schema.{isUnder};
 ghost use Rattle.definition_rules.specs.Table.{upNumber};
 ghost use Rattle.table_records.specs.Stored.{headCells, recordCells, cellIn, keptIn, recordIn, Unpacked};
 
-// Cells that are no record's, and those of each record.
-const HEADS: usize = 64;
+// Cells that are no record's, and those of each record: where its bytes begin, its numbers in their order, and a link.
+pub const HEADS: usize = 64;
 
-const WIDTH: usize = 11;
+pub const WIDTH: usize = 11;
+
+const BYTES: u8 = 0;
+
+const KIND: u8 = 1;
+
+const PARENT: u8 = 2;
+
+const FLAGS: u8 = 3;
+
+const LO_COUNT: u8 = 4;
+
+const HI_COUNT: u8 = 5;
+
+const LEAST: u8 = 6;
+
+const MOST: u8 = 7;
+
+const TARGET: u8 = 8;
+
+const LABEL_LENGTH: u8 = 9;
+
+const LINK: u8 = 10;
+
+// Cells for as many records as there may be.
+pub const ALL_CELLS: usize = HEADS + WIDTH * numbers::PARAMETER_LIMIT;
 
 // The k-th cell of record i. The test is the same for all cells of a record, here and below, so that the compiler can
 // make it once.
@@ -21,7 +46,7 @@ fn cell(unpacked: &[u32], i: usize, k: u8) -> u32
     requires { ⌜ k < recordCells ⌝ }
     ensures { λ r. ⌜ r ≡ cellIn (now (unpacked .entry)) i k ⌝ }
 {
-    if 256 <= i {
+    if numbers::PARAMETER_LIMIT <= i {
         return 0;
     }
     let at = HEADS + WIDTH * i;
@@ -29,12 +54,6 @@ fn cell(unpacked: &[u32], i: usize, k: u8) -> u32
         return unpacked[at + k as usize];
     }
     0
-}
-
-fn wide(n: u32) -> usize
-    ensures { λ r. ⌜ (r ≡ n) × (r < 4294967296) ⌝ }
-{
-    n as usize
 }
 
 // A byte as a u32.
@@ -65,7 +84,7 @@ fn keep(unpacked: &mut [u32], i: usize, k: u8, x: u32)
     requires { ⌜ k < recordCells ⌝ }
     ensures { λ _. ⌜ now (unpacked .exit) ≡ keptIn (now (unpacked .entry)) i k x ⌝ }
 {
-    if 256 <= i {
+    if numbers::PARAMETER_LIMIT <= i {
         return;
     }
     let at = HEADS + WIDTH * i;
@@ -80,107 +99,122 @@ pub fn unpack(table: &[u8], at: u32, unpacked: &mut [u32], i: usize)
     requires { ⌜ at + 24 ≤ length (now table) ⌝ }
     ensures { λ _. ⌜ (i < parameterLimit → headCells + recordCells * (i + 1) ≤ length (now (unpacked .entry)) → Unpacked (now (table .entry)) at (now (unpacked .entry)) i (now (unpacked .exit))) ⌝ }
 {
-    let from = wide(at);
-    keep(unpacked, i, 0, at);
-    keep(unpacked, i, 1, pair(table, from + 2));
-    keep(unpacked, i, 2, pair(table, from + 4));
-    keep(unpacked, i, 3, pair(table, from + 6));
-    keep(unpacked, i, 4, pair(table, from + 8));
-    keep(unpacked, i, 5, pair(table, from + 10));
-    keep(unpacked, i, 6, int(table, from + 12));
-    keep(unpacked, i, 7, int(table, from + 16));
-    keep(unpacked, i, 8, pair(table, from + 20));
-    keep(unpacked, i, 9, pair(table, from + 22));
+    let from = numbers::wide(at);
+    keep(unpacked, i, BYTES, at);
+    keep(unpacked, i, KIND, pair(table, from + numbers::KIND_AT));
+    keep(unpacked, i, PARENT, pair(table, from + numbers::PARENT_AT));
+    keep(unpacked, i, FLAGS, pair(table, from + numbers::FLAGS_AT));
+    keep(
+        unpacked,
+        i,
+        LO_COUNT,
+        pair(table, from + numbers::LO_COUNT_AT),
+    );
+    keep(
+        unpacked,
+        i,
+        HI_COUNT,
+        pair(table, from + numbers::HI_COUNT_AT),
+    );
+    keep(unpacked, i, LEAST, int(table, from + numbers::LEAST_AT));
+    keep(unpacked, i, MOST, int(table, from + numbers::MOST_AT));
+    keep(unpacked, i, TARGET, pair(table, from + numbers::TARGET_AT));
+    keep(
+        unpacked,
+        i,
+        LABEL_LENGTH,
+        pair(table, from + numbers::LABEL_LENGTH_AT),
+    );
 }
 
 // The last cell of a record, which links it to another.
 pub fn link_at(unpacked: &[u32], i: usize) -> usize
     ensures { λ r. ⌜ r ≡ cellIn (now (unpacked .entry)) i 10 ⌝ }
 {
-    wide(cell(unpacked, i, 10))
+    numbers::wide(cell(unpacked, i, LINK))
 }
 
 pub fn set_link(unpacked: &mut [u32], i: usize, x: u32)
     ensures { λ _. ⌜ now (unpacked .exit) ≡ keptIn (now (unpacked .entry)) i 10 x ⌝ }
 {
-    keep(unpacked, i, 10, x);
+    keep(unpacked, i, LINK, x);
 }
 
 // Kinds 1 to 10.
 pub fn kind_at(table: &[u8], unpacked: &[u32], i: usize) -> u32
     ensures { λ r. ⌜ r ≡ recordIn (now (table .entry)) (now (unpacked .entry)) i .kind ⌝ }
 {
-    cell(unpacked, i, 1)
+    cell(unpacked, i, KIND)
 }
 
 // The parent's number, 65,535 for a top.
 pub fn parent_at(table: &[u8], unpacked: &[u32], i: usize) -> usize
     ensures { λ r. ⌜ r ≡ upNumber (recordIn (now (table .entry)) (now (unpacked .entry)) i .parent) ⌝ }
 {
-    wide(cell(unpacked, i, 2))
+    numbers::wide(cell(unpacked, i, PARENT))
 }
 
 // The record stands in the body of p.
 pub fn is_under(table: &[u8], unpacked: &[u32], i: usize, p: usize) -> bool
     ensures { λ r. ⌜ r ≡ isUnder p (recordIn (now (table .entry)) (now (unpacked .entry)) i .parent) ⌝ }
 {
-    let up = wide(cell(unpacked, i, 2));
-    (up != 65_535) & (up == p)
+    let up = numbers::wide(cell(unpacked, i, PARENT));
+    (up != numbers::NONE16) & (up == p)
 }
 
 // The flags, as one number.
 pub fn flags_at(table: &[u8], unpacked: &[u32], i: usize) -> u32
     ensures { λ r. ⌜ r ≡ cellIn (now (unpacked .entry)) i 3 ⌝ }
 {
-    cell(unpacked, i, 3)
+    cell(unpacked, i, FLAGS)
 }
 
 pub fn untagged_at(table: &[u8], unpacked: &[u32], i: usize) -> bool
     ensures { λ r. ⌜ r ≡ recordIn (now (table .entry)) (now (unpacked .entry)) i .untagged ⌝ }
 {
-    flags_at(table, unpacked, i) % 2 == 1
+    flags_at(table, unpacked, i) % numbers::EXTENSION == numbers::UNTAGGED
 }
 
 pub fn extension_at(table: &[u8], unpacked: &[u32], i: usize) -> bool
     ensures { λ r. ⌜ r ≡ recordIn (now (table .entry)) (now (unpacked .entry)) i .extension ⌝ }
 {
-    2 <= flags_at(table, unpacked, i) % 4
+    numbers::EXTENSION <= flags_at(table, unpacked, i) % numbers::PLUGIN
 }
 
 pub fn plugin_at(table: &[u8], unpacked: &[u32], i: usize) -> bool
     ensures { λ r. ⌜ r ≡ recordIn (now (table .entry)) (now (unpacked .entry)) i .plugin ⌝ }
 {
-    4 <= flags_at(table, unpacked, i)
+    numbers::PLUGIN <= flags_at(table, unpacked, i)
 }
 
 pub fn lo_count_at(table: &[u8], unpacked: &[u32], i: usize) -> usize
     ensures { λ r. ⌜ r ≡ recordIn (now (table .entry)) (now (unpacked .entry)) i .loCount ⌝ }
 {
-    wide(cell(unpacked, i, 4))
+    numbers::wide(cell(unpacked, i, LO_COUNT))
 }
 
 pub fn hi_count_at(table: &[u8], unpacked: &[u32], i: usize) -> usize
     ensures { λ r. ⌜ r ≡ recordIn (now (table .entry)) (now (unpacked .entry)) i .hiCount ⌝ }
 {
-    wide(cell(unpacked, i, 5))
+    numbers::wide(cell(unpacked, i, HI_COUNT))
 }
 
 pub fn least_at(table: &[u8], unpacked: &[u32], i: usize) -> u32
     ensures { λ r. ⌜ r ≡ recordIn (now (table .entry)) (now (unpacked .entry)) i .least ⌝ }
 {
-    cell(unpacked, i, 6)
+    cell(unpacked, i, LEAST)
 }
 
 pub fn most_at(table: &[u8], unpacked: &[u32], i: usize) -> u32
     ensures { λ r. ⌜ r ≡ recordIn (now (table .entry)) (now (unpacked .entry)) i .most ⌝ }
 {
-    cell(unpacked, i, 7)
+    cell(unpacked, i, MOST)
 }
 
 pub fn target_at(table: &[u8], unpacked: &[u32], i: usize) -> usize
     ensures { λ r. ⌜ r ≡ recordIn (now (table .entry)) (now (unpacked .entry)) i .target ⌝ }
 {
-    wide(cell(unpacked, i, 8))
+    numbers::wide(cell(unpacked, i, TARGET))
 }
 
 // Up to n bytes from a place on.
@@ -201,6 +235,10 @@ fn part<'a>(s: &'a [u8], at: usize, n: usize) -> &'a [u8]
 pub fn label_at<'a>(table: &'a [u8], unpacked: &[u32], i: usize) -> &'a [u8]
     ensures { λ r. ⌜ now r ≡ recordIn (now (table .entry)) (now (unpacked .entry)) i .label ⌝ }
 {
-    let n = wide(cell(unpacked, i, 9));
-    part(table, wide(cell(unpacked, i, 0)) + 24, n)
+    let n = numbers::wide(cell(unpacked, i, LABEL_LENGTH));
+    part(
+        table,
+        numbers::wide(cell(unpacked, i, BYTES)) + numbers::RECORD_HEADER,
+        n,
+    )
 }

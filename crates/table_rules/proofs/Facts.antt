@@ -7,13 +7,15 @@ use native.Mathlib.Omega.{arith}
 use lib.Dec.{eqb, leb, ltb}
 use lib.ListN.{length}
 use borrow.Author.Tests.{eqb-true, eq-eqb, ne-eqb, not-true, not-false, leb-true, leb-false}
+use Rattle.classes.proofs.Rows.{same-true}
+use Rattle.classes.proofs.Bools.{or-off}
 use Rattle.numbers.specs.Limits.{parameterLimit}
 use Rattle.classes.specs.Lists.{sameBytes, pick}
 use Rattle.numbers.specs.Decimal.{isIntLike}
 use Rattle.reading_rules.specs.Record.{Up, top, under, Record, recordAt, isTop, sameUp}
 use Rattle.reading_rules.specs.Schema.{Kind, void, simple, struct, union, reference, kindOf, isUnder, isUntaggedOf, isTaggedOf, isTaggedAs}
 use Rattle.reading_rules.proofs.CountLaws.{clash-bool, and-both}
-use Rattle.reading_rules.proofs.Rules.{ReadingRules, same-bytes}
+use Rattle.reading_rules.proofs.Rules.{ReadingRules}
 use Rattle.definition_rules.specs.Faults.{isUnionAt, voidMany, anyOf, anyBefore, parentKind, beside, misplacedField, misplacedAlternative, misplacedUntagged, numberTag, voidTop, pluginUndotted, rule7Broken, hasWireTag, tagRepeated}
 use Rattle.table_rules.specs.RecordRules.{ordered, kindsOfRecords, recordFine, everyRecord, noneBroken, shownNames, allNew, recordChecks, recordRules}
 use Rattle.table_rules.proofs.RuleFacts.{Fine, fine-of}
@@ -39,10 +41,6 @@ rules-formed limit rs e =
 
 -- ---- tests
 
-pub or-none : {X : Type 0} (a b : Bool) → a || b ≡ false → (a ≡ false → b ≡ false → X) → X
-or-none true b e f = clash-bool (sym e)
-or-none false b e f = f refl e
-
 pub and-off : (a b : Bool) → a && b ≡ false → a ≡ true → b ≡ false
 and-off true b e h = e
 and-off false b e h = clash-bool h
@@ -66,14 +64,14 @@ pub before-none : (i : ℕ) (f : Record → Bool) (rs : List Record) → anyBefo
 unfolding anyBefore recordAt
 before-none zero f rs e n h k = absurd (omega arith)
 before-none (suc i) f [] e n h k = absurd (omega arith)
-before-none (suc i) f (r ∷ rs) e zero h k = or-none (f r) _ e (λ a b. a)
-before-none (suc i) f (r ∷ rs) e (suc n) h k = or-none (f r) _ e (λ a b. before-none i f rs b n (omega arith) (omega arith))
+before-none (suc i) f (r ∷ rs) e zero h k = or-off (f r) _ e (λ a b. a)
+before-none (suc i) f (r ∷ rs) e (suc n) h k = or-off (f r) _ e (λ a b. before-none i f rs b n (omega arith) (omega arith))
 
 any-none : (f : Record → Bool) (rs : List Record) → anyOf f rs ≡ false → (n : ℕ) → n < length rs → f (recordAt rs n) ≡ false
 unfolding anyOf recordAt
 any-none f [] e n h = absurd (omega arith)
-any-none f (r ∷ rs) e zero h = or-none (f r) _ e (λ a b. a)
-any-none f (r ∷ rs) e (suc n) h = or-none (f r) _ e (λ a b. any-none f rs b n (omega arith))
+any-none f (r ∷ rs) e zero h = or-off (f r) _ e (λ a b. a)
+any-none f (r ∷ rs) e (suc n) h = or-off (f r) _ e (λ a b. any-none f rs b n (omega arith))
 
 pub under-is : (u : ℕ) (p : Up) → isUnder u p ≡ true → p ≡ under u
 unfolding isUnder
@@ -119,9 +117,9 @@ module _ (rs : List Record) (F : Formed rs) where
   pub seven-at : (n : ℕ) → n < length rs → (misplacedUntagged rs n (recordAt rs n) ≡ false) × (numberTag rs n (recordAt rs n) ≡ false) × (voidTop (recordAt rs n) ≡ false) × (pluginUndotted (recordAt rs n) ≡ false)
   unfolding rule7Broken
   seven-at n h =
-      or-none (misplacedUntagged rs n (recordAt rs n)) _ (none-of (rule7Broken rs) rs (F .seven) n h) (λ a x.
-      or-none (numberTag rs n (recordAt rs n)) _ x (λ b y.
-      or-none (voidTop (recordAt rs n)) (pluginUndotted (recordAt rs n)) y (λ c d. (a, b, c, d))))
+      or-off (misplacedUntagged rs n (recordAt rs n)) _ (none-of (rule7Broken rs) rs (F .seven) n h) (λ a x.
+      or-off (numberTag rs n (recordAt rs n)) _ x (λ b y.
+      or-off (voidTop (recordAt rs n)) (pluginUndotted (recordAt rs n)) y (λ c d. (a, b, c, d))))
 
   -- an untagged alternative is an int
   pub bare-at : (u q : ℕ) → recordAt rs u .kind ≡ 9 → q < length rs → isUntaggedOf u (recordAt rs q) ≡ true → recordAt rs q .kind ≡ 3
@@ -130,8 +128,8 @@ module _ (rs : List Record) (F : Formed rs) where
       let x = untagged-is u (recordAt rs q) b in
       let m = and-off (recordAt rs q .untagged) _ (seven-at q h .0) (x .1) in
       let o = pick-first (eqb (parentKind rs (recordAt rs q .parent)) 9) (misplacedAlternative rs q (recordAt rs q)) (misplacedField rs q (recordAt rs q)) (parent-union rs u (recordAt rs q .parent) k (x .0)) m in
-      or-none (recordAt rs q .extension || not (eqb (recordAt rs q .kind) 3)) _ o (λ c d.
-      or-none (recordAt rs q .extension) _ c (λ e f. eqb-true (recordAt rs q .kind) 3 (not-false (eqb (recordAt rs q .kind) 3) f)))
+      or-off (recordAt rs q .extension || not (eqb (recordAt rs q .kind) 3)) _ o (λ c d.
+      or-off (recordAt rs q .extension) _ c (λ e f. eqb-true (recordAt rs q .kind) 3 (not-false (eqb (recordAt rs q .kind) 3) f)))
 
   pub reading-rules : ReadingRules rs
   unfolding numberTag
@@ -167,7 +165,7 @@ module _ (rs : List Record) (F : Formed rs) where
           let y = tagged-is p (recordAt rs j) b1 in
           let c = none-of (tagRepeated rs) rs (F .eight) j k in
           let d = before-none j (λ q. hasWireTag q && (beside (recordAt rs j) q && sameBytes (q .label) (recordAt rs j .label))) rs (and-off (hasWireTag (recordAt rs j)) _ c (wired p (recordAt rs j) y)) i m (omega arith) in
-          let s : sameBytes (recordAt rs i .label) (recordAt rs j .label) ≡ true = subst (λ v. sameBytes (recordAt rs i .label) v ≡ true) (sym (same-bytes (recordAt rs j .label) w b2)) a2 in
+          let s : sameBytes (recordAt rs i .label) (recordAt rs j .label) ≡ true = subst (λ v. sameBytes (recordAt rs i .label) v ≡ true) (sym (same-true (recordAt rs j .label) w b2)) a2 in
           clash-bool (sym d ∙ rw (wired p (recordAt rs i) x, same-under p (recordAt rs i .parent) (recordAt rs j .parent) (x .0) (y .0)) s)))
         where
           wired : (p : ℕ) (r : Record) → (r .parent ≡ under p) × (r .untagged ≡ false) → hasWireTag r ≡ true

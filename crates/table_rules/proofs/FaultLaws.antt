@@ -1,12 +1,14 @@
 -- When a list of faults is empty.
 use mathlib.Core.Path.{_≡_, refl, ap, sym, _∙_}
 use mathlib.Core.Bool.{Bool, true, false, not}
-use mathlib.Core.List.{List, [], _∷_, _++_}
-use Prim.Native.Nat.{ℕ, suc, _+_, _-_}
+use mathlib.Core.List.{List, [], _∷_}
+use Prim.Native.Nat.{ℕ, suc, _-_}
 use native.Mathlib.Omega.{arith}
 use lib.ListN.{length}
-use borrow.Author.Tests.{eq-eqb, eqb-true, not-true}
+use borrow.Author.Tests.{eq-eqb, eqb-true, not-true, not-false}
 use Rattle.classes.specs.Lists.{sameBytes, All}
+use Rattle.classes.proofs.Rows.{same-true, bytes-self}
+use Rattle.classes.proofs.Bools.{clash-bool, both-true}
 use Rattle.numbers.specs.Range.{number}
 use Rattle.definition_rules.specs.Scan.{placeIf, Item}
 use Rattle.reading_rules.specs.Record.{Up, top, under, Record, sameUp}
@@ -14,15 +16,14 @@ use Rattle.definition_rules.specs.Declarations.{declarationsOf, Declaration, No
 use Rattle.definition_rules.specs.Faults.{spotsWhere, recordSpots, sameKey, isNewKey, nameKey, repeatedNames, Key, key}
 use Rattle.definition_rules.specs.Compile.{tokenPlaces}
 use Rattle.table_rules.specs.RecordRules.{noneBroken, allNew}
-use Rattle.definition_rules.proofs.FormSound.{same-true}
-use Rattle.table_rules.proofs.Witness.{and-both, same-self, bool-no}
 use Rattle.table_rules.proofs.ShownNames.{Off, Uniq, declaredNames}
+use Rattle.definition_rules.proofs.ScanLaws.{place-none}
 
 pub up-true : (u v : Up) → sameUp u v ≡ true → u ≡ v
 unfolding sameUp
 up-true top top e = refl
-up-true top (under q) e = bool-no e
-up-true (under p) top e = bool-no e
+up-true top (under q) e = clash-bool e
+up-true (under p) top e = clash-bool e
 up-true (under p) (under q) e = ap under (eqb-true p q e)
 
 pub up-self : (u : Up) → sameUp u u ≡ true
@@ -32,18 +33,18 @@ up-self (under p) = eq-eqb p p refl
 
 key-true : (j k : Key) → sameKey j k ≡ true → j ≡ k
 unfolding sameKey
-key-true (key u l) (key v m) e = let x = and-both (sameUp u v) (sameBytes l m) e in let y = up-true u v (x .0) in let z = same-true l m (x .1) in cc
+key-true (key u l) (key v m) e = let x = both-true (sameUp u v) (sameBytes l m) e in let y = up-true u v (x .0) in let z = same-true l m (x .1) in cc
 
 key-self : (k : Key) → sameKey k k ≡ true
 unfolding sameKey
-key-self (key u l) = rw (up-self u) (same-self l)
+key-self (key u l) = rw (up-self u) (bytes-self l)
 
 not-eq : (j k : Key) → not (sameKey j k) ≡ true → j ≡ k → ⊥
 not-eq j k e q = by (sameKey j k) refl e
   where
     by : (b : Bool) → sameKey j k ≡ b → not b ≡ true → ⊥
-    by true x y = bool-no y
-    by false x y = bool-no (sym x ∙ rw q (key-self k))
+    by true x y = clash-bool y
+    by false x y = clash-bool (sym x ∙ rw q (key-self k))
 
 eq-not : (j k : Key) → (j ≡ k → ⊥) → not (sameKey j k) ≡ true
 eq-not j k h = by (sameKey j k) refl
@@ -55,7 +56,7 @@ eq-not j k h = by (sameKey j k) refl
 pub new-off : (k : Key) (z : List Key) → isNewKey k z ≡ true → Off k z
 unfolding isNewKey Off
 new-off k [] e = tt
-new-off k (j ∷ z) e = let x = and-both (not (sameKey k j)) (isNewKey k z) e in (not-eq k j (x .0), new-off k z (x .1))
+new-off k (j ∷ z) e = let x = both-true (not (sameKey k j)) (isNewKey k z) e in (not-eq k j (x .0), new-off k z (x .1))
 
 pub off-new : (k : Key) (z : List Key) → Off k z → isNewKey k z ≡ true
 unfolding isNewKey Off
@@ -65,7 +66,7 @@ off-new k (j ∷ z) h = rw (eq-not k j (h .0)) (off-new k z (h .1))
 pub new-uniq : (ks : List Key) → allNew ks ≡ true → Uniq ks
 unfolding allNew Uniq
 new-uniq [] e = tt
-new-uniq (k ∷ ks) e = let x = and-both (isNewKey k ks) (allNew ks) e in (new-off k ks (x .0), new-uniq ks (x .1))
+new-uniq (k ∷ ks) e = let x = both-true (isNewKey k ks) (allNew ks) e in (new-off k ks (x .0), new-uniq ks (x .1))
 
 pub uniq-new : (ks : List Key) → Uniq ks → allNew ks ≡ true
 unfolding allNew Uniq
@@ -92,15 +93,6 @@ unpacked-head : (l z : List Key) (k : Key) → Offs l (k ∷ z) → Off k l × O
 unfolding Offs Off
 unpacked-head [] z k h = (tt, tt)
 unpacked-head (j ∷ l) z k h = let x = unpacked-head l z k (h .1) in (((λ e. h .0 .0 (sym e)), x .0), (h .0 .1, x .1))
-
-pub place-none : (b : Bool) (p : ℕ) (r : List ℕ) → placeIf b p r ≡ [] → (b ≡ false) × (r ≡ [])
-unfolding placeIf
-place-none true p r e = let z : _≡_ {A = ℕ} 0 1 = cc in absurd (omega arith)
-place-none false p r e = (refl, e)
-
-not-false : (b : Bool) → not b ≡ false → b ≡ true
-not-false true e = refl
-not-false false e = bool-no (sym e)
 
 pub twice-uniq : (ns : List Noted) (z : List Key) → repeatedNames z ns ≡ [] → Offs (declaredNames (declarationsOf ns)) z × Uniq (declaredNames (declarationsOf ns))
 unfolding repeatedNames declarationsOf declaredNames Offs Uniq
@@ -135,17 +127,13 @@ pub none-spots : (f : ℕ → Record → Bool) (at : Spots → ℕ) (i : ℕ) (r
 unfolding noneBroken recordSpots placeIf
 none-spots f at i [] ns e = refl
 none-spots f at i (r ∷ rs) [] e = refl
-none-spots f at i (r ∷ rs) (noted s d ∷ ns) e = let x = and-both (not (f i r)) (noneBroken f (suc i) rs) e in rw (not-true (f i r) (x .0)) (none-spots f at (suc i) rs ns (x .1))
+none-spots f at i (r ∷ rs) (noted s d ∷ ns) e = let x = both-true (not (f i r)) (noneBroken f (suc i) rs) e in rw (not-true (f i r) (x .0)) (none-spots f at (suc i) rs ns (x .1))
 
 pub spots-none : (f : ℕ → Record → Bool) (at : Spots → ℕ) (i : ℕ) (rs : List Record) (ns : List Noted) → length rs ≡ length ns → recordSpots f at i rs ns ≡ [] → noneBroken f i rs ≡ true
 unfolding noneBroken recordSpots
 spots-none f at i [] ns l e = refl
 spots-none f at i (r ∷ rs) [] l e = absurd (omega arith)
 spots-none f at i (r ∷ rs) (noted s d ∷ ns) l e = let x = place-none (f i r) (at s) (recordSpots f at (suc i) rs ns) e in rw (x .0) (spots-none f at (suc i) rs ns (omega arith) (x .1))
-
-pub append-nil : (a b : List ℕ) → a ++ b ≡ [] → (a ≡ []) × (b ≡ [])
-append-nil [] b e = (refl, e)
-append-nil (x ∷ a) b e = let z : _≡_ {A = ℕ} 0 1 = cc in absurd (omega arith)
 
 pub places-nil : (text : List ℕ) (items : List Item) (l : List ℕ) → tokenPlaces text items l ≡ [] → l ≡ []
 unfolding tokenPlaces

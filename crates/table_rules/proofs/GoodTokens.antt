@@ -7,6 +7,7 @@ use native.Mathlib.Omega.{arith}
 use lib.Dec.{leb, eqb, ltb}
 use lib.ListN.{length}
 use borrow.Author.Tests.{le-leb}
+use Rattle.classes.proofs.Bools.{clash-bool, both-true}
 use Rattle.numbers.specs.Limits.{bias}
 use Rattle.classes.specs.Lists.{every, pick, notEmpty, All}
 use Rattle.classes.specs.Bytes.{isLetter, isDigit, isRunByte, isBlank, isMark, isNameByte, isTagByte}
@@ -19,11 +20,8 @@ use Rattle.table_rules.specs.RecordRules.{isOpen, closedTo, inExtension}
 use Rattle.table_rules.proofs.Numerals.{writeDigits, writeNat, Digit, writeInt, written-digits, in-range}
 use Rattle.table_rules.proofs.Spelling.{RunBytes, GoodToken}
 use Rattle.table_rules.proofs.FlatPrint.{putEndOf, putHeading, pushed, putClose, putCloses, putOpen, printFlat}
-use Rattle.table_rules.proofs.Witness.{writeUpper, writeCount, writeRange, keywordOf, and-both, bool-no}
-
-run-class : (b : ℕ) → isRunByte b ≡ true → classOf b ≡ inRun
-unfolding classOf
-run-class b e = rw (e, classOf)
+use Rattle.table_rules.proofs.Witness.{writeUpper, writeCount, writeRange, keywordOf}
+use Rattle.definition_rules.proofs.ScanLaws.{class-run}
 
 -- a tag's bytes are a run's
 tag-in-run : (l d m u p s : Bool) → (l || (d || (m || u))) || p ≡ true → l || (d || (m || (u || (p || s)))) ≡ true
@@ -32,11 +30,11 @@ tag-in-run false true m u p s e = refl
 tag-in-run false false true u p s e = refl
 tag-in-run false false false true p s e = refl
 tag-in-run false false false false true s e = refl
-tag-in-run false false false false false s e = bool-no e
+tag-in-run false false false false false s e = clash-bool e
 
 tag-class : (b : ℕ) → isTagByte b ≡ true → classOf b ≡ inRun
 unfolding isRunByte isTagByte isNameByte
-tag-class b e = run-class b (tag-in-run (isLetter b) (isDigit b) (eqb b 45) (eqb b 95) (eqb b 46) (eqb b 42) e)
+tag-class b e = class-run b (tag-in-run (isLetter b) (isDigit b) (eqb b 45) (eqb b 95) (eqb b 46) (eqb b 42) e)
 
 name-class : (b : ℕ) → isNameByte b ≡ true → classOf b ≡ inRun
 unfolding isTagByte
@@ -44,7 +42,7 @@ name-class b e = tag-class b (rw e)
 
 digit-class : (b : ℕ) → Digit b → classOf b ≡ inRun
 unfolding isRunByte isDigit
-digit-class b d = run-class b (rw (in-range 48 57 b (d .0) (d .1)) (rw or-true))
+digit-class b d = class-run b (rw (in-range 48 57 b (d .0) (d .1)) (rw or-true))
 
 abbrev RunByte : ℕ → Type 0
 RunByte b = classOf b ≡ inRun
@@ -52,28 +50,29 @@ RunByte b = classOf b ≡ inRun
 all-class : (f : ℕ → Bool) (h : (b : ℕ) → f b ≡ true → classOf b ≡ inRun) (w : List ℕ) → every f w ≡ true → All RunByte w
 unfolding every All
 all-class f h [] e = tt
-all-class f h (b ∷ w) e = let x = and-both (f b) (every f w) e in (h b (x .0), all-class f h w (x .1))
+all-class f h (b ∷ w) e = let x = both-true (f b) (every f w) e in (h b (x .0), all-class f h w (x .1))
 
 runs : (w : List ℕ) → notEmpty w ≡ true → All RunByte w → RunBytes w
 unfolding notEmpty RunBytes
-runs [] e a = bool-no e
+runs [] e a = clash-bool e
 runs (b ∷ w) e a = a
+
+pub letter-some : (w : List ℕ) → startsWithLetter w ≡ true → notEmpty w ≡ true
+unfolding startsWithLetter notEmpty
+letter-some [] e = e
+letter-some (b ∷ w) e = refl
 
 pub name-runs : (w : List ℕ) → nameForm w ≡ true → RunBytes w
 unfolding nameForm
 name-runs w e =
-    let x = and-both (startsWithLetter w && every isNameByte w) (leb (length w) 63) (and-both (startsWithLetter w && every isNameByte w && leb (length w) 63) (not (isKeyword w)) e .0) .0 in
-    let y = and-both (startsWithLetter w) (every isNameByte w) x in
-    runs w (st w (y .0)) (all-class isNameByte name-class w (y .1))
-  where
-    st : (w : List ℕ) → startsWithLetter w ≡ true → notEmpty w ≡ true
-    st [] e = unfold startsWithLetter notEmpty in e
-    st (b ∷ w) e = unfold notEmpty in refl
+    let x = both-true (startsWithLetter w && every isNameByte w) (leb (length w) 63) (both-true (startsWithLetter w && every isNameByte w && leb (length w) 63) (not (isKeyword w)) e .0) .0 in
+    let y = both-true (startsWithLetter w) (every isNameByte w) x in
+    runs w (letter-some w (y .0)) (all-class isNameByte name-class w (y .1))
 
 pub tag-runs : (w : List ℕ) → tagForm w ≡ true → RunBytes w
 unfolding tagForm
 tag-runs w e =
-    let y = and-both (notEmpty w) (every isTagByte w) (and-both (notEmpty w && every isTagByte w) (leb (length w) 63) e .0) in
+    let y = both-true (notEmpty w) (every isTagByte w) (both-true (notEmpty w && every isTagByte w) (leb (length w) 63) e .0) in
     runs w (y .0) (all-class isTagByte tag-class w (y .1))
 
 -- numbers

@@ -7,6 +7,7 @@ use native.Mathlib.Omega.{arith}
 use lib.Dec.{leb, eqb}
 use lib.ListN.{length}
 use borrow.Author.Tests.{ne-eqb, eqb-true, le-leb, leb-true}
+use Rattle.classes.proofs.Bools.{both-true}
 use Rattle.numbers.specs.Limits.{countLimit, none16}
 use Rattle.classes.specs.Lists.{every, pick, notEmpty, All}
 use Rattle.definition_rules.specs.Words.{kindTakesRange, isReference, isKeyword, startsWithLetter, nameForm, tagForm}
@@ -19,7 +20,7 @@ use Rattle.definition_rules.specs.Faults.{nameBroken, referenceBroken, tagBroke
 use Rattle.table_rules.specs.RecordRules.{kindsOfRecords, isSingleValue, showsName, labelFine}
 use Rattle.table_rules.proofs.FreshNames.{fresh, fresh-ok}
 use Rattle.table_rules.proofs.Spelling.{RunBytes}
-use Rattle.table_rules.proofs.Witness.{writeRange, runAt, keywordOf, runOf, typeFor, shows, tagFor, cardFor, rangeFor, and-both, DistinctTops, find-at, most-lt, count-is, range-is, declarationFor, RecordOk, type-kind, declarationsFor}
+use Rattle.table_rules.proofs.Witness.{writeRange, runAt, keywordOf, runOf, typeFor, shows, tagFor, cardFor, rangeFor, DistinctTops, find-at, most-lt, count-is, range-is, declarationFor, RecordOk, type-kind, declarationsFor}
 use Rattle.table_rules.proofs.GoodTokens.{name-runs, tag-runs, range-runs, count-runs, OptRuns, TagRuns, GoodDeclaration, keyword-runs}
 use Rattle.table_rules.proofs.TextSize.{runLength, SmallRun, SmallTag, SmallHeading, SmallDeclaration, range-length, count-length, keyword-length}
 
@@ -30,11 +31,11 @@ TagCase (explicit v) = tagForm v ≡ true
 
 pub name-len : (w : List ℕ) → nameForm w ≡ true → length w ≤ 63
 unfolding nameForm
-name-len w e = leb-true (length w) 63 (and-both (startsWithLetter w && every isNameByte w) (leb (length w) 63) (and-both (startsWithLetter w && every isNameByte w && leb (length w) 63) (not (isKeyword w)) e .0) .1)
+name-len w e = leb-true (length w) 63 (both-true (startsWithLetter w && every isNameByte w) (leb (length w) 63) (both-true (startsWithLetter w && every isNameByte w && leb (length w) 63) (not (isKeyword w)) e .0) .1)
 
 pub tag-len : (w : List ℕ) → tagForm w ≡ true → length w ≤ 63
 unfolding tagForm
-tag-len w e = leb-true (length w) 63 (and-both (notEmpty w && every isTagByte w) (leb (length w) 63) e .1)
+tag-len w e = leb-true (length w) 63 (both-true (notEmpty w && every isTagByte w) (leb (length w) 63) e .1)
 
 reference-no-range : (k a b : ℕ) → eqb k 10 ≡ true → rangeFor k a b ≡ absent
 unfolding rangeFor kindTakesRange pick

@@ -6,6 +6,7 @@ use Prim.Native.Nat.{ℕ, suc, _-_}
 use lib.Dec.{ltb}
 use lib.ListN.{length}
 use borrow.Author.Tests.{not-true, ltb-true}
+use Rattle.classes.proofs.Bools.{clash-bool, both-true}
 use Rattle.numbers.specs.Limits.{depthLimit}
 use Rattle.classes.specs.Lists.{pick, All}
 use Rattle.definition_rules.specs.Words.{kindOfRun, kindTakesRange, kindIsCompound, takesRange, isCompound, isReference}
@@ -15,13 +16,13 @@ use Rattle.definition_rules.specs.Declarations.{parentOf, inFields, groupOpened
 use Rattle.table_rules.specs.RecordRules.{closedTo, inExtension, pushIf, mayStand, standsIn, ordered, isSingleValue, topFine}
 use Rattle.table_rules.proofs.FreshNames.{fresh}
 use Rattle.table_rules.proofs.FlatPrint.{pushed, FitsOn, InOrder}
-use Rattle.table_rules.proofs.Witness.{writeRange, typeFor, shows, tagFor, cardFor, rangeFor, and-both, bool-no, DistinctTops, declarationFor, SoundRecord, RecordOk, type-kind, declarationsFor}
+use Rattle.table_rules.proofs.Witness.{writeRange, typeFor, shows, tagFor, cardFor, rangeFor, DistinctTops, declarationFor, SoundRecord, RecordOk, type-kind, declarationsFor}
 use Rattle.table_rules.proofs.Depth.{LowEnough}
 use Rattle.table_rules.proofs.FaultLaws.{up-true}
 use Rattle.table_rules.proofs.RuleFacts.{flag-of}
 
 and3 : (a b c : Bool) → a && (b && c) ≡ true → (a ≡ true) × (b ≡ true) × (c ≡ true)
-and3 a b c e = let x = and-both a (b && c) e in let y = and-both b c (x .1) in (x .0, y .0, y .1)
+and3 a b c e = let x = both-true a (b && c) e in let y = both-true b c (x .1) in (x .0, y .0, y .1)
 
 range-allowed : (k a b : ℕ) (w : List ℕ) → kindOfRun w ≡ k → RangeAllowed w (rangeFor k a b)
 unfolding rangeFor
@@ -51,16 +52,16 @@ module _ (T : List MaybeRun) (A : ℕ → Bool) (q : ℕ) (o : DistinctTops T) w
   unfolding FitsOn mayStand parentOf
   fits-made [] i r s f e m = (not-true (r .extension) m, fits-top i r s f (sym e))
   fits-made (frame p inFields ∷ σ) i r s f e m = unfold HeadAllowed in (range-allowed (r .kind) (r .least) (r .most) (typeFor T (r .kind) (r .target)) (type-kind T A r o (s .0)))
-  fits-made (frame p groupOpened ∷ σ) i r s f e m = bool-no m
+  fits-made (frame p groupOpened ∷ σ) i r s f e m = clash-bool m
   fits-made (frame p inGroup ∷ σ) i r s f e m = (m, unfold HeadAllowed in (range-allowed (r .kind) (r .least) (r .most) (typeFor T (r .kind) (r .target)) (type-kind T A r o (s .0))))
-  fits-made (frame p groupsClosed ∷ σ) i r s f e m = bool-no m
+  fits-made (frame p groupsClosed ∷ σ) i r s f e m = clash-bool m
 
   pub order-made : (rs : List Record) (σ : List Frame) (i : ℕ) → ordered σ i rs ≡ true → All (RecordOk T A) rs → All (λ r. topFine r ≡ true) rs → InOrder σ i (declarationsFor T A q i rs) × LowEnough σ i (declarationsFor T A q i rs)
   unfolding ordered declarationsFor declarationFor InOrder LowEnough All pushed typeRun
   order-made [] σ i e s f = (tt, tt)
   order-made (r ∷ rs) σ i e s f =
       let ρ = closedTo (r .parent) σ in
-      let x = and-both (standsIn ρ r) _ e in
+      let x = both-true (standsIn ρ r) _ e in
       let y = and3 (sameUp (parentOf ρ) (r .parent)) (mayStand ρ (r .extension)) (not (kindIsCompound (r .kind)) || ltb (length ρ) depthLimit) (unfold standsIn in (x .0)) in
       let p = up-true (parentOf ρ) (r .parent) (y .0) in
       let c = compound-made r (s .0 .0) in
@@ -69,4 +70,4 @@ module _ (T : List MaybeRun) (A : ℕ → Bool) (q : ℕ) (o : DistinctTops T) w
     where
       room : (a b : Bool) → not a || b ≡ true → a ≡ true → b ≡ true
       room true b e k = e
-      room false b e k = bool-no k
+      room false b e k = clash-bool k

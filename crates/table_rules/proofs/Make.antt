@@ -6,9 +6,10 @@ use Prim.Native.Nat.{ℕ, zero, suc, _+_, _≤_, _<_}
 use native.Mathlib.Omega.{arith}
 use lib.Dec.{eqb, leb}
 use lib.ListN.{length}
-use borrow.Author.Tests.{eqb-true, eqb-false, eq-eqb, le-leb, leb-true, leb-false}
+use borrow.Author.Tests.{eqb-true, eqb-false, le-leb, leb-true, leb-false}
+use Rattle.classes.proofs.Rows.{bytes-self}
 use Rattle.numbers.specs.Limits.{noLimit}
-use Rattle.classes.specs.Lists.{sameBytes, pick}
+use Rattle.classes.specs.Lists.{pick}
 use Rattle.reading_rules.specs.Token.{Token, word, string, equals, comma, opening, closing, isToken}
 use Rattle.reading_rules.specs.Record.{Up, top, under, Record, recordAt, isTop}
 use Rattle.reading_rules.specs.Value.{valueNumber}
@@ -22,10 +23,13 @@ use Rattle.definition_rules.specs.Faults.{voidTop, pluginUndotted}
 use Rattle.table_rules.specs.Endless.{areTokens}
 use Rattle.table_rules.specs.RecordRules.{showsName, labelFine}
 use Rattle.table_rules.proofs.RuleFacts.{Fine, flag-of}
-use Rattle.table_rules.proofs.Facts.{Formed, and-off, or-none, fine-at, seven-at, apart, untagged-is, tagged-is, bare-at, kind-union}
-use Rattle.table_rules.proofs.Steps.{where-in, in-where, where-once, put, cut, requiredOf, required, needs, Step, ClosedSet, field-at}
-use Rattle.table_rules.proofs.Needed.{required-le, required-is, is-required, first-in, kind-is, target-at}
+use Rattle.table_rules.proofs.Facts.{Formed, and-off, fine-at, seven-at, apart, untagged-is, tagged-is, bare-at, kind-union}
+use Rattle.table_rules.proofs.Steps.{where-in, in-where, where-once, put, cut, required, needs, Step, ClosedSet, field-at, untagged-in}
+use Rattle.table_rules.proofs.Needed.{required-le, first-in, kind-is, target-at}
 use Rattle.table_rules.proofs.Words.{tag-token, int-value, simple-value}
+use Rattle.reading_rules.specs.Parse.{requiredOf}
+use Rattle.reading_rules.proofs.Inverse.{required-is}
+use Rattle.reading_rules.proofs.Sound.{required-in}
 
 -- the leaves are tokens, before tokens
 abbrev pub Real : {s : TreeSort} → Tree s → Type 0
@@ -95,18 +99,9 @@ law-core S p t e (chosenVoid q n) l = rw e l
 law-core S p t e (chosen q n v) l = rw e l
 law-core S p t e (chosenInt q n) l = rw e l
 
-same-self : (a : List ℕ) → sameBytes a a ≡ true
-unfolding sameBytes
-same-self [] = refl
-same-self (x ∷ a) = rw (eq-eqb x x refl) (same-self a)
-
 void-one : (k : ℕ) → isVoid (kindOf k) ≡ true → k ≡ 1
 unfolding isVoid
 void-one k = kind-is k (λ x. isVoid x ≡ true → k ≡ 1) (λ e z. e) (λ e z. clash-bool z) (λ e z. clash-bool z) (λ e z. clash-bool z) (λ a b c d z. clash-bool z)
-
-one-void : (k : ℕ) → (k ≡ 1 → ⊥) → isVoid (kindOf k) ≡ false
-unfolding isVoid
-one-void k n = kind-is k (λ x. isVoid x ≡ false) (λ e. absurd (n e)) (λ e. refl) (λ e. refl) (λ e. refl) (λ a b c d. refl)
 
 is-top : (u : Up) → isTop u ≡ true → u ≡ top
 unfolding isTop
@@ -141,15 +136,8 @@ module _ (rs : List Record) (F : Formed rs) where
       let z : q ≡ g .0 = omega (arith, g .1) in
       (omega (arith, g .2), ap (λ j. isTaggedOf p (recordAt rs j)) z ∙ g .3)
 
-  in-untagged : (p q : ℕ) → In q (S .untagged p) → (q < length rs) × (isUntaggedOf p (recordAt rs q) ≡ true)
-  unfolding schemaOf
-  in-untagged p q i =
-      let g = where-in (isUntaggedOf p) 0 rs q i in
-      let z : q ≡ g .0 = omega (arith, g .1) in
-      (omega (arith, g .2), ap (λ j. isUntaggedOf p (recordAt rs j)) z ∙ g .3)
-
   find-at : (p q : ℕ) → q < length rs → isTaggedOf p (recordAt rs q) ≡ true → S .find p (recordAt rs q .label) ≡ found q
-  find-at p q h e = tag-found rs (apart rs F) p q (recordAt rs q .label) h (rw e (same-self (recordAt rs q .label)))
+  find-at p q h e = tag-found rs (apart rs F) p q (recordAt rs q .label) h (rw e (bytes-self (recordAt rs q .label)))
 
   label-at : (p q : ℕ) → q < length rs → isTaggedOf p (recordAt rs q) ≡ true → isToken (word (recordAt rs q .label)) ≡ true
   label-at p q h e =
@@ -184,7 +172,7 @@ module _ (rs : List Record) (F : Formed rs) where
     must : (q : ℕ) → In q (S .untagged p) → (S .optional q ≡ false) × (isVoid (S .kind q) ≡ true → ⊥)
     unfolding schemaOf pluginUndotted
     must q i =
-        let g = in-untagged p q i in
+        let g = untagged-in rs p q i in
         let x = untagged-is p (recordAt rs q) (g .1) in
         let f = field-at rs F p q kind8 (g .0) (g .1) in
         let n = plugless (recordAt rs q .plugin) (recordAt rs q .untagged) (not (hasDot (recordAt rs q .label))) (x .1) (seven-at rs F q (g .0) .3) in
@@ -201,7 +189,7 @@ module _ (rs : List Record) (F : Formed rs) where
         let t : (q : ℕ) → In q (required S p) → In q (S .tagged p) = λ q z. required-is S q (S .tagged p) z .0 in
         let g = mk-items (required S p) t (λ q z. required-is S q (S .tagged p) z .2) h in
         let o : Once (S .tagged p) = unfold schemaOf in (where-once (isTaggedOf p) 0 rs) in
-        (itemized (g .0), (refl, g .1, (λ k. rw (g .2) (omega (arith, required-le S k (S .tagged p), o k))), (λ k z x y. rw (g .2) (is-required S k (S .tagged p) z x y))), g .3)
+        (itemized (g .0), (refl, g .1, (λ k. rw (g .2) (omega (arith, required-le S k (S .tagged p), o k))), (λ k z x y. rw (g .2) (required-in S k (S .tagged p) z x y))), g .3)
     mk-body (q ∷ us) u h = go (eqb (S .lo q) 0) refl (rw (must q (u q (in-head q us)) .0) at h) (λ z. mk-body us (λ k y. u k (in-tail k q us y)) z)
       where
         go : (t : Bool) → eqb (S .lo q) 0 ≡ t → ((k : ℕ) → In k (cut t (q ∷ needs S (required S p) us)) → Have rs k) → (((k : ℕ) → In k (needs S (required S p) us) → Have rs k) → (c : Tree body) × Law S (p, us) c × Real c) → (c : Tree body) × Law S (p, q ∷ us) c × Real c
@@ -212,7 +200,7 @@ module _ (rs : List Record) (F : Formed rs) where
             more-of (none d) x = absurd (must q (u q (in-head q us)) .1 d)
             more-of (some v m d a) x =
                 let n = eqb-false (S .lo q) 0 e in
-                let g = fill S q (omega arith) (bounds q (in-untagged p q (u q (in-head q us)) .0)) v d a in
+                let g = fill S q (omega arith) (bounds q (untagged-in rs p q (u q (in-head q us)) .0)) v d a in
                 (listed q (g .0) (x .0), (us, refl, g .1, g .2, x .1), λ r z. g .3 (leavesThen (x .0) r) (x .2 r z))
 
   own : (p : ℕ) → (recordAt rs p .kind ≡ 10 → ⊥) → S .core p ≡ p
@@ -267,7 +255,7 @@ module _ (rs : List Record) (F : Formed rs) where
           let m : In q (numbersWhere (isUntaggedOf p) 0 rs) = subst (λ j. In j (numbersWhere (isUntaggedOf p) 0 rs)) (sym o) (in-where (isUntaggedOf p) 0 rs q i b) in
           let f = first-some (numbersWhere (isUntaggedOf p) 0 rs) q m in
           let d = bare-of rs p (f .0) (f .1) in
-          let x = in-untagged p (f .0) (d .1) in
+          let x = untagged-in rs p (f .0) (d .1) in
           let y = fine-at rs F (f .0) (x .0) in
           let g = int-value (recordAt rs (f .0)) (bare-at rs F p (f .0) k (x .0) (x .1)) (y .range-mid) (y .range-hi) in
           some (chosenInt (f .0) (g .0)) (rw e) (rw c (e, d .0, judge-of rs (f .0) (word (g .0)) (g .1))) (λ r z. cons (word (g .0)) r (g .2) z)

@@ -6,49 +6,27 @@ use Prim.Native.Nat.{ℕ, zero, suc, _+_, _≤_, _<_}
 use native.Mathlib.Omega.{arith}
 use lib.Dec.{eqb}
 use lib.ListN.{length}
-use borrow.Author.Tests.{eqb-true, eqb-false, eq-eqb, ne-eqb}
+use borrow.Author.Tests.{eqb-true, eqb-false, eq-eqb}
 use Rattle.reading_rules.specs.Record.{Up, top, under, Record, recordAt, isTop}
 use Rattle.reading_rules.specs.Schema.{Kind, void, simple, struct, union, reference, Found, nowhere, found, first, Schema, kindOf, schemaOf, isTaggedOf, isTaggedAs, isUnder, firstWhere}
 use Rattle.reading_rules.specs.Count.{times, same, In, Once}
-use Rattle.reading_rules.proofs.CountLaws.{clash-bool, and-both, in-nil, in-head, in-tail, in-cons}
+use Rattle.reading_rules.proofs.CountLaws.{clash-bool, and-both, in-nil, in-head, in-cons}
 use Rattle.reading_rules.proofs.Rules.{where-is}
 use Rattle.classes.specs.Lists.{pick}
 use Rattle.table_rules.specs.RecordRules.{isTopAt, targetFine}
 use Rattle.table_rules.proofs.RuleFacts.{Fine, top-lt}
-use Rattle.table_rules.proofs.Facts.{Formed, or-none, fine-at}
-use Rattle.table_rules.proofs.Steps.{put, cut, requiredOf, needs}
+use Rattle.table_rules.proofs.Facts.{Formed, fine-at}
+use Rattle.table_rules.proofs.Steps.{put, cut, needs}
+use Rattle.reading_rules.specs.Parse.{requiredOf}
 
 pub required-le : (S : Schema) (k : ℕ) (l : List ℕ) → times k (requiredOf S l) ≤ times k l
-unfolding requiredOf times put
+unfolding requiredOf times
 required-le S k [] = omega arith
 required-le S k (q ∷ l) = go (S .optional q || eqb (S .lo q) 0) (required-le S k l)
   where
-    go : (b : Bool) → times k (requiredOf S l) ≤ times k l → times k (put b q (requiredOf S l)) ≤ same q k + times k l
+    go : (b : Bool) → times k (requiredOf S l) ≤ times k l → times k (elim b [ true ↦ requiredOf S l | false ↦ q ∷ requiredOf S l ]) ≤ same q k + times k l
     go true h = omega arith
     go false h = omega arith
-
-in-put : {X : Type 0} (b : Bool) (k q : ℕ) (l : List ℕ) → In k (put b q l) → (b ≡ false → q ≡ k → X) → (In k l → X) → X
-unfolding put
-in-put true k q l h x y = y h
-in-put false k q l h x y = in-cons k q l h (x refl) y
-
-pub required-is : (S : Schema) (k : ℕ) (l : List ℕ) → In k (requiredOf S l) → In k l × (S .optional k ≡ false) × (1 ≤ S .lo k)
-unfolding requiredOf
-required-is S k [] h = in-nil k h
-required-is S k (q ∷ l) h = in-put (S .optional q || eqb (S .lo q) 0) k q (requiredOf S l) h
-    (λ a e. or-none (S .optional q) (eqb (S .lo q) 0) a (λ x y. let z = eqb-false (S .lo q) 0 y in rw (← e) (in-head q l, x, omega arith)))
-    (λ z. let r = required-is S k l z in (in-tail k q l (r .0), r .1, r .2))
-
-pub is-required : (S : Schema) (k : ℕ) (l : List ℕ) → In k l → S .optional k ≡ false → 1 ≤ S .lo k → In k (requiredOf S l)
-unfolding requiredOf put
-is-required S k [] h x y = in-nil k h
-is-required S k (q ∷ l) h x y = in-cons k q l h
-    (λ e. rw e (let z : S .optional k || eqb (S .lo k) 0 ≡ false = rw (x, ne-eqb (S .lo k) 0 (λ d. omega arith)) in rw z (in-head k (requiredOf S l))))
-    (λ i. go (S .optional q || eqb (S .lo q) 0) (is-required S k l i x y))
-  where
-    go : (b : Bool) → In k (requiredOf S l) → In k (put b q (requiredOf S l))
-    go true r = r
-    go false r = in-tail k q (requiredOf S l) r
 
 pub in-cut : {X : Type 0} (t o : Bool) (k q : ℕ) (l : List ℕ) → In k (cut t (put o q l)) → (q ≡ k → X) → (In k l → X) → X
 unfolding cut put

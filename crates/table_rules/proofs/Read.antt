@@ -1,9 +1,8 @@
 -- A lawful value shows that its parameter lies in every set closed under number 10's steps.
-use mathlib.Core.Path.{_≡_, refl, ap, subst, sym, _∙_}
+use mathlib.Core.Path.{_≡_, refl, ap, subst, sym}
 use mathlib.Core.Bool.{Bool, true, false, not, _&&_, _||_}
 use mathlib.Core.List.{List, [], _∷_, _++_}
 use Prim.Native.Nat.{ℕ, zero, suc, _+_, _≤_, _<_}
-use native.Mathlib.Omega.{arith}
 use lib.Dec.{eqb}
 use lib.ListN.{length}
 use Rattle.reading_rules.specs.Record.{Up, top, under, Record, recordAt}
@@ -12,8 +11,10 @@ use Rattle.reading_rules.specs.Count.{times, In, Once}
 use Rattle.reading_rules.proofs.CountLaws.{clash-bool, and-both, in-nil, in-head, in-tail, in-cons}
 use Rattle.reading_rules.specs.Reading.{TreeSort, unknownValue, unknownList, value, list, body, items, Tree, unknownWord, unknownString, unknownBraces, unknownPair, unknownLast, unknownMore, leaf, braced, chosenVoid, chosen, chosenInt, last, more, listed, stopped, itemized, noItem, voidItem, listItem, unknownItem, unknownListItem, fieldsOf, For, Law}
 use Rattle.table_rules.proofs.Facts.{Formed, bare-at, kind-union}
-use Rattle.table_rules.proofs.Steps.{where-in, put, cut, requiredOf, required, needs, Step, ClosedSet}
-use Rattle.table_rules.proofs.Needed.{required-is, in-cut, first-in, find-is, kind-is, target-at}
+use Rattle.table_rules.proofs.Steps.{put, cut, required, needs, Step, ClosedSet, untagged-in}
+use Rattle.table_rules.proofs.Needed.{in-cut, first-in, find-is, kind-is, target-at}
+use Rattle.reading_rules.specs.Parse.{requiredOf}
+use Rattle.reading_rules.proofs.Inverse.{required-is}
 
 pub void-is : (k : Kind) → isVoid k ≡ true → k ≡ void
 unfolding isVoid
@@ -51,20 +52,13 @@ module _ (rs : List Record) (F : Formed rs) (P : ℕ → Type 0) (c : ClosedSet 
   unfolding schemaOf coreOf Step
   up p h = kind-is (recordAt rs p .kind) (λ k. P (coreOf p (recordAt rs p .target) k) → P p) (λ e x. x) (λ e x. x) (λ e x. x) (λ e x. c p h (subst (λ k. Step rs P p (kindOf k)) (sym e) (unfold kindOf in x))) (λ a b d e x. x)
 
-  untagged-below : (p q : ℕ) → In q (S .untagged p) → (q < length rs) × (isUntaggedOf p (recordAt rs q) ≡ true)
-  unfolding schemaOf
-  untagged-below p q i =
-      let g = where-in (isUntaggedOf p) 0 rs q i in
-      let z : q ≡ g .0 = omega (arith, g .1) in
-      (omega (arith, g .2), ap (λ j. isUntaggedOf p (recordAt rs j)) z ∙ g .3)
-
   under-of : (p q : ℕ) → isTaggedOf p (recordAt rs q) ≡ true → isUnder p (recordAt rs q .parent) ≡ true
   under-of p q e = and-both (isUnder p (recordAt rs q .parent)) _ e (λ a b. a)
 
   bare-union : (p q : ℕ) → p < length rs → S .kind p ≡ union → S .bare p ≡ found q → P p
   unfolding schemaOf kindOf
   bare-union p q h k e =
-      let b = untagged-below p q (first-in (numbersWhere (isUntaggedOf p) 0 rs) q e) in
+      let b = untagged-in rs p q (first-in (numbersWhere (isUntaggedOf p) 0 rs) q e) in
       let n : recordAt rs q .kind ≡ 3 = bare-at rs F p q (kind-union (recordAt rs p .kind) k) (b .0) (b .1) in
       by-union p q h k (b .0) (and-both (isUnder p (recordAt rs q .parent)) _ (b .1) (λ x y. x)) (by-simple q (b .0) (ap kindOf n))
 
@@ -86,7 +80,7 @@ module _ (rs : List Record) (F : Formed rs) (P : ℕ → Type 0) (c : ClosedSet 
   read x (unknownLast v) l = tt
   read x (unknownMore v u) l = tt
   read x (leaf t) l = λ b. up x b (by-simple (S .core x) (core-below x b) (l .0))
-  read x (braced k) l = λ b. up x b (by-struct (S .core x) (core-below x b) (l .0) (read (S .core x, S .untagged (S .core x)) k (l .1) (core-below x b) (λ q i. untagged-below (S .core x) q i .0)))
+  read x (braced k) l = λ b. up x b (by-struct (S .core x) (core-below x b) (l .0) (read (S .core x, S .untagged (S .core x)) k (l .1) (core-below x b) (λ q i. untagged-in rs (S .core x) q i .0)))
   read x (chosenVoid q w) l = λ b. let i = find-is rs (S .core x) q w (l .1) in up x b (by-union (S .core x) q (core-below x b) (l .0) (i .0) (under-of (S .core x) q (i .1)) (by-void q (i .0) (l .2)))
   read x (chosen q w v) l = λ b. let i = find-is rs (S .core x) q w (l .1) in up x b (by-union (S .core x) q (core-below x b) (l .0) (i .0) (under-of (S .core x) q (i .1)) (read q v (l .3) (i .0)))
   read x (chosenInt q w) l = λ b. up x b (bare-union (S .core x) q (core-below x b) (l .0) (l .1))

@@ -7,6 +7,8 @@ use native.Mathlib.Omega.{arith}
 use lib.Dec.{leb, eqb}
 use lib.ListN.{length}
 use borrow.Author.Tests.{eqb-true, not-true, le-leb, leb-true}
+use Rattle.classes.proofs.Rows.{same-true}
+use Rattle.classes.proofs.Bools.{clash-bool, both-true}
 use Rattle.numbers.specs.Limits.{countLimit, noLimit, none16}
 use Rattle.classes.specs.Lists.{sameBytes, pick, All}
 use Rattle.definition_rules.specs.Words.{nameForm}
@@ -15,8 +17,7 @@ use Rattle.reading_rules.specs.Record.{Up, top, under, Record, isTop}
 use Rattle.definition_rules.specs.Records.{kindLeast, kindMost, isNamed}
 use Rattle.definition_rules.specs.Faults.{Key, key}
 use Rattle.table_rules.specs.RecordRules.{isSingleValue, countsFine, rangeFine, isTopAt, targetFine, showsName, labelFine, topFine, recordFine, everyRecord, keyIf, shownNames}
-use Rattle.definition_rules.proofs.FormSound.{same-true}
-use Rattle.table_rules.proofs.Witness.{runAt, and-both, bool-no, NotAmong, DistinctTops, RecordOk, topIf, recordTops}
+use Rattle.table_rules.proofs.Witness.{runAt, NotAmong, DistinctTops, RecordOk, topIf, recordTops}
 use Rattle.table_rules.proofs.ShownNames.{Off, Uniq}
 
 -- ---- what the test of one record says
@@ -38,23 +39,23 @@ pub record Fine (rs : List Record) (A : ℕ → Bool) (r : Record) : Type 0 wher
 
 not-or : (a b : Bool) → not a || b ≡ true → a ≡ true → b ≡ true
 not-or true b e q = e
-not-or false b e q = bool-no q
+not-or false b e q = clash-bool q
 
 pub fine-of : (rs : List Record) (A : ℕ → Bool) (r : Record) → recordFine rs A r ≡ true → Fine rs A r
 unfolding recordFine countsFine rangeFine
 fine-of rs A r e =
-    let x1 = and-both (leb 1 (r .kind)) _ e in
-    let x2 = and-both (leb (r .kind) 10) _ (x1 .1) in
-    let x3 = and-both (leb (r .loCount) countLimit && (leb 1 (r .hiCount) && (leb (r .loCount) (r .hiCount) && (leb (r .hiCount) noLimit && (not (isSingleValue A (r .parent)) || (eqb (r .loCount) 1 && eqb (r .hiCount) 1)))))) _ (x2 .1) in
-    let c1 = and-both (leb (r .loCount) countLimit) _ (x3 .0) in
-    let c2 = and-both (leb 1 (r .hiCount)) _ (c1 .1) in
-    let c3 = and-both (leb (r .loCount) (r .hiCount)) _ (c2 .1) in
-    let c4 = and-both (leb (r .hiCount) noLimit) _ (c3 .1) in
-    let x4 = and-both (leb (kindLeast (r .kind)) (r .least) && (leb (r .least) (r .most) && leb (r .most) (kindMost (r .kind)))) _ (x3 .1) in
-    let g1 = and-both (leb (kindLeast (r .kind)) (r .least)) _ (x4 .0) in
-    let g2 = and-both (leb (r .least) (r .most)) _ (g1 .1) in
-    let x5 = and-both (targetFine rs r) _ (x4 .1) in
-    let x6 = and-both (labelFine r) _ (x5 .1) in
+    let x1 = both-true (leb 1 (r .kind)) _ e in
+    let x2 = both-true (leb (r .kind) 10) _ (x1 .1) in
+    let x3 = both-true (leb (r .loCount) countLimit && (leb 1 (r .hiCount) && (leb (r .loCount) (r .hiCount) && (leb (r .hiCount) noLimit && (not (isSingleValue A (r .parent)) || (eqb (r .loCount) 1 && eqb (r .hiCount) 1)))))) _ (x2 .1) in
+    let c1 = both-true (leb (r .loCount) countLimit) _ (x3 .0) in
+    let c2 = both-true (leb 1 (r .hiCount)) _ (c1 .1) in
+    let c3 = both-true (leb (r .loCount) (r .hiCount)) _ (c2 .1) in
+    let c4 = both-true (leb (r .hiCount) noLimit) _ (c3 .1) in
+    let x4 = both-true (leb (kindLeast (r .kind)) (r .least) && (leb (r .least) (r .most) && leb (r .most) (kindMost (r .kind)))) _ (x3 .1) in
+    let g1 = both-true (leb (kindLeast (r .kind)) (r .least)) _ (x4 .0) in
+    let g2 = both-true (leb (r .least) (r .most)) _ (g1 .1) in
+    let x5 = both-true (targetFine rs r) _ (x4 .1) in
+    let x6 = both-true (labelFine r) _ (x5 .1) in
     record {
       kind-lo = leb-true 1 (r .kind) (x1 .0);
       kind-hi = leb-true (r .kind) 10 (x2 .0);
@@ -62,7 +63,7 @@ fine-of rs A r e =
       count-pos = leb-true 1 (r .hiCount) (c2 .0);
       count-mid = leb-true (r .loCount) (r .hiCount) (c3 .0);
       count-hi = leb-true (r .hiCount) noLimit (c4 .0);
-      alone = λ s. (let y = and-both (eqb (r .loCount) 1) (eqb (r .hiCount) 1) (not-or (isSingleValue A (r .parent)) _ (c4 .1) s) in (eqb-true (r .loCount) 1 (y .0), eqb-true (r .hiCount) 1 (y .1)));
+      alone = λ s. (let y = both-true (eqb (r .loCount) 1) (eqb (r .hiCount) 1) (not-or (isSingleValue A (r .parent)) _ (c4 .1) s) in (eqb-true (r .loCount) 1 (y .0), eqb-true (r .hiCount) 1 (y .1)));
       range-lo = leb-true (kindLeast (r .kind)) (r .least) (g1 .0);
       range-mid = leb-true (r .least) (r .most) (g2 .0);
       range-hi = leb-true (r .most) (kindMost (r .kind)) (g2 .1);
@@ -83,7 +84,7 @@ of-fine rs A r f =
 pub every-all : (f : Record → Bool) (rs : List Record) → everyRecord f rs ≡ true → All (λ r. f r ≡ true) rs
 unfolding everyRecord All
 every-all f [] e = tt
-every-all f (r ∷ rs) e = let x = and-both (f r) (everyRecord f rs) e in (x .0, every-all f rs (x .1))
+every-all f (r ∷ rs) e = let x = both-true (f r) (everyRecord f rs) e in (x .0, every-all f rs (x .1))
 
 pub all-every : (f : Record → Bool) (rs : List Record) → All (λ r. f r ≡ true) rs → everyRecord f rs ≡ true
 unfolding everyRecord All
@@ -103,17 +104,17 @@ top-shows r e f = unfold pick in (rw e at f)
 
 pub top-at : (rs : List Record) (t : ℕ) → All (λ r. labelFine r ≡ true) rs → isTopAt rs t ≡ true → (w : List ℕ) × (runAt (recordTops rs) t ≡ given w) × (nameForm w ≡ true)
 unfolding isTopAt runAt recordTops All
-top-at [] t h e = bool-no e
+top-at [] t h e = clash-bool e
 top-at (r ∷ rs) zero h e = (r .label, by (r .parent) e, top-shows r e (h .0))
   where
     by : (u : Up) → isTop u ≡ true → topIf u (r .label) ≡ given (r .label)
     by top e = unfold topIf in refl
-    by (under p) e = unfold isTop in (bool-no e)
+    by (under p) e = unfold isTop in (clash-bool e)
 top-at (r ∷ rs) (suc t) h e = top-at rs t (h .1) e
 
 pub top-lt : (rs : List Record) (t : ℕ) → isTopAt rs t ≡ true → t < length rs
 unfolding isTopAt
-top-lt [] t e = bool-no e
+top-lt [] t e = clash-bool e
 top-lt (r ∷ rs) zero e = omega arith
 top-lt (r ∷ rs) (suc t) e = omega (arith, top-lt rs t e)
 
@@ -147,8 +148,8 @@ pub flag-of : (r : Record) → topFine r ≡ true → r .parent ≡ top → (r .
 unfolding topFine
 flag-of r e q =
     let x = not-or (isTop (r .parent)) _ e (unfold isTop in (rw q)) in
-    let y = and-both (not (r .untagged)) _ x in
-    let z = and-both (not (r .plugin)) _ (y .1) in
+    let y = both-true (not (r .untagged)) _ x in
+    let z = both-true (not (r .plugin)) _ (y .1) in
     (not-true (r .untagged) (y .0), not-true (r .plugin) (z .0), not-true (eqb (r .kind) 10) (z .1))
 
 pub ok-of : (rs : List Record) (A : ℕ → Bool) (r : Record) → All (λ r. labelFine r ≡ true) rs → Fine rs A r → RecordOk (recordTops rs) A r

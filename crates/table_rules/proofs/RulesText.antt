@@ -7,6 +7,7 @@ use native.Mathlib.Omega.{arith}
 use lib.Dec.{leb, eqb}
 use lib.ListN.{length, drop-of-length-le}
 use borrow.Author.Tests.{leb-true, le-ltb}
+use Rattle.classes.proofs.Bools.{both-true}
 use Rattle.classes.specs.Bytes.{IsBytes}
 use Rattle.table_rules.proofs.TextBytes.{all-bytes, printed-bytes}
 use Rattle.numbers.specs.Limits.{textLimit}
@@ -25,7 +26,7 @@ use Rattle.definition_rules.proofs.FirstFault.{clean-table}
 use Rattle.definition_rules.proofs.FormComplete.{told, told-complete}
 use Rattle.table_rules.proofs.Spelling.{printTokens, GoodToken, spelled, scan-printed, spelled-tokens, spelled-bad, nest, nest-deep}
 use Rattle.table_rules.proofs.FlatPrint.{printFlat, Settled, InOrder, read-flat}
-use Rattle.table_rules.proofs.Witness.{cardFor, and-both, DistinctTops, declarationFor, RecordOk, recordTops, declarationsFor, tops-made, records-made}
+use Rattle.table_rules.proofs.Witness.{cardFor, DistinctTops, declarationFor, RecordOk, recordTops, declarationsFor, tops-made, records-made}
 use Rattle.table_rules.proofs.ShownNames.{Uniq, declaredNames, uniq-made, prefix}
 use Rattle.table_rules.proofs.GoodTokens.{GoodDeclaration, good-print}
 use Rattle.table_rules.proofs.TextSize.{SmallDeclaration, fits-limit}
@@ -35,7 +36,7 @@ use Rattle.table_rules.proofs.RuleFacts.{fine-of, every-all, all-map, t
 use Rattle.table_rules.proofs.Made.{kinds-made, length-made, name-passes, tag-passes, reference-passes, range-passes, count-passes, dangling-passes, good-made, small-made, all-made}
 use Rattle.table_rules.proofs.MadeOrder.{order-made}
 
-spots-length : (ns : List Noted) → length (nameSpots ns) ≡ length (declarationsOf ns)
+pub spots-length : (ns : List Noted) → length (nameSpots ns) ≡ length (declarationsOf ns)
 unfolding nameSpots declarationsOf
 spots-length [] = refl
 spots-length (noted s d ∷ ns) = ap suc (spots-length ns)
@@ -56,7 +57,7 @@ pub record Passed (ds : List Declaration) (rs : List Record) : Type 0 where
 
 and5 : (a b c d e : Bool) → a && (b && (c && (d && e))) ≡ true → (a ≡ true) × (b ≡ true) × (c ≡ true) × (d ≡ true) × (e ≡ true)
 and5 a b c d e h =
-    let x = and-both a _ h in let y = and-both b _ (x .1) in let z = and-both c _ (y .1) in let w = and-both d e (z .1) in
+    let x = both-true a _ h in let y = both-true b _ (x .1) in let z = both-true c _ (y .1) in let w = both-true d e (z .1) in
     (x .0, y .0, z .0, w .0, w .1)
 
 pub all-empty : (text : List ℕ) (items : List Item) (ns : List Noted) (rs : List Record) → length text ≤ textLimit → faults2 items ≡ [] → Passed (declarationsOf ns) rs → AllEmpty (checksOf text items (complete ns) ns rs)
@@ -108,11 +109,11 @@ pub record Ruled (rs : List Record) : Type 0 where
 pub ruled-of : (limit : ℕ) (rs : List Record) → limit ≤ 256 → recordRules limit rs ≡ true → Ruled rs
 unfolding recordRules
 ruled-of limit rs h e =
-    let x = and-both (leb 1 (length rs)) _ e in
-    let y = and-both (leb (length rs) limit) _ (x .1) in
-    let z = and-both (ordered [] 0 rs) _ (y .1) in
-    let w = and-both (everyRecord (recordFine rs (isUnionAt (kindsOfRecords rs))) rs) _ (z .1) in
-    let v = and-both (allNew (shownNames rs)) (recordChecks rs) (w .1) in
+    let x = both-true (leb 1 (length rs)) _ e in
+    let y = both-true (leb (length rs) limit) _ (x .1) in
+    let z = both-true (ordered [] 0 rs) _ (y .1) in
+    let w = both-true (everyRecord (recordFine rs (isUnionAt (kindsOfRecords rs))) rs) _ (z .1) in
+    let v = both-true (allNew (shownNames rs)) (recordChecks rs) (w .1) in
     record {
       nonempty = leb-true 1 (length rs) (x .0);
       few = omega (arith, leb-true (length rs) limit (y .0));

@@ -7,9 +7,11 @@ use native.Mathlib.Omega.{arith}
 use lib.Dec.{leb, eqb, ltb}
 use borrow.Author.Tests.{lt-leb, leb-false, ltb-true, lt-ltb}
 use Rattle.classes.specs.Lists.{All}
+use Rattle.classes.proofs.Bools.{both-true}
 use Rattle.numbers.specs.Limits.{depthLimit}
 use Rattle.definition_rules.specs.Words.{classOf, inRun, blank, single}
 use Rattle.definition_rules.specs.Scan.{joinRun, scan, textTokensOf, badPlaces, bracesAfter, isDeepBrace, placeIf, deepPlaces, TextToken, run, mark, Item, gap, item, bad, outside}
+use Rattle.definition_rules.proofs.ScanLaws.{place-none, at-run, at-single}
 
 -- ---- tokens with a blank after each
 
@@ -39,29 +41,21 @@ spelled p [] = []
 spelled p (run w ∷ ts) = item p (run w) ∷ gap ∷ spelled (placeAfter w p) ts
 spelled p (mark n ∷ ts) = item p (mark n) ∷ gap ∷ spelled (suc (suc p)) ts
 
-scan-inRun : (b p : ℕ) (s : List ℕ) → classOf b ≡ inRun → scan outside p (b ∷ s) ≡ joinRun b p (scan outside (suc p) s)
-unfolding scan
-scan-inRun b p s h = rw (h, scan)
-
-scan-single : (b p : ℕ) (s : List ℕ) → classOf b ≡ single → scan outside p (b ∷ s) ≡ item p (mark b) ∷ scan outside (suc p) s
-unfolding scan
-scan-single b p s h = rw (h, scan)
-
 scan-space : (p : ℕ) (s : List ℕ) → scan outside p (32 ∷ s) ≡ gap ∷ scan outside (suc p) s
 unfolding scan classOf
 scan-space p s = refl
 
 scan-run : (b : ℕ) (w : List ℕ) (p : ℕ) (r : List ℕ) → All (λ c. classOf c ≡ inRun) (b ∷ w) → scan outside p ((b ∷ w) ++ (32 ∷ r)) ≡ item p (run (b ∷ w)) ∷ gap ∷ scan outside (placeAfter (b ∷ w) p) r
 unfolding All placeAfter joinRun
-scan-run b [] p r h = scan-inRun b p _ (h .0) ∙ rw (scan-space (suc p) r)
-scan-run b (c ∷ w) p r h = scan-inRun b p _ (h .0) ∙ rw (scan-run c w (suc p) r (h .1))
+scan-run b [] p r h = at-run b p _ (h .0) ∙ rw (scan-space (suc p) r)
+scan-run b (c ∷ w) p r h = at-run b p _ (h .0) ∙ rw (scan-run c w (suc p) r (h .1))
 
 pub scan-printed : (ts : List TextToken) (p : ℕ) → All GoodToken ts → scan outside p (printTokens ts) ≡ spelled p ts
 unfolding spelled printTokens printToken All GoodToken RunBytes placeAfter
 scan-printed [] p h = unfold scan in refl
 scan-printed (run [] ∷ ts) p h = absurd (h .0)
 scan-printed (run (b ∷ w) ∷ ts) p h = scan-run b w p (printTokens ts) (h .0) ∙ ap (λ q. item p (run (b ∷ w)) ∷ gap ∷ q) (scan-printed ts (placeAfter w (suc p)) (h .1))
-scan-printed (mark n ∷ ts) p h = scan-single n p (32 ∷ printTokens ts) (h .0) ∙ (ap (λ q. item p (mark n) ∷ q) (scan-space (suc p) (printTokens ts)) ∙ ap (λ q. item p (mark n) ∷ gap ∷ q) (scan-printed ts (suc (suc p)) (h .1)))
+scan-printed (mark n ∷ ts) p h = at-single n p (32 ∷ printTokens ts) (h .0) ∙ (ap (λ q. item p (mark n) ∷ q) (scan-space (suc p) (printTokens ts)) ∙ ap (λ q. item p (mark n) ∷ gap ∷ q) (scan-printed ts (suc (suc p)) (h .1)))
 
 pub spelled-tokens : (ts : List TextToken) (p : ℕ) → textTokensOf (spelled p ts) ≡ ts
 unfolding spelled textTokensOf
@@ -85,10 +79,6 @@ nest d [] = true
 nest d (run w ∷ r) = nest d r
 nest d (mark n ∷ r) = roomy d n && nest (bracesAfter d n) r
 
-nest-and : (a b : Bool) → a && b ≡ true → (a ≡ true) × (b ≡ true)
-nest-and true b e = (refl, e)
-nest-and false b e = let x : _≡_ {A = ℕ} 0 1 = cc in absurd (omega arith)
-
 roomy-deep : (d n : ℕ) → roomy d n ≡ true → isDeepBrace d n ≡ false
 unfolding roomy isDeepBrace
 roomy-deep d n = by (eqb n 123)
@@ -109,12 +99,7 @@ pub nest-deep : (ts : List TextToken) (d p : ℕ) → nest d ts ≡ true → dee
 unfolding spelled deepPlaces nest placeIf
 nest-deep [] d p e = refl
 nest-deep (run w ∷ ts) d p e = nest-deep ts d (placeAfter w p) e
-nest-deep (mark n ∷ ts) d p e = let x = nest-and (roomy d n) (nest (bracesAfter d n) ts) e in rw (roomy-deep d n (x .0)) (nest-deep ts (bracesAfter d n) (suc (suc p)) (x .1))
-
-place-nil : (b : Bool) (p : ℕ) (r : List ℕ) → placeIf b p r ≡ [] → (b ≡ false) × (r ≡ [])
-unfolding placeIf
-place-nil true p r e = let z : _≡_ {A = ℕ} 0 1 = cc in absurd (omega arith)
-place-nil false p r e = (refl, e)
+nest-deep (mark n ∷ ts) d p e = let x = both-true (roomy d n) (nest (bracesAfter d n) ts) e in rw (roomy-deep d n (x .0)) (nest-deep ts (bracesAfter d n) (suc (suc p)) (x .1))
 
 pub deep-nest : (is : List Item) (d : ℕ) → deepPlaces d is ≡ [] → nest d (textTokensOf is) ≡ true
 unfolding deepPlaces nest textTokensOf
@@ -122,4 +107,4 @@ deep-nest [] d e = refl
 deep-nest (gap ∷ r) d e = deep-nest r d e
 deep-nest (bad p ∷ r) d e = deep-nest r d e
 deep-nest (item p (run w) ∷ r) d e = deep-nest r d e
-deep-nest (item p (mark n) ∷ r) d e = let x = place-nil (isDeepBrace d n) p (deepPlaces (bracesAfter d n) r) e in rw (deep-roomy d n (x .0)) (deep-nest r (bracesAfter d n) (x .1))
+deep-nest (item p (mark n) ∷ r) d e = let x = place-none (isDeepBrace d n) p (deepPlaces (bracesAfter d n) r) e in rw (deep-roomy d n (x .0)) (deep-nest r (bracesAfter d n) (x .1))

@@ -7,6 +7,7 @@ use native.Mathlib.Omega.{arith}
 use lib.Dec.{eqb, leb, ltb}
 use lib.ListN.{length, getD, replicate}
 use borrow.Author.Tests.{eqb-true, eqb-false, eq-eqb, ne-eqb, not-true, not-false}
+use Rattle.classes.proofs.Bools.{or-off}
 use Rattle.reading_rules.specs.Record.{Up, top, under, Record, recordAt, isTop, sameUp}
 use Rattle.reading_rules.specs.Schema.{Kind, void, simple, struct, union, reference, Schema, kindOf, isUnder, isUntaggedOf, isTaggedOf, numbersWhere, schemaOf}
 use Rattle.reading_rules.specs.Count.{times, same, In, Once}
@@ -15,7 +16,8 @@ use Rattle.classes.specs.Lists.{pick}
 use Rattle.definition_rules.specs.Faults.{anyBefore, parentKind, beside, misplacedField, misplacedAlternative, misplacedUntagged}
 use Rattle.definition_rules.specs.Finite.{canDoWithout, endsNeeds, structStep, unionStep, finiteStep, round, rounds, finites, Sub}
 use Rattle.definition_rules.proofs.FiniteLaws.{sub-at, finites-closed}
-use Rattle.table_rules.proofs.Facts.{Formed, or-none, and-off, before-none, untagged-is, tagged-is, seven-at, same-under}
+use Rattle.table_rules.proofs.Facts.{Formed, and-off, before-none, untagged-is, tagged-is, seven-at, same-under}
+use Rattle.reading_rules.specs.Parse.{requiredOf}
 
 abbrev pub at : List Bool → ℕ → Bool
 at have i = getD have i false
@@ -78,10 +80,6 @@ unfoldable pub cut : Bool → List ℕ → List ℕ
 cut true l = []
 cut false l = l
 
-unfoldable pub requiredOf : Schema → List ℕ → List ℕ
-requiredOf S [] = []
-requiredOf S (q ∷ qs) = put (S .optional q || eqb (S .lo q) 0) q (requiredOf S qs)
-
 abbrev pub required : Schema → ℕ → List ℕ
 required S p = requiredOf S (S .tagged p)
 
@@ -110,7 +108,7 @@ untagged-case f i M false true g x q = q
 untagged-case f i M false false true x q = q
 untagged-case f i M false false false x q = rw q
 
-tagged-case : (f : ℕ → Bool) (i : ℕ) (M : List ℕ) (l e g x : Bool) → x ≡ all f M → (l || e || g || f i) && x ≡ all f (put (e || g || l) i M)
+tagged-case : (f : ℕ → Bool) (i : ℕ) (M : List ℕ) (l e g x : Bool) → x ≡ all f M → (l || e || g || f i) && x ≡ all f (elim (e || g || l) [ true ↦ M | false ↦ i ∷ M ])
 unfolding put all
 tagged-case f i M true true g x q = q
 tagged-case f i M true false true x q = q
@@ -153,7 +151,7 @@ module _ (table : List Record) (have : List Bool) (p : ℕ) where
           let t : isTaggedOf p r ≡ true = rw (a, b) in
           let n : numbersWhere (isUntaggedOf p) (suc i) rs ≡ [] = where-nil (isUntaggedOf p) (suc i) rs (λ k h x. o 0 (suc k) (omega arith) (omega arith) t x) in
           let j : structStep have p (suc i) rs ≡ all (at have) (requiredOf S (numbersWhere (isTaggedOf p) (suc i) rs)) = ih ∙ ap (λ l. all (at have) (needs S (requiredOf S (numbersWhere (isTaggedOf p) (suc i) rs)) l)) n in
-          rw (n, lo-here, opt-here, e) (tagged-case (at have) i (requiredOf S (numbersWhere (isTaggedOf p) (suc i) rs)) (eqb (r .loCount) 0) (r .extension) (r .plugin) (structStep have p (suc i) rs) j)
+          rw (n, requiredOf, lo-here, opt-here, e) (tagged-case (at have) i (requiredOf S (numbersWhere (isTaggedOf p) (suc i) rs)) (eqb (r .loCount) 0) (r .extension) (r .plugin) (structStep have p (suc i) rs) j)
 
 -- ---- the steps
 
@@ -203,8 +201,8 @@ module _ (rs : List Record) (F : Formed rs) where
       let x = untagged-is p (recordAt rs q) b in
       let m = and-off (recordAt rs q .untagged) _ (seven-at rs F q h .0) (x .1) in
       let o = second (eqb (parentKind rs (recordAt rs q .parent)) 9) (misplacedAlternative rs q (recordAt rs q)) (misplacedField rs q (recordAt rs q)) (no-union (recordAt rs q .parent) (x .0)) m in
-      or-none (recordAt rs q .extension || eqb (recordAt rs q .kind) 1) _ o (λ c d.
-      or-none (recordAt rs q .extension) _ c (λ e f. (e, f, d)))
+      or-off (recordAt rs q .extension || eqb (recordAt rs q .kind) 1) _ o (λ c d.
+      or-off (recordAt rs q .extension) _ c (λ e f. (e, f, d)))
     where
       second : (t a b : Bool) → t ≡ false → pick t a b ≡ false → b ≡ false
       second true a b e h = clash-bool (sym e)
@@ -284,3 +282,11 @@ module _ (rs : List Record) (F : Formed rs) where
       off zero q = refl
       off (suc n) zero = refl
       off (suc n) (suc q) = off n q
+
+-- an untagged field of a body is one of its records
+pub untagged-in : (rs : List Record) (p q : ℕ) → In q (schemaOf rs .untagged p) → (q < length rs) × (isUntaggedOf p (recordAt rs q) ≡ true)
+unfolding schemaOf
+untagged-in rs p q i =
+    let g = where-in (isUntaggedOf p) 0 rs q i in
+    let z : q ≡ g .0 = omega (arith, g .1) in
+    (omega (arith, g .2), ap (λ j. isUntaggedOf p (recordAt rs j)) z ∙ g .3)

@@ -1,6 +1,6 @@
 -- The witness text is made of bytes.
 use mathlib.Core.Path.{_≡_, refl, ap}
-use mathlib.Core.Bool.{Bool, true, false, not, _&&_, _||_}
+use mathlib.Core.Bool.{Bool, true, false, not, _&&_}
 use mathlib.Core.List.{List, [], _∷_, _++_}
 use Prim.Native.Nat.{ℕ, zero, suc, _<_, _≤_}
 use native.Mathlib.Omega.{arith}
@@ -9,6 +9,8 @@ use lib.ListN.{getD}
 use borrow.Author.Tests.{eqb-true, leb-true}
 use Rattle.classes.specs.Lists.{All}
 use Rattle.classes.specs.Bytes.{IsBytes, between, isLetter, isDigit, isRunByte, isMark, isBlank, Byte}
+use Rattle.classes.proofs.Segment.{mark-small}
+use Rattle.classes.proofs.Bools.{or-case}
 use Rattle.reading_rules.proofs.CountLaws.{clash-bool, and-both}
 use Rattle.definition_rules.specs.Words.{ByteClass, inRun, blank, single, slash, other, classOf}
 use Rattle.definition_rules.specs.Scan.{TextToken, run, mark}
@@ -26,10 +28,6 @@ unfolding All
 bytes-all [] h = tt
 bytes-all (b ∷ l) h = (h 0, bytes-all l (λ i. h (suc i)))
 
-or-case : {X : Type 0} (a b : Bool) → a || b ≡ true → (a ≡ true → X) → (b ≡ true → X) → X
-or-case true b e f g = f refl
-or-case false b e f g = g e
-
 under : (lo hi b : ℕ) → hi < 256 → between lo hi b ≡ true → b < 256
 under lo hi b h e = and-both (leb lo b) (leb b hi) e (λ x y. omega (arith, leb-true b hi y))
 
@@ -44,17 +42,6 @@ run-byte b e =
     (λ x. or-case (eqb b 45) _ x (is-byte b 45 (omega arith))
     (λ x. or-case (eqb b 95) _ x (is-byte b 95 (omega arith))
     (λ x. or-case (eqb b 46) (eqb b 42) x (is-byte b 46 (omega arith)) (is-byte b 42 (omega arith))))))
-
-mark-byte : (b : ℕ) → isMark b ≡ true → b < 256
-unfolding isMark
-mark-byte b e =
-    or-case (eqb b 60) _ e (is-byte b 60 (omega arith))
-    (λ x. or-case (eqb b 62) _ x (is-byte b 62 (omega arith))
-    (λ x. or-case (eqb b 91) _ x (is-byte b 91 (omega arith))
-    (λ x. or-case (eqb b 93) _ x (is-byte b 93 (omega arith))
-    (λ x. or-case (eqb b 123) _ x (is-byte b 123 (omega arith))
-    (λ x. or-case (eqb b 125) _ x (is-byte b 125 (omega arith))
-    (λ x. or-case (eqb b 59) (eqb b 63) x (is-byte b 59 (omega arith)) (is-byte b 63 (omega arith))))))))
 
 -- a byte of a run or a mark is one
 unfoldable inToken : ByteClass → Bool
@@ -71,7 +58,7 @@ token-byte b e = go (isRunByte b) refl (isBlank b) (isMark b) refl (eqb b 47) e
     go : (r : Bool) → isRunByte b ≡ r → (s m : Bool) → isMark b ≡ m → (l : Bool) → inToken (elim r [ true ↦ inRun | false ↦ elim s [ true ↦ blank | false ↦ elim m [ true ↦ single | false ↦ elim l [ true ↦ slash | false ↦ other ] ] ] ]) ≡ true → b < 256
     go true p s m q l e = run-byte b p
     go false p true m q l e = clash-bool e
-    go false p false true q l e = mark-byte b q
+    go false p false true q l e = mark-small b q
     go false p false false q true e = clash-bool e
     go false p false false q false e = clash-bool e
 

@@ -6,15 +6,17 @@ use Prim.Native.Nat.{ℕ, zero, suc, _+_, _-_, _≤_, _<_}
 use native.Mathlib.Omega.{arith}
 use lib.Dec.{leb, eqb, ltb}
 use lib.ListN.{length, drop, length-drop}
-use borrow.Author.Tests.{eq-eqb, le-leb, leb-true, lt-ltb, not-true}
+use borrow.Author.Tests.{eq-eqb, le-leb, leb-true, lt-ltb, not-false}
 use Rattle.classes.specs.Bytes.{IsBytes, Byte}
+use Rattle.classes.proofs.Rows.{both-nil}
+use Rattle.classes.proofs.Bools.{clash-bool, both-true}
 use Rattle.numbers.specs.Limits.{depthLimit, parameterLimit, countLimit, noLimit, none16}
-use Rattle.classes.specs.Lists.{sameBytes, every, pick, some, notEmpty, All}
+use Rattle.classes.specs.Lists.{sameBytes, every, pick, some, All}
 use Rattle.definition_rules.specs.Words.{numberIf, numberIn, kindOfRun, kindIsCompound, isCompound, isReference, isKeyword, startsWithLetter, nameForm, tagForm, other}
 use Rattle.classes.specs.Bytes.{isNameByte, isTagByte}
 use Rattle.numbers.specs.Decimal.{numberOf, isNatural}
 use Rattle.numbers.specs.Range.{numberWhen, readCount, cutRange, onSides, lowOf, highOf, bothRead, readUpper, readCountRange, MaybeNumber, unread, number, Sides, uncut, sides, MaybeRange, noRange, range}
-use Rattle.definition_rules.specs.Scan.{itemsOf, textTokensOf, badPlaces, deepPlaces, placeIf, Item}
+use Rattle.definition_rules.specs.Scan.{itemsOf, textTokensOf, badPlaces, deepPlaces, Item}
 use Rattle.definition_rules.specs.Forms.{typeRun, RangeAllowed, HeadAllowed, MaybeRun, absent, given, Tag, ownName, tagless, explicit, Heading, heading, parameter, tops, Form, plain, compound, lastTop, moreTops, topLevel}
 use Rattle.reading_rules.specs.Record.{Up, top, under, Record, isTop, sameUp, recordAt, Before, Nested}
 use Rattle.definition_rules.specs.Declarations.{declare, treeDeclarations, parentOf, parseTokens, declarationsOf, Declaration, declaration, Noted, noted, inFields, groupOpened, inGroup, groupsClosed, Frame, frame, Outcome, stuckAt, complete, Spots}
@@ -29,13 +31,15 @@ use Rattle.definition_rules.proofs.FirstFault.{pass, table-clean}
 use Rattle.definition_rules.proofs.FormSound.{complete-fits}
 use Rattle.table_rules.proofs.Spelling.{nest, deep-nest}
 use Rattle.table_rules.proofs.FlatPrint.{pushed, FitsOn, InOrder, closed-top}
-use Rattle.table_rules.proofs.Witness.{kind-le, and-both, bool-no, most-lt}
+use Rattle.table_rules.proofs.Witness.{most-lt}
 use Rattle.table_rules.proofs.ShownNames.{Off, Uniq, declaredNames}
 use Rattle.table_rules.proofs.Depth.{LowEnough}
-use Rattle.table_rules.proofs.FaultLaws.{up-self, uniq-new, twice-uniq, Passes, spots-all, spots-none, append-nil, places-nil}
+use Rattle.table_rules.proofs.FaultLaws.{up-self, uniq-new, twice-uniq, Passes, spots-all, spots-none, places-nil, none-spots}
 use Rattle.table_rules.proofs.RuleFacts.{of-fine, all-every, all-map, Fine}
-use Rattle.table_rules.proofs.RulesText.{rules-text}
-use Rattle.table_rules.proofs.TreeOrder.{nest-tree, Desc, closed-at, Stand, stand-tree}
+use Rattle.table_rules.proofs.RulesText.{rules-text, spots-length}
+use Rattle.table_rules.proofs.TreeOrder.{nest-tree, Desc, closed-at, Stand, stand-tree, desc-more}
+use Rattle.definition_rules.proofs.RunLaws.{kind-le}
+use Rattle.table_rules.proofs.GoodTokens.{letter-some}
 
 -- ---- small laws
 
@@ -55,38 +59,30 @@ kind-ge w = number-ge _ 1 w
 all-tag : (w : List ℕ) → every isNameByte w ≡ true → every isTagByte w ≡ true
 unfolding every isTagByte
 all-tag [] e = refl
-all-tag (b ∷ w) e = let x = and-both (isNameByte b) (every isNameByte w) e in rw (x .0) (all-tag w (x .1))
+all-tag (b ∷ w) e = let x = both-true (isNameByte b) (every isNameByte w) e in rw (x .0) (all-tag w (x .1))
 
 name-tag : (w : List ℕ) → nameForm w ≡ true → tagForm w ≡ true
 unfolding nameForm tagForm
 name-tag w e =
-    let x = and-both (startsWithLetter w && every isNameByte w && leb (length w) 63) (not (isKeyword w)) e .0 in
-    let y = and-both (startsWithLetter w && every isNameByte w) (leb (length w) 63) x in
-    let z = and-both (startsWithLetter w) (every isNameByte w) (y .0) in
-    rw (st w (z .0), all-tag w (z .1), y .1)
-  where
-    st : (w : List ℕ) → startsWithLetter w ≡ true → notEmpty w ≡ true
-    st [] e = unfold startsWithLetter notEmpty in e
-    st (b ∷ w) e = unfold notEmpty in refl
-
-not-not : (b : Bool) → not b ≡ false → b ≡ true
-not-not true e = refl
-not-not false e = bool-no (sym e)
+    let x = both-true (startsWithLetter w && every isNameByte w && leb (length w) 63) (not (isKeyword w)) e .0 in
+    let y = both-true (startsWithLetter w && every isNameByte w) (leb (length w) 63) x in
+    let z = both-true (startsWithLetter w) (every isNameByte w) (y .0) in
+    rw (letter-some w (z .0), all-tag w (z .1), y .1)
 
 count-facts : (m : MaybeRange) → countFine m ≡ true → (lowOf m ≤ countLimit) × (1 ≤ highOf m) × (lowOf m ≤ highOf m)
 unfolding countFine lowOf highOf
-count-facts noRange e = bool-no e
+count-facts noRange e = clash-bool e
 count-facts (range a b) e =
-    let x = and-both (leb a countLimit && leb 1 b) (leb a b) e in
-    let y = and-both (leb a countLimit) (leb 1 b) (x .0) in
+    let x = both-true (leb a countLimit && leb 1 b) (leb a b) e in
+    let y = both-true (leb a countLimit) (leb 1 b) (x .0) in
     (leb-true a countLimit (y .0), leb-true 1 b (y .1), leb-true a b (x .1))
 
 range-facts : (k : ℕ) (m : MaybeRange) → withinKind k m ≡ true → (kindLeast k ≤ lowOf m) × (lowOf m ≤ highOf m) × (highOf m ≤ kindMost k)
 unfolding withinKind lowOf highOf
-range-facts k noRange e = bool-no e
+range-facts k noRange e = clash-bool e
 range-facts k (range a b) e =
-    let x = and-both (leb (kindLeast k) a && leb a b) (leb b (kindMost k)) e in
-    let y = and-both (leb (kindLeast k) a) (leb a b) (x .0) in
+    let x = both-true (leb (kindLeast k) a && leb a b) (leb b (kindMost k)) e in
+    let y = both-true (leb (kindLeast k) a) (leb a b) (x .0) in
     (leb-true (kindLeast k) a (y .0), leb-true a b (y .1), leb-true b (kindMost k) (x .1))
 
 unread-no : {X : Type 0} {n : ℕ} → unread ≡ number n → X
@@ -141,7 +137,7 @@ find-top T (d ∷ ds) i t w e = by (isNamed (topName d) w) refl e (λ e. find-to
   where
     is-top : (d : Declaration) → isNamed (topName d) w ≡ true → isTop (recordFor T d .parent) ≡ true
     is-top (declaration top e (heading w g n c t p)) x = unfold recordFor isTop in refl
-    is-top (declaration (under q) e h) x = bool-no (unfold topName isNamed in x)
+    is-top (declaration (under q) e h) x = clash-bool (unfold topName isNamed in x)
 
     by : (b : Bool) → isNamed (topName d) w ≡ b → pick b (number i) (findTop (topNames ds) (suc i) w) ≡ number t → (findTop (topNames ds) (suc i) w ≡ number t → (j : ℕ) × (t ≡ suc i + j) × (isTopAt (recordsFor T ds) j ≡ true)) → (j : ℕ) × (t ≡ i + j) × (isTopAt (recordFor T d ∷ recordsFor T ds) j ≡ true)
     by true x e f = unfold pick in (let y : i ≡ t = cc in (0, omega arith, is-top d x))
@@ -152,7 +148,7 @@ find-top T (d ∷ ds) i t w e = by (isNamed (topName d) w) refl e (λ e. find-to
 given-no : (c : MaybeRun) → isGiven c ≡ false → c ≡ absent
 unfolding isGiven
 given-no absent e = refl
-given-no (given v) e = bool-no (sym e)
+given-no (given v) e = clash-bool (sym e)
 
 flags-true : (t : Tag) (p b : Bool) → t ≡ ownName → p ≡ false → b ≡ false → not (isTagless t) && (not p && not b) ≡ true
 unfolding isTagless
@@ -164,7 +160,7 @@ module _ (T : List MaybeRun) (rs : List Record) (ks : List ℕ) (found : (w : Li
   aims w e = by (eqb (kindOfRun w) 10) e
     where
       go : (m : MaybeNumber) → findTop T 0 w ≡ m → eqb (orNone m) none16 ≡ false → isTopAt rs (orNone m) ≡ true
-      go unread q e = unfold orNone in (bool-no (sym (sym (eq-eqb none16 none16 refl) ∙ e)))
+      go unread q e = unfold orNone in (clash-bool (sym (sym (eq-eqb none16 none16 refl) ∙ e)))
       go (number t) q e = unfold orNone in (found w t q)
 
       by : (b : Bool) → b && eqb (orNone (findTop T 0 w)) none16 ≡ false → pick b (isTopAt rs (pick b (orNone (findTop T 0 w)) none16)) (eqb (pick b (orNone (findTop T 0 w)) none16) none16) ≡ true
@@ -175,7 +171,7 @@ module _ (T : List MaybeRun) (rs : List Record) (ks : List ℕ) (found : (w : Li
   labels top n t f e q = rw (f refl) (unfold isTop isTagless labelOf pick in e)
   labels (under p) n ownName f e q = unfold isTop isTagless labelOf pick in (name-tag n e)
   labels (under p) n tagless f e q = unfold isTop isTagless labelOf pick in e
-  labels (under p) n (explicit v) f e q = unfold isTop isTagless labelOf pick tagBrokenIn in (not-not (tagForm v) q)
+  labels (under p) n (explicit v) f e q = unfold isTop isTagless labelOf pick tagBrokenIn in (not-false (tagForm v) q)
 
   alones : (u : Up) (c : MaybeRun) → (u ≡ top → c ≡ absent) → isAlternative (isUnionAt ks) u && isGiven c ≡ false → isSingleValue (isUnionAt ks) u ≡ true → (lowOf (countRangeOf c) ≡ 1) × (highOf (countRangeOf c) ≡ 1)
   alones top c f e q = rw (f refl) (unfold countRangeOf lowOf highOf in (refl, refl))
@@ -183,7 +179,7 @@ module _ (T : List MaybeRun) (rs : List Record) (ks : List ℕ) (found : (w : Li
     where
       second : (b : Bool) → b ≡ true → b && isGiven c ≡ false → isGiven c ≡ false
       second true q e = e
-      second false q e = bool-no q
+      second false q e = clash-bool q
 
   topped : (u : Up) (w : List ℕ) (g : MaybeRun) (n : List ℕ) (c : MaybeRun) (t : Tag) (p : Bool) → (u ≡ top → HeadAllowed topLevel (heading w g n c t p)) → not (isTop u) || (not (isTagless t) && (not p && not (eqb (kindOfRun w) 10))) ≡ true
   topped top w g n c t p f = unfold isTop in (by (unfold HeadAllowed in (f refl)))
@@ -199,8 +195,8 @@ module _ (T : List MaybeRun) (rs : List Record) (ks : List ℕ) (found : (w : Li
   fine-record : (d : Declaration) → TopPlain d → Passes nameBroken d → Passes tagBroken d → Passes rangeBroken d → Passes countBroken d → Passes (countOnAlternative ks) d → Passes (dangling T) d → Fine rs (isUnionAt ks) (recordFor T d)
   unfolding recordFor TopPlain nameBroken tagBroken rangeBroken countBroken countOnAlternative dangling
   fine-record (declaration u e (heading w g n c t p)) tp nb tb rb cb ab db =
-      let x = count-facts (countRangeOf c) (not-not (countFine (countRangeOf c)) cb) in
-      let y = range-facts (kindOfRun w) (limitsOf (kindOfRun w) g) (not-not (withinKind (kindOfRun w) (limitsOf (kindOfRun w) g)) rb) in
+      let x = count-facts (countRangeOf c) (not-false (countFine (countRangeOf c)) cb) in
+      let y = range-facts (kindOfRun w) (limitsOf (kindOfRun w) g) (not-false (withinKind (kindOfRun w) (limitsOf (kindOfRun w) g)) rb) in
       record {
         kind-lo = kind-ge w;
         kind-hi = kind-le w;
@@ -213,7 +209,7 @@ module _ (T : List MaybeRun) (rs : List Record) (ks : List ℕ) (found : (w : Li
         range-mid = y .1;
         range-hi = y .2;
         aim = unfold targetFine in (aims w db);
-        named = unfold labelFine showsName in (labels u n t (λ z. head-card w g n c t p (tp z) .1) (not-not (nameForm n) nb) tb);
+        named = unfold labelFine showsName in (labels u n t (λ z. head-card w g n c t p (tp z) .1) (not-false (nameForm n) nb) tb);
         topped = unfold topFine in (topped u w g n c t p tp);
       }
 
@@ -288,11 +284,6 @@ uniq-shown T (declaration u e (heading w g n c t p) ∷ ds) h o = uniq-if u n t 
 
 -- ---- numbers that the bytes hold
 
-desc-more : (k n : ℕ) (σ : List Frame) → k ≤ n → Desc k σ → Desc n σ
-unfolding Desc
-desc-more k n [] h d = tt
-desc-more k n (frame p m ∷ σ) h d = (omega (arith, d .0), d .1)
-
 desc-closed : (k : ℕ) (u : Up) (σ : List Frame) → Desc k σ → Desc k (closedTo u σ)
 unfolding Desc closedTo
 desc-closed k u [] d = tt
@@ -340,22 +331,22 @@ up-before k σ top d z = tt
 up-before k σ (under j) d z = by (closedTo (under j) σ) refl z
   where
     by : (ρ : List Frame) → closedTo (under j) σ ≡ ρ → sameUp (parentOf ρ) (under j) ≡ true → j < k
-    by [] e z = unfold sameUp parentOf in (bool-no z)
+    by [] e z = unfold sameUp parentOf in (clash-bool z)
     by (frame a m ∷ ρ) e z = closed-at σ k j a m ρ d e .1
 
 stands : (σ : List Frame) (r : Record) → standsIn σ r ≡ true → sameUp (parentOf σ) (r .parent) ≡ true
 unfolding standsIn
-stands σ r e = and-both _ _ e .0
+stands σ r e = both-true _ _ e .0
 
 before-from : (σ : List Frame) (k : ℕ) (rs : List Record) → Desc k σ → ordered σ k rs ≡ true → (i : ℕ) → i < length rs → Before (k + i) (recordAt rs i .parent)
 unfolding ordered recordAt
 before-from σ k [] d o i h = absurd (omega arith)
 before-from σ k (r ∷ rs) d o zero h =
     let z : k ≡ k + 0 = omega arith in
-    subst (λ (j : ℕ). Before j (r .parent)) z (up-before k σ (r .parent) d (stands (closedTo (r .parent) σ) r (and-both (standsIn (closedTo (r .parent) σ) r) _ o .0)))
+    subst (λ (j : ℕ). Before j (r .parent)) z (up-before k σ (r .parent) d (stands (closedTo (r .parent) σ) r (both-true (standsIn (closedTo (r .parent) σ) r) _ o .0)))
 before-from σ k (r ∷ rs) d o (suc i) h =
     let z : suc k + i ≡ k + suc i = omega arith in
-    subst (λ (j : ℕ). Before j (recordAt rs i .parent)) z (before-from _ (suc k) rs (desc-push k (kindIsCompound (r .kind)) _ (desc-extension k (r .extension) _ (desc-closed k (r .parent) σ d))) (and-both (standsIn (closedTo (r .parent) σ) r) _ o .1) i (omega arith))
+    subst (λ (j : ℕ). Before j (recordAt rs i .parent)) z (before-from _ (suc k) rs (desc-push k (kindIsCompound (r .kind)) _ (desc-extension k (r .extension) _ (desc-closed k (r .parent) σ d))) (both-true (standsIn (closedTo (r .parent) σ) r) _ o .1) i (omega arith))
 
 pub ordered-nested : (rs : List Record) → ordered [] 0 rs ≡ true → Nested rs
 unfolding Nested
@@ -367,11 +358,6 @@ ordered-nested rs o i h =
 
 drop-short : (n : ℕ) (l : List ℕ) → drop n l ≡ [] → length l ≤ n
 drop-short n l e = omega (arith, length-drop n l, ap length e)
-
-names-length : (ns : List Noted) → length (nameSpots ns) ≡ length (declarationsOf ns)
-unfolding nameSpots declarationsOf
-names-length [] = refl
-names-length (noted s d ∷ ns) = ap suc (names-length ns)
 
 pub record Cleared (items : List Item) (ns : List Noted) (rs : List Record) : Type 0 where
   pub two : faults2 items ≡ []
@@ -402,7 +388,7 @@ some-tops (moreTops x t) = some-parameter x top false 0 _
 stand-items : (items : List Item) (ns : List Noted) → parseTokens (textTokensOf items) ≡ complete ns → faults2 items ≡ [] → Stand [] 0 (declarationsOf ns) × (1 ≤ length (declarationsOf ns))
 stand-items items ns e two =
     let f = complete-fits (textTokensOf items) ns e in
-    let n : nest 0 (textTokensOf items) ≡ true = deep-nest items 0 (append-nil (badPlaces items) (deepPlaces 0 items) (unfold faults2 in two) .1) in
+    let n : nest 0 (textTokensOf items) ≡ true = deep-nest items 0 (both-nil (badPlaces items) (deepPlaces 0 items) (unfold faults2 in two) .1) in
     let s = nest-tree (f .0 .0) 0 [] (ap (nest 0) (f .0 .2) ∙ n) .0 in
     let t = stand-tree (f .0 .0) [] 0 (unfold Desc in tt) (unfold closedTo in refl) (f .0 .1) s in
     (subst (λ q. Stand [] 0 q) (f .1) t, subst (λ q. 1 ≤ length q) (f .1) (some-tops (f .0 .0)))
@@ -433,29 +419,29 @@ module _ (items : List Item) (ns : List Noted) (e : parseTokens (textTokensOf it
   bare = tops-plain ds [] 0 (standing .0 .0)
 
   few : length ds ≤ 256
-  few = omega (arith, drop-short 256 (nameSpots ns) (clear .four), names-length ns)
+  few = omega (arith, drop-short 256 (nameSpots ns) (clear .four), spots-length ns)
 
   same-length : length rs ≡ length ns
   same-length = length-records T ds ∙ sym (noted-length ns)
 
   forms : (spotsWhere nameBroken (λ s. s .nameAt) ns ≡ []) × (spotsWhere tagBroken (λ s. s .tagAt) ns ≡ [])
   forms =
-      let x = append-nil (spotsWhere nameBroken (λ s. s .nameAt) ns) _ (clear .five) in
-      let y = append-nil (spotsWhere referenceBroken (λ s. s .typeAt) ns) (spotsWhere tagBroken (λ s. s .tagAt) ns) (x .1) in
+      let x = both-nil (spotsWhere nameBroken (λ s. s .nameAt) ns) _ (clear .five) in
+      let y = both-nil (spotsWhere referenceBroken (λ s. s .typeAt) ns) (spotsWhere tagBroken (λ s. s .tagAt) ns) (x .1) in
       (x .0, y .1)
 
   ranges : (spotsWhere rangeBroken (λ s. s .rangeAt) ns ≡ []) × (spotsWhere countBroken (λ s. s .cardAt) ns ≡ []) × (recordSpots voidMany (λ s. s .cardAt) 0 rs ns ≡ []) × (spotsWhere (countOnAlternative (kindsOf ds)) (λ s. s .cardAt) ns ≡ [])
   ranges =
-      let x = append-nil (spotsWhere rangeBroken (λ s. s .rangeAt) ns) _ (clear .six) in
-      let y = append-nil (spotsWhere countBroken (λ s. s .cardAt) ns) _ (x .1) in
-      let z = append-nil (recordSpots voidMany (λ s. s .cardAt) 0 rs ns) (spotsWhere (countOnAlternative (kindsOf ds)) (λ s. s .cardAt) ns) (y .1) in
+      let x = both-nil (spotsWhere rangeBroken (λ s. s .rangeAt) ns) _ (clear .six) in
+      let y = both-nil (spotsWhere countBroken (λ s. s .cardAt) ns) _ (x .1) in
+      let z = both-nil (recordSpots voidMany (λ s. s .cardAt) 0 rs ns) (spotsWhere (countOnAlternative (kindsOf ds)) (λ s. s .cardAt) ns) (y .1) in
       (x .0, y .0, z .0, z .1)
 
   twice : (repeatedNames [] ns ≡ []) × (recordSpots (tagRepeated rs) (λ s. s .tagAt) 0 rs ns ≡ [])
-  twice = append-nil (repeatedNames [] ns) (recordSpots (tagRepeated rs) (λ s. s .tagAt) 0 rs ns) (clear .eight)
+  twice = both-nil (repeatedNames [] ns) (recordSpots (tagRepeated rs) (λ s. s .tagAt) 0 rs ns) (clear .eight)
 
   roots : (recordSpots rootNoStruct (λ s. s .nameAt) 0 rs ns ≡ []) × (spotsWhere (dangling T) (λ s. s .typeAt) ns ≡ [])
-  roots = append-nil (recordSpots rootNoStruct (λ s. s .nameAt) 0 rs ns) (spotsWhere (dangling T) (λ s. s .typeAt) ns) (clear .nine)
+  roots = both-nil (recordSpots rootNoStruct (λ s. s .nameAt) 0 rs ns) (spotsWhere (dangling T) (λ s. s .typeAt) ns) (clear .nine)
 
   found : (w : List ℕ) (t : ℕ) → findTop T 0 w ≡ number t → isTopAt rs t ≡ true
   found w t q = let x = find-top T ds 0 t w q in subst (λ j. isTopAt rs j ≡ true) (omega (arith, x .1)) (x .2)
@@ -547,12 +533,6 @@ text-rules text bytes v = by (outcomeOf text) refl
             let b = ap encode (sym records-are) ∙ clean .1 in
             rules-at bytes (recordsFor (topNames (declarationsOf ns)) (declarationsOf ns)) b d r
 
-none-spots : (f : ℕ → Record → Bool) (at : Spots → ℕ) (i : ℕ) (rs : List Record) (ns : List Noted) → noneBroken f i rs ≡ true → recordSpots f at i rs ns ≡ []
-unfolding noneBroken recordSpots placeIf
-none-spots f at i [] ns e = refl
-none-spots f at i (r ∷ rs) [] e = refl
-none-spots f at i (r ∷ rs) (noted s d ∷ ns) e = let x = and-both (not (f i r)) (noneBroken f (suc i) rs) e in rw (not-true (f i r) (x .0)) (none-spots f at (suc i) rs ns (x .1))
-
 -- the records of a text that compiles keep the rules
 pub text-rules-records : (text bytes : List ℕ) → verdict text ≡ table bytes → recordRules parameterLimit (recordsOfText text) ≡ true
 text-rules-records text bytes v = by (outcomeOf text) refl
@@ -607,5 +587,5 @@ pub table-text : (bytes : List ℕ) → All Byte bytes → tableRules parameterL
 table-text bytes h e = by (decode bytes) refl (unfold tableRules in e)
   where
     by : (m : Maybe (List Record)) → decode bytes ≡ m → rulesOf parameterLimit m ≡ true → (text : List ℕ) × IsBytes text × (verdict text ≡ table bytes)
-    by none q e = unfold rulesOf in (bool-no e)
+    by none q e = unfold rulesOf in (clash-bool e)
     by (just l) q e = let x = rules-text parameterLimit l (omega arith) (unfold rulesOf in e) in (x .0, x .1, x .2 ∙ ap table (encode-decode bytes l h q))

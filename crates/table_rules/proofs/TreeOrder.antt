@@ -7,6 +7,7 @@ use native.Mathlib.Omega.{arith}
 use lib.Dec.{eqb, ltb}
 use lib.ListN.{length}
 use borrow.Author.Tests.{ne-eqb, eq-eqb, eqb-true, ltb-true}
+use Rattle.classes.proofs.Bools.{clash-bool, both-true}
 use Rattle.numbers.specs.Limits.{depthLimit}
 use Rattle.classes.specs.Lists.{pick}
 use Rattle.definition_rules.specs.Scan.{bracesAfter, TextToken, mark}
@@ -16,7 +17,6 @@ use Rattle.definition_rules.specs.Declarations.{countForm, declare, parentOf, D
 use Rattle.table_rules.specs.RecordRules.{isOpen, closedTo, inExtension, pushIf}
 use Rattle.table_rules.proofs.Spelling.{roomy, nest}
 use Rattle.table_rules.proofs.FlatPrint.{pushed, FitsOn, InOrder, closed-top}
-use Rattle.table_rules.proofs.Witness.{and-both, bool-no}
 use Rattle.table_rules.proofs.Depth.{LowEnough, nest-range, nest-card, nest-tag, nest-plugin}
 
 -- ---- depth
@@ -50,7 +50,7 @@ nest-shut d r = refl
 
 nest-brace : (d : ℕ) (r : List TextToken) → nest d (mark 123 ∷ r) ≡ true → (d < depthLimit) × (nest (suc d) r ≡ true)
 unfolding nest roomy bracesAfter pick
-nest-brace d r e = let x = and-both (ltb d depthLimit) (nest (suc d) r) e in (ltb-true d depthLimit (x .0), x .1)
+nest-brace d r e = let x = both-true (ltb d depthLimit) (nest (suc d) r) e in (ltb-true d depthLimit (x .0), x .1)
 
 nest-close : (d : ℕ) (r : List TextToken) → nest (suc d) (mark 125 ∷ mark 59 ∷ r) ≡ true → nest d r ≡ true
 unfolding nest roomy bracesAfter pick
@@ -106,10 +106,10 @@ closed-self : (p : ℕ) (m : BodyMode) (ρ : List Frame) → closedTo (under p) 
 unfolding closedTo isOpen pick
 closed-self p m ρ = rw (eq-eqb p p refl)
 
-desc-suc : (k n : ℕ) (ρ : List Frame) → k ≤ n → Desc k ρ → Desc n ρ
+pub desc-more : (k n : ℕ) (ρ : List Frame) → k ≤ n → Desc k ρ → Desc n ρ
 unfolding Desc
-desc-suc k n [] h d = tt
-desc-suc k n (frame p m ∷ ρ) h d = (omega (arith, d .0), d .1)
+desc-more k n [] h d = tt
+desc-more k n (frame p m ∷ ρ) h d = (omega (arith, d .0), d .1)
 
 -- ---- the declarations of a tree stand in order
 
@@ -168,9 +168,9 @@ stand-plain : (h : Heading) → ParameterStands (plain h)
 unfolding declare countForm Allowed InOrder LowEnough pushed pushIf
 stand-plain h l u b ρ τ w σ k r d e a s next =
     let x = place-fits w h (a .0) in
-    let n = next τ (desc-suc k (k + 1) τ (omega arith) (place-desc w σ k d e)) (x .3) in
+    let n = next τ (desc-more k (k + 1) τ (omega arith) (place-desc w σ k d e)) (x .3) in
     let n1 = subst (λ q. Stand τ q r) {y = suc k} (omega arith) n in
-    rw (e, a .1, x .2) ((x .0, x .1, n1 .0), ((λ z. bool-no z), n1 .1))
+    rw (e, a .1, x .2) ((x .0, x .1, n1 .0), ((λ z. clash-bool z), n1 .1))
 
 run-place : {e : Bool} {m : BodyMode} → Run e m → (p : ℕ) (ρ : List Frame) → Place fieldLevel (under p) e (frame p m ∷ ρ) (frame p m ∷ ρ)
 run-place plainRun p ρ = inField p ρ
@@ -179,7 +179,7 @@ run-place extRun p ρ = moreExt p ρ
 stand-field : (x : Form parameter) (f : Form fields) → ParameterStands x → FieldsStand f → FieldsStand (field x f)
 unfolding declare countForm Allowed Shallow
 stand-field x f X F b m w p ρ σ k r d e a s next =
-    X _ _ _ _ _ (run-place w p ρ) σ k _ d e (a .0) (s .0) (λ σ1 d1 e1. F b m w p ρ σ1 (k + countForm x) r d1 e1 (a .1) (s .1) (λ σ2 d2 e2. subst (λ q. Stand σ2 q r) (omega arith) (next σ2 (desc-suc (k + countForm x + countForm f) (k + (countForm x + countForm f)) σ2 (omega arith) d2) e2)))
+    X _ _ _ _ _ (run-place w p ρ) σ k _ d e (a .0) (s .0) (λ σ1 d1 e1. F b m w p ρ σ1 (k + countForm x) r d1 e1 (a .1) (s .1) (λ σ2 d2 e2. subst (λ q. Stand σ2 q r) (omega arith) (next σ2 (desc-more (k + countForm x + countForm f) (k + (countForm x + countForm f)) σ2 (omega arith) d2) e2)))
 
 group-place : {m : BodyMode} → Grouped m → (p : ℕ) (ρ : List Frame) → Place fieldLevel (under p) true (frame p m ∷ ρ) (frame p inGroup ∷ ρ)
 group-place noneYet p ρ = firstExt p ρ
@@ -191,8 +191,8 @@ stand-group x f g X F G m w p ρ σ k r d e a s next =
     X _ _ _ _ _ (group-place w p ρ) σ k _ d e (a .0) (s .0) (λ σ1 d1 e1.
     F true inGroup extRun p ρ σ1 (k + countForm x) _ d1 e1 (a .1) (s .1) (λ σ2 d2 e2.
     subst (λ q. Stand σ2 q (declare g (under p) true (k + (countForm x + countForm f)) r)) (omega arith)
-    (G inGroup someYet p ρ σ2 (k + (countForm x + countForm f)) r (desc-suc (k + countForm x + countForm f) (k + (countForm x + countForm f)) σ2 (omega arith) d2) e2 (a .2) (s .2) (λ n v σ3 d3 e3.
-    subst (λ q. Stand σ3 q r) (omega arith) (next n v σ3 (desc-suc (k + (countForm x + countForm f) + countForm g) (k + (countForm x + (countForm f + countForm g))) σ3 (omega arith) d3) e3)))))
+    (G inGroup someYet p ρ σ2 (k + (countForm x + countForm f)) r (desc-more (k + countForm x + countForm f) (k + (countForm x + countForm f)) σ2 (omega arith) d2) e2 (a .2) (s .2) (λ n v σ3 d3 e3.
+    subst (λ q. Stand σ3 q r) (omega arith) (next n v σ3 (desc-more (k + (countForm x + countForm f) + countForm g) (k + (countForm x + (countForm f + countForm g))) σ3 (omega arith) d3) e3)))))
 
 stand-compound : (h : Heading) (f : Form fields) (g : Form groups) → FieldsStand f → GroupsStand g → ParameterStands (compound h f g)
 unfolding declare countForm Allowed Shallow InOrder LowEnough pushed pushIf
@@ -202,7 +202,7 @@ stand-compound h f g F G l u c ρ τ w σ k r d e a s next =
     let n : Stand (frame k inFields ∷ τ) (suc k) (declare f (under k) false (suc k) (declare g (under k) true (suc k + countForm f) r)) =
     F false inFields plainRun k τ (frame k inFields ∷ τ) (suc k) _ (unfold Desc in (omega arith, b)) (closed-self k inFields τ) (a .2) (rw (x .4) (s .1)) (λ σ1 d1 e1.
     G inFields noneYet k τ σ1 (suc k + countForm f) r d1 e1 (a .3) (rw (x .4) (s .2)) (λ m v σ2 d2 e2.
-    subst (λ q. Stand σ2 q r) (omega arith) (next σ2 (desc-suc (suc k + countForm f + countForm g) (k + suc (countForm f + countForm g)) σ2 (omega arith) d2) (place-back w σ2 (suc k + countForm f + countForm g) k m d2 b e2)))) in
+    subst (λ q. Stand σ2 q r) (omega arith) (next σ2 (desc-more (suc k + countForm f + countForm g) (k + suc (countForm f + countForm g)) σ2 (omega arith) d2) (place-back w σ2 (suc k + countForm f + countForm g) k m d2 b e2)))) in
     rw (e, a .1, x .2) ((x .0, x .1, n .0), ((λ z. s .0), n .1))
 
 abbrev pub OrderOf : {s : FormSort} → Form s → Type 0
@@ -225,11 +225,11 @@ stand-more x t X T σ k d e a s = X topLevel top false [] [] outside σ k _ d e 
 
 stand-noField : FieldsStand noField
 unfolding declare countForm
-stand-noField b m w p ρ σ k r d e a s next = subst (λ q. Stand σ q r) (omega arith) (next σ (desc-suc k (k + 0) σ (omega arith) d) e)
+stand-noField b m w p ρ σ k r d e a s next = subst (λ q. Stand σ q r) (omega arith) (next σ (desc-more k (k + 0) σ (omega arith) d) e)
 
 stand-noGroup : GroupsStand noGroup
 unfolding declare countForm
-stand-noGroup m w p ρ σ k r d e a s next = subst (λ q. Stand σ q r) (omega arith) (next m w σ (desc-suc k (k + 0) σ (omega arith) d) e)
+stand-noGroup m w p ρ σ k r d e a s next = subst (λ q. Stand σ q r) (omega arith) (next m w σ (desc-more k (k + 0) σ (omega arith) d) e)
 
 pub stand-tree : {s : FormSort} (x : Form s) → OrderOf x
 stand-tree (plain h) = stand-plain h

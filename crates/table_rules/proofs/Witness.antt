@@ -6,7 +6,9 @@ use Prim.Native.Nat.{ℕ, zero, suc, _+_, _-_, _≤_, _<_}
 use native.Mathlib.Omega.{arith}
 use lib.Dec.{leb, eqb, ltb}
 use lib.ListN.{length}
-use borrow.Author.Tests.{ne-eqb, eq-eqb, eqb-true, eqb-false, not-true, le-leb, ltb-false}
+use borrow.Author.Tests.{ne-eqb, eqb-true, eqb-false, not-true, le-leb, ltb-false}
+use Rattle.classes.proofs.Rows.{same-true, bytes-self}
+use Rattle.classes.proofs.Bools.{clash-bool, both-true}
 use Rattle.numbers.specs.Limits.{countLimit, bias}
 use Rattle.classes.specs.Lists.{sameBytes, every, pick, All}
 use Rattle.definition_rules.specs.Words.{kwAs, kwPlugin, kwVoid, kwBool, kwInt, kwAscii, kwUnquoted, kwDate, kwTime, kwStruct, kwUnion, numberIf, numberIn, kindOfRun, kindTakesRange, isKeyword, startsWithLetter, nameForm}
@@ -19,9 +21,9 @@ use Rattle.definition_rules.specs.Table.{none}
 use Rattle.definition_rules.specs.Records.{kindLeast, kindMost, limitsOf, countRangeOf, topName, topNames, isNamed, findTop, orNone, targetOf, isTagless, labelOf, recordFor, recordsFor}
 use Rattle.definition_rules.specs.Compile.{table}
 use Rattle.table_rules.specs.RecordRules.{isSingleValue}
-use Rattle.definition_rules.proofs.FormSound.{same-true}
 use Rattle.table_rules.proofs.Numerals.{writeNat, Digit, writeInt, written-digits, read-count, read-int, cut-put, no-dots, int-dots}
 use Rattle.table_rules.proofs.FreshNames.{fresh}
+use Rattle.definition_rules.proofs.RunLaws.{kind-le}
 
 unfoldable pub writeUpper : ℕ → List ℕ
 writeUpper d = pick (eqb d 65535) (42 ∷ []) (writeNat d)
@@ -89,23 +91,6 @@ pub record RecordSound (T : List MaybeRun) (A : ℕ → Bool) (k : ℕ) (u : Up)
   pub to : eqb k 10 ≡ true → (w : List ℕ) × (runAt T t ≡ given w) × (nameForm w ≡ true)
   pub to-none : eqb k 10 ≡ false → t ≡ 65535
 
-number-le : (vs : List (List ℕ)) (k : ℕ) (w : List ℕ) → numberIn vs k w ≤ k + length vs
-unfolding numberIn
-number-le [] k w = omega arith
-number-le (v ∷ vs) k w = by (sameBytes v w) (number-le vs (suc k) w)
-  where
-    by : (b : Bool) → numberIn vs (suc k) w ≤ suc k + length vs → numberIf b k (numberIn vs (suc k) w) ≤ k + suc (length vs)
-    by true h = unfold numberIf in omega arith
-    by false h = unfold numberIf in omega arith
-
-pub kind-le : (w : List ℕ) → kindOfRun w ≤ 10
-unfolding kindOfRun
-kind-le w = omega (arith, number-le (kwVoid ∷ kwBool ∷ kwInt ∷ kwAscii ∷ kwUnquoted ∷ kwDate ∷ kwTime ∷ kwStruct ∷ kwUnion ∷ []) 1 w)
-
-pub and-both : (a b : Bool) → a && b ≡ true → (a ≡ true) × (b ≡ true)
-and-both true b e = (refl, e)
-and-both false b e = let x : _≡_ {A = ℕ} 0 1 = cc in absurd (omega arith)
-
 or-none : (a b : Bool) → a || b ≡ false → (a ≡ false) × (b ≡ false)
 or-none false b e = (refl, e)
 or-none true b e = let x : _≡_ {A = ℕ} 0 1 = cc in absurd (omega arith)
@@ -113,7 +98,7 @@ or-none true b e = let x : _≡_ {A = ℕ} 0 1 = cc in absurd (omega arith)
 pub name-kind : (w : List ℕ) → nameForm w ≡ true → kindOfRun w ≡ 10
 unfolding nameForm isKeyword
 name-kind w e =
-    let x = not-true (isKeyword w) (and-both (startsWithLetter w && every isNameByte w && leb (length w) 63) (not (isKeyword w)) e .1) in
+    let x = not-true (isKeyword w) (both-true (startsWithLetter w && every isNameByte w && leb (length w) 63) (not (isKeyword w)) e .1) in
     let y = or-none (ltb (kindOfRun w) 10) (sameBytes kwAs w) (or-none (ltb (kindOfRun w) 10 || sameBytes kwAs w) (sameBytes kwPlugin w) x .0) .0 in
     omega (arith, ltb-false (kindOfRun w) 10 y, kind-le w)
 
@@ -130,11 +115,6 @@ keyword-kind (suc (suc (suc (suc (suc (suc (suc zero))))))) h l = refl
 keyword-kind (suc (suc (suc (suc (suc (suc (suc (suc zero)))))))) h l = refl
 keyword-kind (suc (suc (suc (suc (suc (suc (suc (suc (suc zero))))))))) h l = refl
 keyword-kind (suc (suc (suc (suc (suc (suc (suc (suc (suc (suc k)))))))))) h l = absurd (omega arith)
-
-pub same-self : (w : List ℕ) → sameBytes w w ≡ true
-unfolding sameBytes
-same-self [] = refl
-same-self (b ∷ w) = rw (eq-eqb b b refl) (same-self w)
 
 no-star : (l : List ℕ) → All Digit l → sameBytes l (42 ∷ []) ≡ false
 unfolding sameBytes All
@@ -157,9 +137,6 @@ range-back : (a b : ℕ) → a < bias + bias → b < bias + bias → readIntRang
 unfolding readIntRange writeRange onSides bothRead
 range-back a b h l = rw (cut-put (writeInt a) (writeInt b) (int-dots a)) (rw (read-int a (omega arith), read-int b (omega arith)))
 
-pub bool-no : {X : Type 0} → _≡_ {A = Bool} false true → X
-bool-no e = let x : _≡_ {A = ℕ} 0 1 = cc in absurd (omega arith)
-
 -- the number of the top that a name finds
 unfoldable pub NotAmong : List ℕ → List MaybeRun → Type 0
 NotAmong w [] = Unit {0}
@@ -181,14 +158,14 @@ fresh-at v w (given x ∷ T) zero f e = let y : x ≡ w = cc in rw (← y) (turn
       where
         by : (b : Bool) → sameBytes v x ≡ b → b ≡ false
         by false q = refl
-        by true q = let z = same-true v x q in let y : sameBytes x v ≡ true = rw z (same-self x) in cc
+        by true q = let z = same-true v x q in let y : sameBytes x v ≡ true = rw z (bytes-self x) in cc
 fresh-at v w (o ∷ T) (suc t) f e = fresh-at v w T t (f .1) e
 
 pub find-at : (T : List MaybeRun) (i t : ℕ) (w : List ℕ) → DistinctTops T → runAt T t ≡ given w → findTop T i w ≡ number (i + t)
 unfolding runAt DistinctTops findTop isNamed pick
 find-at [] i t w f e = cc
 find-at (absent ∷ T) i zero w f e = cc
-find-at (given v ∷ T) i zero w f e = let y : v ≡ w = cc in rw (y, same-self w) (ap number (omega arith))
+find-at (given v ∷ T) i zero w f e = let y : v ≡ w = cc in rw (y, bytes-self w) (ap number (omega arith))
 find-at (absent ∷ T) i (suc t) w f e = find-at T (suc i) t w f e ∙ ap number (omega arith)
 find-at (given v ∷ T) i (suc t) w f e = rw (fresh-at v w T t (f .0) e) (find-at T (suc i) t w (f .1) e ∙ ap number (omega arith))
 
@@ -201,7 +178,7 @@ unfolding kindTakesRange
 ranged-5 = refl
 
 unranged : (k m : ℕ) → kindTakesRange k ≡ false → kindTakesRange m ≡ true → eqb k m ≡ false
-unranged k m e f = ne-eqb k m (λ q. bool-no (sym e ∙ (ap kindTakesRange q ∙ f)))
+unranged k m e f = ne-eqb k m (λ q. clash-bool (sym e ∙ (ap kindTakesRange q ∙ f)))
 
 pub most-lt : (k : ℕ) → kindMost k < bias + bias
 unfolding kindMost

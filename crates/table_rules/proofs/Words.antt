@@ -8,6 +8,7 @@ use native.Mathlib.Nat.{div-add-mod', mod-lt, div-lt-self, le-div-iff-mul-le}
 use lib.Dec.{eqb, leb, ltb}
 use lib.ListN.{length, replicate, length-replicate}
 use borrow.Author.Tests.{eqb-true, eq-eqb, ltb-true, ltb-false, lt-ltb, le-ltb, le-leb, leb-true, ne-eqb}
+use Rattle.classes.proofs.Bools.{or-case}
 use Rattle.numbers.specs.Limits.{bias, intMost}
 use Rattle.classes.specs.Bytes.{between, isWordByte, isStringByte, isDigit, isLetter, isNameByte, isTagByte}
 use Rattle.classes.specs.Lists.{every, sameBytes, pick, notEmpty}
@@ -42,10 +43,6 @@ digit-word b e =
     let h = digit-range b e in
     word-byte b (omega arith) (omega arith) (λ z. omega arith) (λ z. omega arith) (λ z. omega arith) (λ z. omega arith) (λ z. omega arith) (λ z. omega arith) (λ z. omega arith) (λ z. omega arith) (λ z. omega arith)
 
-or-case : {X : Type 0} (a b : Bool) → a || b ≡ true → (a ≡ true → X) → (b ≡ true → X) → X
-or-case true b e f g = f refl
-or-case false b e f g = g e
-
 within-is : (lo hi b : ℕ) → between lo hi b ≡ true → (lo ≤ b) × (b ≤ hi)
 within-is lo hi b e = and-both (leb lo b) (leb b hi) e (λ x y. (leb-true lo b x, leb-true b hi y))
 
@@ -70,16 +67,16 @@ tag-word b e =
     (λ x. one-word b 95 x (unfold isWordByte in refl)))))
     (λ x. one-word b 46 x (unfold isWordByte in refl))
 
-tok-some : (l : List ℕ) → 1 ≤ length l → every isWordByte l ≡ true → isToken (word l) ≡ true
+pub word-token : (l : List ℕ) → 1 ≤ length l → every isWordByte l ≡ true → isToken (word l) ≡ true
 unfolding isToken
-tok-some [] h e = absurd (omega arith)
-tok-some (b ∷ l) h e = e
+word-token [] h e = absurd (omega arith)
+word-token (b ∷ l) h e = e
 
 -- a tag is a word
 pub tag-token : (w : List ℕ) → tagForm w ≡ true → isToken (word w) ≡ true
 unfolding tagForm notEmpty
 tag-token [] e = clash-bool e
-tag-token (b ∷ w) e = and-both (true && every isTagByte (b ∷ w)) _ e (λ x y. tok-some (b ∷ w) (omega arith) (every-map isTagByte isWordByte tag-word (b ∷ w) x))
+tag-token (b ∷ w) e = and-both (true && every isTagByte (b ∷ w)) _ e (λ x y. word-token (b ∷ w) (omega arith) (every-map isTagByte isWordByte tag-word (b ∷ w) x))
 
 nat-long : (l : List ℕ) → isNatural l ≡ true → 1 ≤ length l
 unfolding isNatural
@@ -98,8 +95,8 @@ int-tok n = go (ltb n bias)
     word-of m = every-map isDigit isWordByte digit-word (writeNat m) (natural-digits (writeNat m) (nat-natural m))
 
     go : (t : Bool) → isToken (word (pick t (45 ∷ writeNat (bias - n)) (writeNat (n - bias)))) ≡ true
-    go true = unfold pick in tok-some (45 ∷ writeNat (bias - n)) (omega arith) (rw dash (word-of (bias - n)))
-    go false = unfold pick in tok-some (writeNat (n - bias)) (nat-long (writeNat (n - bias)) (nat-natural (n - bias))) (word-of (n - bias))
+    go true = unfold pick in word-token (45 ∷ writeNat (bias - n)) (omega arith) (rw dash (word-of (bias - n)))
+    go false = unfold pick in word-token (writeNat (n - bias)) (nat-long (writeNat (n - bias)) (nat-natural (n - bias))) (word-of (n - bias))
 
 -- ---- values
 
@@ -137,7 +134,7 @@ unquoted-value : (r : Record) → r .kind ≡ 5 → bias + 1 ≤ r .least → r 
 unquoted-value r k l m =
     let n : length {A = ℕ} (replicate (r .least - bias) 97) ≡ r .least - bias = length-replicate {A = ℕ} (r .least - bias) 97 in
     let a : wordForm (r .kind) (replicate (r .least - bias) 97) ≡ true = form (replicate (r .least - bias) 97) in
-    (word (replicate (r .least - bias) 97), takes-word r (replicate (r .least - bias) 97) a (inside (replicate (r .least - bias) 97) (in-range (r .least) (r .most) (bias + length {A = ℕ} (replicate (r .least - bias) 97)) (omega arith) (omega arith))), tok-some (replicate (r .least - bias) 97) (omega arith) (every-rep isWordByte 97 (r .least - bias) (unfold isWordByte in refl)))
+    (word (replicate (r .least - bias) 97), takes-word r (replicate (r .least - bias) 97) a (inside (replicate (r .least - bias) 97) (in-range (r .least) (r .most) (bias + length {A = ℕ} (replicate (r .least - bias) 97)) (omega arith) (omega arith))), word-token (replicate (r .least - bias) 97) (omega arith) (every-rep isWordByte 97 (r .least - bias) (unfold isWordByte in refl)))
   where
     form : (w : List ℕ) → wordForm (r .kind) w ≡ true
     form w = ap (λ n. wordForm n w) k ∙ (unfold wordForm in refl)

@@ -1,10 +1,2 @@
-// The rules that a table obeys exactly when some definition compiles to it; the definitions are in specs/.
-ghost use mathlib.Core.Path.{_≡_};
-ghost use Rattle.numbers.specs.Limits.{parameterLimit};
-
-// The most parameters that a definition has.
-pub fn parameter_limit() -> usize
-    ensures { λ r. ⌜ r ≡ parameterLimit ⌝ }
-{
-    256
-}
+// The rules that a table obeys exactly when some definition compiles to it: the definitions are in specs/, what follows
+// from them in proofs/; no code.

@@ -8,6 +8,7 @@ use native.Mathlib.Omega.{arith}
 use lib.Dec.{eqb}
 use lib.ListN.{length, getD}
 use borrow.Author.Tests.{eq-eqb, ne-eqb}
+use Rattle.classes.proofs.Rows.{bytes-self}
 use Rattle.classes.specs.Lists.{sameBytes}
 use Rattle.numbers.specs.Limits.{none16}
 use Rattle.reading_rules.specs.Record.{Record, Up, top, under, isTop, sameUp, recordAt}
@@ -59,11 +60,6 @@ module _ (f : Record → Bool) where
 
 -- ---- the same tag
 
-same-self : (w : List ℕ) → sameBytes w w ≡ true
-unfolding sameBytes
-same-self [] = refl
-same-self (b ∷ w) = rw (eq-eqb b b refl) (same-self w)
-
 -- a field of p with r's label is one beside r with its wire tag, where r stands in p
 tagged-same : (p : ℕ) (r q : Record) → r .parent ≡ under p → isTaggedAs p (r .label) q ≡ hasWireTag q && (beside r q && sameBytes (q .label) (r .label))
 unfolding hasWireTag
@@ -112,7 +108,7 @@ module _ (t cs : List ℕ) (n i : ℕ) where
 
     self : isTaggedAs p (r .label) (recordAt rs i) ≡ true
     unfolding isUnder
-    self = rw (record-at t cs n i h, up, u, eq-eqb p p refl, same-self (r .label))
+    self = rw (record-at t cs n i h, up, u, eq-eqb p p refl, bytes-self (r .label))
 
     pub again : (w : List ℕ) (q : ℕ) → w ≡ r .label → schema.found q ≡ searched t cs n p w → not (eqb q i) ≡ tagRepeated rs i r
     again w q x y = ap (λ m. not (eqb q m)) (sym (zero-add i)) ∙ before-is (isTaggedAs p (r .label)) rs 0 i q (rw (length-records t cs n 0) h) self (sym (search-first t cs n p (r .label) l) ∙ (ap (searched t cs n p) (sym x) ∙ sym y)) ∙ sym repeated

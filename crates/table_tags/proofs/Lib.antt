@@ -4,3 +4,4 @@ mod Linking
 pub mod Searching
 -- a tag that stands twice
 mod Again
+pub mod Found

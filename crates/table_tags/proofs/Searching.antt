@@ -8,12 +8,12 @@ use native.Mathlib.Omega.{arith}
 use lib.Dec.{eqb, ltb}
 use lib.ListN.{length, getD}
 use borrow.Author.Tests.{eqb-true, eqb-false, lt-ltb, le-ltb, ltb-true}
+use Rattle.classes.proofs.Rows.{same-true}
 use Rattle.classes.specs.Lists.{pick, sameBytes}
 use Rattle.reading_rules.specs.Record.{Record, Up, top, under}
 use Rattle.reading_rules.specs.Schema as schema
 use Rattle.reading_rules.specs.Schema.{isUnder, isTaggedOf, isTaggedAs, firstWhere}
 use Rattle.reading_rules.proofs.CountLaws.{clash-bool, and-both}
-use Rattle.reading_rules.proofs.Rules.{same-bytes}
 use Rattle.definition_rules.specs.Table.{upNumber}
 use Rattle.table_records.specs.Stored.{headCells, cellIn, recordIn, recordsFrom, recordsAt}
 use Rattle.table_records.proofs.Laws.{records-more, records-end, records-all, records-agree}
@@ -89,7 +89,7 @@ links-records t cs after n l = records-agree t after cs n 0 (λ k a b. l .same k
 
 -- a field of p with the tag is in the tag's list
 tagged-key : (p : ℕ) (w : List ℕ) (r : Record) → isTaggedAs p w r ≡ true → keyIn r ≡ listKey p w
-tagged-key p w r e = and-both (isTaggedOf p r) (sameBytes (r .label) w) e (λ a b. and-both (isUnder p (r .parent)) (not (r .untagged)) a (λ c d. rw (up (r .parent) c, same-bytes (r .label) w b)))
+tagged-key p w r e = and-both (isTaggedOf p r) (sameBytes (r .label) w) e (λ a b. and-both (isUnder p (r .parent)) (not (r .untagged)) a (λ c d. rw (up (r .parent) c, same-true (r .label) w b)))
   where
     up : (u : Up) → isUnder p u ≡ true → upNumber u ≡ p
     up top e = unfold isUnder in (clash-bool e)

@@ -2,7 +2,7 @@
 // each record has a cell for the next one of its list. A cell holds a record's number and one, or 0 where the list ends.
 ghost use mathlib.Core.Path.{_≡_};
 ghost use Prim.Native.Nat.{ℕ, _+_, _*_, _≤_, _<_};
-ghost use lib.ListN.{length, getD, set};
+ghost use lib.ListN.{length};
 ghost use Rattle.numbers.specs.Limits.{parameterLimit};
 ghost use Rattle.reading_rules.specs.Schema.{isTaggedAs};
 ghost use Rattle.definition_rules.specs.Faults.{tagRepeated};
@@ -15,7 +15,8 @@ pub enum Found {
     At(usize),
 }
 
-const LISTS: usize = 64;
+// How many lists there are: each has its head in a cell that is no record's.
+const LISTS: usize = table_records::HEADS;
 
 // ---- the lists
 
@@ -38,29 +39,6 @@ fn key(p: usize, word: &[u8]) -> usize
     }
     (p % LISTS + n % LISTS + wide(word[n - 1]) + 10 * wide(word[n - 2]) + 100 * wide(word[n - 3]))
         % LISTS
-}
-
-fn head(unpacked: &[u32], k: usize) -> u32
-    ensures { λ r. ⌜ r ≡ getD (now (unpacked .entry)) k 0 ⌝ }
-{
-    if k < unpacked.len() {
-        return unpacked[k];
-    }
-    0
-}
-
-fn spread(x: u32) -> usize
-    ensures { λ r. ⌜ r ≡ x ⌝ }
-{
-    x as usize
-}
-
-fn put_head(unpacked: &mut [u32], k: usize, x: u32)
-    ensures { λ _. ⌜ now (unpacked .exit) ≡ set (now (unpacked .entry)) k x ⌝ }
-{
-    if k < unpacked.len() {
-        unpacked[k] = x;
-    }
 }
 
 // No record is in a list.
@@ -86,16 +64,16 @@ fn link_one(table: &[u8], unpacked: &mut [u32], i: usize)
         table_records::parent_at(table, unpacked, i),
         table_records::label_at(table, unpacked, i),
     );
-    let x = head(unpacked, k);
+    let x = numbers::cell_at(unpacked, k);
     table_records::set_link(unpacked, i, x);
-    put_head(unpacked, k, i as u32 + 1);
+    numbers::set_cell(unpacked, k, i as u32 + 1);
 }
 
 // Makes the lists of n records, if their cells are there.
 pub fn link(table: &[u8], unpacked: &mut [u32], n: usize)
     ensures { λ _. ⌜ (n ≤ parameterLimit → headCells + recordCells * n ≤ length (now (unpacked .entry)) → Links (now (table .entry)) (now (unpacked .entry)) n (now (unpacked .exit))) ⌝ }
 {
-    if 256 < n {
+    if numbers::PARAMETER_LIMIT < n {
         return;
     }
     clear(unpacked);
@@ -124,7 +102,7 @@ fn is_tagged_as(table: &[u8], unpacked: &[u32], p: usize, word: &[u8], i: usize)
 pub fn find(table: &[u8], unpacked: &[u32], n: usize, p: usize, word: &[u8]) -> Found
     ensures { λ r. ⌜ foundOf r ≡ searched (now (table .entry)) (now (unpacked .entry)) n p (now (word .entry)) ⌝ }
 {
-    let mut at = spread(head(unpacked, key(p, word)));
+    let mut at = numbers::wide(numbers::cell_at(unpacked, key(p, word)));
     let mut left = n;
     while 0 < left {
         if at == 0 {
@@ -151,7 +129,7 @@ pub fn tag_again(table: &[u8], unpacked: &[u32], n: usize, i: usize) -> bool
         return false;
     }
     let p = table_records::parent_at(table, unpacked, i);
-    if p == 65_535 {
+    if p == numbers::NONE16 {
         return false;
     }
     match find(

@@ -10,6 +10,9 @@ pub enum Walk {
     Bad,
 }
 
+// One past the flags that a record may have.
+const FLAGS_END: u16 = numbers::FLAGS_END as u16;
+
 fn wide(n: u16) -> usize
     ensures { λ r. ⌜ (r ≡ n) × (r < 65536) ⌝ }
 {
@@ -24,14 +27,16 @@ fn length_at(table: &[u8], at: usize) -> usize
         return 0;
     }
     let left = table.len() - at;
-    if left < 24 {
+    if left < numbers::RECORD_HEADER {
         return 0;
     }
     let size = wide(numbers::u16_at(table, at));
-    if size != 24 + wide(numbers::u16_at(table, at + 22)) {
+    if size
+        != numbers::RECORD_HEADER + wide(numbers::u16_at(table, at + numbers::LABEL_LENGTH_AT))
+    {
         return 0;
     }
-    if 8 <= numbers::u16_at(table, at + 6) {
+    if FLAGS_END <= numbers::u16_at(table, at + numbers::FLAGS_AT) {
         return 0;
     }
     if left < size {
@@ -47,7 +52,7 @@ pub fn unpack(table: &[u8], unpacked: &mut [u32]) -> Walk
     let mut n: usize = 0;
     let mut at: usize = 0;
     while at < table.len() {
-        if n == 256 {
+        if n == numbers::PARAMETER_LIMIT {
             return Walk::Bad;
         }
         let size = length_at(table, at);

@@ -1,9 +1,10 @@
 use native.Mathlib.Omega.{arith}
 use mathlib.Core.Path.{sym, ap, _∙_}
-use Rattle.definition.proofs.Text.{nothing, one, two, three, four, further, parents, keeps, keeps-refused, stuck-in, over-in, complete-in}
+use Rattle.definition.proofs.Text.{one, two, three, four, further, parents, keeps, keeps-refused, stuck-in, over-in, complete-in}
 use borrow.Author.Needs.{needs}
 use Rattle.definition.proofs.compile.Statement.{statement}
 use Rattle.definition.proofs.compile.Tie as tie
+use Rattle.definition_cells.proofs.PlaceLaws.{least-none}
 
 returns : tie.Need-returns
 returns c = keeps-refused _ (c .before .before .before .args .table .now) _ _ (one (c .before .before .before .args .text .now) (c .if1 .taken))
@@ -42,19 +43,19 @@ slice-aggregate-compile-declarations : tie.Need-slice-aggregate-compile-declarat
 slice-aggregate-compile-declarations c = search needs
 
 compile-declarations-requires : tie.Need-compile-declarations-requires
-compile-declarations-requires c κs = (((complete-in (c .before .before .before .before .before .before .before .before .before .before .before .before .before .before .before .args .text .now) _ _ _ (c .before .before .before .before .before .before .forms .ensures (nothing _ (sym (sym (c .before .before .before .before .before .before .before .before .before .enum-told .given .1) ∙ c .before .before .before .before .before .before .before .before .before .before .before .scan-fault .ensures)))) (c .before .before .before .n .given .1)) .few, c .before .before .before .before .before .before .before .before .before .before .before .before .if1 .left), parents (c .before .before .before .before .before .before .before .before .before .before .before .before .before .before .before .args .text .now) (c .before .before .before .before .before .before .before .before .before .before .before .before .if1 .left) (sym (c .before .before .before .before .before .before .before .before .before .enum-told .given .1) ∙ c .before .before .before .before .before .before .before .before .before .before .before .scan-fault .ensures) _ _ (complete-in (c .before .before .before .before .before .before .before .before .before .before .before .before .before .before .before .args .text .now) _ _ _ (c .before .before .before .before .before .before .forms .ensures (nothing _ (sym (sym (c .before .before .before .before .before .before .before .before .before .enum-told .given .1) ∙ c .before .before .before .before .before .before .before .before .before .before .before .scan-fault .ensures)))) (c .before .before .before .n .given .1)))
+compile-declarations-requires c κs = (((complete-in (c .before .before .before .before .before .before .before .before .before .before .before .before .before .before .before .args .text .now) _ _ _ (c .before .before .before .before .before .before .forms .ensures (least-none _ (sym (sym (c .before .before .before .before .before .before .before .before .before .enum-told .given .1) ∙ c .before .before .before .before .before .before .before .before .before .before .before .scan-fault .ensures)))) (c .before .before .before .n .given .1)) .few, c .before .before .before .before .before .before .before .before .before .before .before .before .if1 .left), parents (c .before .before .before .before .before .before .before .before .before .before .before .before .before .before .before .args .text .now) (c .before .before .before .before .before .before .before .before .before .before .before .before .if1 .left) (sym (c .before .before .before .before .before .before .before .before .before .enum-told .given .1) ∙ c .before .before .before .before .before .before .before .before .before .before .before .scan-fault .ensures) _ _ (complete-in (c .before .before .before .before .before .before .before .before .before .before .before .before .before .before .before .args .text .now) _ _ _ (c .before .before .before .before .before .before .forms .ensures (least-none _ (sym (sym (c .before .before .before .before .before .before .before .before .before .enum-told .given .1) ∙ c .before .before .before .before .before .before .before .before .before .before .before .scan-fault .ensures)))) (c .before .before .before .n .given .1)))
 
 returns-3 : tie.Need-returns-3
-returns-3 c = keeps-refused _ (c .before .before .before .before .before .before .before .before .before .before .before .before .before .args .table .now) _ _ (three (c .before .before .before .before .before .before .before .before .before .before .before .before .before .args .text .now) (c .before .before .before .before .before .before .before .before .before .before .if1 .left) (sym (c .before .before .before .before .before .before .before .enum-told .given .1) ∙ c .before .before .before .before .before .before .before .before .before .scan-fault .ensures) _ (stuck-in (c .before .before .before .before .before .before .before .before .before .before .before .before .before .args .text .now) _ _ _ (c .before .before .before .before .forms .ensures (nothing _ (sym (sym (c .before .before .before .before .before .before .before .enum-told .given .1) ∙ c .before .before .before .before .before .before .before .before .before .scan-fault .ensures)))) (c .before .p2 .given .1)))
+returns-3 c = keeps-refused _ (c .before .before .before .before .before .before .before .before .before .before .before .before .before .args .table .now) _ _ (three (c .before .before .before .before .before .before .before .before .before .before .before .before .before .args .text .now) (c .before .before .before .before .before .before .before .before .before .before .if1 .left) (sym (c .before .before .before .before .before .before .before .enum-told .given .1) ∙ c .before .before .before .before .before .before .before .before .before .scan-fault .ensures) _ (stuck-in (c .before .before .before .before .before .before .before .before .before .before .before .before .before .args .text .now) _ _ _ (c .before .before .before .before .forms .ensures (least-none _ (sym (sym (c .before .before .before .before .before .before .before .enum-told .given .1) ∙ c .before .before .before .before .before .before .before .before .before .scan-fault .ensures)))) (c .before .p2 .given .1)))
 
 returns-4 : tie.Need-returns-4
-returns-4 c = keeps-refused _ (c .before .before .before .before .before .before .before .before .before .before .before .before .before .args .table .now) _ _ (four (c .before .before .before .before .before .before .before .before .before .before .before .before .before .args .text .now) (c .before .before .before .before .before .before .before .before .before .before .if1 .left) (sym (c .before .before .before .before .before .before .before .enum-told .given .1) ∙ c .before .before .before .before .before .before .before .before .before .scan-fault .ensures) _ (over-in (c .before .before .before .before .before .before .before .before .before .before .before .before .before .args .text .now) _ _ _ (c .before .before .before .before .forms .ensures (nothing _ (sym (sym (c .before .before .before .before .before .before .before .enum-told .given .1) ∙ c .before .before .before .before .before .before .before .before .before .scan-fault .ensures)))) (c .before .p3 .given .1)))
+returns-4 c = keeps-refused _ (c .before .before .before .before .before .before .before .before .before .before .before .before .before .args .table .now) _ _ (four (c .before .before .before .before .before .before .before .before .before .before .before .before .before .args .text .now) (c .before .before .before .before .before .before .before .before .before .before .if1 .left) (sym (c .before .before .before .before .before .before .before .enum-told .given .1) ∙ c .before .before .before .before .before .before .before .before .before .scan-fault .ensures) _ (over-in (c .before .before .before .before .before .before .before .before .before .before .before .before .before .args .text .now) _ _ _ (c .before .before .before .before .forms .ensures (least-none _ (sym (sym (c .before .before .before .before .before .before .before .enum-told .given .1) ∙ c .before .before .before .before .before .before .before .before .before .scan-fault .ensures)))) (c .before .p3 .given .1)))
 
 same-length : tie.Need-same-length
 same-length c = search needs
 
 returns-5 : tie.Need-returns-5
-returns-5 c = keeps _ (c .before .before .before .before .before .before .before .before .before .before .before .before .before .before .before .before .before .before .args .table .now) _ _ _ (further (c .before .before .before .before .before .before .before .before .before .before .before .before .before .before .before .before .before .before .args .text .now) (c .before .before .before .before .before .before .before .before .before .before .before .before .before .before .before .if1 .left) (sym (c .before .before .before .before .before .before .before .before .before .before .before .before .enum-told .given .1) ∙ c .before .before .before .before .before .before .before .before .before .before .before .before .before .before .scan-fault .ensures) _ _ (complete-in (c .before .before .before .before .before .before .before .before .before .before .before .before .before .before .before .before .before .before .args .text .now) _ _ _ (c .before .before .before .before .before .before .before .before .before .forms .ensures (nothing _ (sym (sym (c .before .before .before .before .before .before .before .before .before .before .before .before .enum-told .given .1) ∙ c .before .before .before .before .before .before .before .before .before .before .before .before .before .before .scan-fault .ensures)))) (c .before .before .before .before .before .before .n .given .1))) (c .before .before .compile-declarations .ensures)
+returns-5 c = keeps _ (c .before .before .before .before .before .before .before .before .before .before .before .before .before .before .before .before .before .before .args .table .now) _ _ _ (further (c .before .before .before .before .before .before .before .before .before .before .before .before .before .before .before .before .before .before .args .text .now) (c .before .before .before .before .before .before .before .before .before .before .before .before .before .before .before .if1 .left) (sym (c .before .before .before .before .before .before .before .before .before .before .before .before .enum-told .given .1) ∙ c .before .before .before .before .before .before .before .before .before .before .before .before .before .before .scan-fault .ensures) _ _ (complete-in (c .before .before .before .before .before .before .before .before .before .before .before .before .before .before .before .before .before .before .args .text .now) _ _ _ (c .before .before .before .before .before .before .before .before .before .forms .ensures (least-none _ (sym (sym (c .before .before .before .before .before .before .before .before .before .before .before .before .enum-told .given .1) ∙ c .before .before .before .before .before .before .before .before .before .before .before .before .before .before .scan-fault .ensures)))) (c .before .before .before .before .before .before .n .given .1))) (c .before .before .compile-declarations .ensures)
 
 pub compile-spec : {M : Type 1} → statement M
 compile-spec =

@@ -4,7 +4,8 @@ use Prim.Native.Nat.{_≤_, _-_}
 use native.Mathlib.Omega.{arith}
 use lib.ListN.{length, take}
 use lib.Seq.{sets, take-all}
-use Rattle.definition_writer.proofs.WriteLaws.{sets-out, copy-more}
+use Rattle.classes.proofs.Stores.{sets-out}
+use Rattle.definition_writer.proofs.WriteLaws.{copy-more}
 use Rattle.definition_writer.proofs.put_bytes.Statement.{statement}
 use Rattle.definition_writer.proofs.put_bytes.Tie as tie
 

@@ -1,7 +1,8 @@
 use mathlib.Core.Path.{_≡_, refl, sym, ap, _∙_}
 use native.Mathlib.Omega.{arith}
+use Rattle.classes.proofs.Stores.{sets-out}
 use Rattle.definition_writer.specs.Written.{cutBytes, recordWritten}
-use Rattle.definition_writer.proofs.WriteLaws.{sets-out, record-is}
+use Rattle.definition_writer.proofs.WriteLaws.{record-is}
 use borrow.Author.Needs.{needs}
 use Rattle.definition_writer.proofs.write_record.Statement.{statement}
 use Rattle.definition_writer.proofs.write_record.Tie as tie

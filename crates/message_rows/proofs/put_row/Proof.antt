@@ -1,8 +1,9 @@
 use native.Mathlib.Omega.{arith}
 use Prim.Native.Nat.{_*_}
 use lib.ListN.{length-set}
+use Rattle.classes.proofs.Stores.{four-sets}
 use Rattle.message_rules.specs.Rows.{cells}
-use Rattle.message_rows.proofs.Stores.{row-cells, row-out}
+use Rattle.message_rows.proofs.Stores.{row-out}
 use borrow.Author.Needs.{needs}
 use Rattle.message_rows.proofs.put_row.Statement.{statement}
 use Rattle.message_rows.proofs.put_row.Tie as tie
@@ -67,7 +68,7 @@ same-length c = search needs
 
 returns-2 : tie.Need-returns-2
 unfolding cells
-returns-2 c = row-cells (c .before .before .before .before .before .before .before .args .rows .now) (4 * c .before .before .before .before .before .before .before .args .row) (c .before .before .before .before .before .before .before .args .r .parameter) (c .before .before .before .before .before .before .before .args .r .parent) (c .before .before .before .before .before .before .before .args .r .start) (c .before .before .before .before .before .before .before .args .r .end)
+returns-2 c = four-sets (c .before .before .before .before .before .before .before .args .rows .now) (4 * c .before .before .before .before .before .before .before .args .row) (c .before .before .before .before .before .before .before .args .r .parameter) (c .before .before .before .before .before .before .before .args .r .parent) (c .before .before .before .before .before .before .before .args .r .start) (c .before .before .before .before .before .before .before .args .r .end)
 
 put-requires : tie.Need-put-requires
 put-requires c κs = search needs
@@ -95,7 +96,7 @@ same-length-2 c = search needs
 
 returns-3 : tie.Need-returns-3
 unfolding cells
-returns-3 c = cc (row-cells (c .before .before .before .before .before .before .before .before .before .before .before .before .before .before .before .before .before .before .before .args .rows .now) (4 * c .before .before .before .before .before .before .before .before .before .before .before .before .before .before .before .before .before .before .before .args .row) (c .before .before .before .before .before .before .before .before .before .before .before .before .before .before .before .before .before .before .before .args .r .parameter) (c .before .before .before .before .before .before .before .before .before .before .before .before .before .before .before .before .before .before .before .args .r .parent) (c .before .before .before .before .before .before .before .before .before .before .before .before .before .before .before .before .before .before .before .args .r .start) (c .before .before .before .before .before .before .before .before .before .before .before .before .before .before .before .before .before .before .before .args .r .end))
+returns-3 c = cc (four-sets (c .before .before .before .before .before .before .before .before .before .before .before .before .before .before .before .before .before .before .before .args .rows .now) (4 * c .before .before .before .before .before .before .before .before .before .before .before .before .before .before .before .before .before .before .before .args .row) (c .before .before .before .before .before .before .before .before .before .before .before .before .before .before .before .before .before .before .before .args .r .parameter) (c .before .before .before .before .before .before .before .before .before .before .before .before .before .before .before .before .before .before .before .args .r .parent) (c .before .before .before .before .before .before .before .before .before .before .before .before .before .before .before .before .before .before .before .args .r .start) (c .before .before .before .before .before .before .before .before .before .before .before .before .before .before .before .before .before .before .before .args .r .end))
 
 pub put-row-spec : {M : Type 1} → statement M
 put-row-spec =

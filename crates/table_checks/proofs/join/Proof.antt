@@ -11,21 +11,21 @@ returns : tie.Need-returns
 unfolding gathered
 returns c = rw (parent-top (c .before .before .before .before .before .before .args .table .now) (c .before .before .before .before .before .before .args .unpacked .now) (c .before .before .before .before .before .before .args .i) _ (c .before .parent-at .ensures) (c .if1 .taken))
 
-has-requires : tie.Need-has-requires
-has-requires c κs = search needs
+mark-at-requires : tie.Need-mark-at-requires
+mark-at-requires c κs = search needs
 
 joined-requires : tie.Need-joined-requires
 joined-requires c κs = search needs
 
-put-requires : tie.Need-put-requires
-put-requires c κs = search needs
+set-mark-requires : tie.Need-set-mark-requires
+set-mark-requires c κs = search needs
 
 same-length : tie.Need-same-length
 same-length c = search needs
 
 returns-2 : tie.Need-returns-2
 unfolding gathered
-returns-2 c = rw (parent-under (c .before .before .before .before .before .before .before .before .before .before .before .before .before .args .table .now) (c .before .before .before .before .before .before .before .before .before .before .before .before .before .args .unpacked .now) (c .before .before .before .before .before .before .before .before .before .before .before .before .before .args .i) _ (c .before .before .before .before .before .before .before .before .parent-at .ensures) (c .before .before .before .before .before .before .before .if1 .left), c .before .before .put .ensures, c .before .before .before .before .joined .ensures, c .before .before .before .before .before .has .ensures)
+returns-2 c = rw (parent-under (c .before .before .before .before .before .before .before .before .before .before .before .before .before .args .table .now) (c .before .before .before .before .before .before .before .before .before .before .before .before .before .args .unpacked .now) (c .before .before .before .before .before .before .before .before .before .before .before .before .before .args .i) _ (c .before .before .before .before .before .before .before .before .parent-at .ensures) (c .before .before .before .before .before .before .before .if1 .left), c .before .before .set-mark .ensures, c .before .before .before .before .joined .ensures, c .before .before .before .before .before .mark-at .ensures)
 
 pub join-spec : {M : Type 1} → statement M
 join-spec =
@@ -33,8 +33,8 @@ join-spec =
     (tie.spec
     parent-at-requires
     returns
-    has-requires
+    mark-at-requires
     joined-requires
-    put-requires
+    set-mark-requires
     same-length
     returns-2)

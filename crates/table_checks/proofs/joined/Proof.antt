@@ -14,19 +14,19 @@ ends-needs-requires c κs = search needs
 can-do-without-requires : tie.Need-can-do-without-requires
 can-do-without-requires c κs = search needs
 
-has-requires : tie.Need-has-requires
-has-requires c κs = search needs
+mark-at-requires : tie.Need-mark-at-requires
+mark-at-requires c κs = search needs
 
 returns : tie.Need-returns
 unfolding stepWith pick
-returns c = rw (eq-eqb _ 8 (rw (c .before .before .before .before .kind-at .ensures) at (c .before .before .before .if1 .taken)), c .before .before .ends-needs .ensures, c .before .can-do-without .ensures, c .has .ensures)
+returns c = rw (eq-eqb _ 8 (rw (c .before .before .before .before .kind-at .ensures) at (c .before .before .before .if1 .taken)), c .before .before .ends-needs .ensures, c .before .can-do-without .ensures, c .mark-at .ensures)
 
-has-requires-2 : tie.Need-has-requires-2
-has-requires-2 c κs = search needs
+mark-at-requires-2 : tie.Need-mark-at-requires-2
+mark-at-requires-2 c κs = search needs
 
 returns-2 : tie.Need-returns-2
 unfolding stepWith pick
-returns-2 c = rw (ne-eqb _ 8 (rw (c .before .before .before .kind-at .ensures) at (c .before .before .if1 .left)), eq-eqb _ 9 (rw (c .before .before .before .kind-at .ensures) at (c .before .if2 .taken)), c .has2 .ensures)
+returns-2 c = rw (ne-eqb _ 8 (rw (c .before .before .before .kind-at .ensures) at (c .before .before .if1 .left)), eq-eqb _ 9 (rw (c .before .before .before .kind-at .ensures) at (c .before .if2 .taken)), c .mark-at2 .ensures)
 
 returns-3 : tie.Need-returns-3
 unfolding stepWith pick
@@ -39,8 +39,8 @@ joined-spec =
     kind-at-requires
     ends-needs-requires
     can-do-without-requires
-    has-requires
+    mark-at-requires
     returns
-    has-requires-2
+    mark-at-requires-2
     returns-2
     returns-3)

@@ -18,17 +18,17 @@ abbrev μ-loop : tie.MeasureT-loop
 loop-holds : tie.Need-loop-holds Inv-loop μ-loop
 loop-holds c = (refl, omega arith)
 
-sub-cell : tie.Need-sub-cell Inv-loop μ-loop
-sub-cell c = search needs
+sub-cell-at : tie.Need-sub-cell-at Inv-loop μ-loop
+sub-cell-at c = search needs
 
-cell-requires : tie.Need-cell-requires Inv-loop μ-loop
-cell-requires c κs = search needs
+cell-at-requires : tie.Need-cell-at-requires Inv-loop μ-loop
+cell-at-requires c κs = search needs
 
 is-open-requires : tie.Need-is-open-requires Inv-loop μ-loop
 is-open-requires c κs = search needs
 
 returns : tie.Need-returns Inv-loop μ-loop
-returns c = (closed-here (c .before .before .before .before .before .before .args .bodies .now) (c .before .before .before .before .loop .d) (numberUp (c .before .before .before .before .before .before .args .p)) (c .before .before .before .loop-test .taken) (ap (λ (x : ℕ). isOpen (numberUp (c .before .before .before .before .before .before .args .p)) (x / 2)) (sym (c .before .before .cell .ensures)) ∙ sym (c .before .is-open .ensures) ∙ c .if1 .taken) ∙ sym (c .before .before .before .before .loop .inv .0), c .before .before .before .before .loop .inv .1)
+returns c = (closed-here (c .before .before .before .before .before .before .args .bodies .now) (c .before .before .before .before .loop .d) (numberUp (c .before .before .before .before .before .before .args .p)) (c .before .before .before .loop-test .taken) (ap (λ (x : ℕ). isOpen (numberUp (c .before .before .before .before .before .before .args .p)) (x / 2)) (sym (c .before .before .cell-at .ensures)) ∙ sym (c .before .is-open .ensures) ∙ c .if1 .taken) ∙ sym (c .before .before .before .before .loop .inv .0), c .before .before .before .before .loop .inv .1)
 
 sub-d : tie.Need-sub-d Inv-loop μ-loop
 sub-d c = search needs
@@ -37,7 +37,7 @@ loop-less : tie.Need-loop-less Inv-loop μ-loop
 loop-less c = search needs
 
 loop-again : tie.Need-loop-again Inv-loop μ-loop
-loop-again c = (c .before .before .before .before .loop .inv .0 ∙ closed-more (c .before .before .before .before .before .before .args .bodies .now) (c .before .before .before .before .loop .d) (numberUp (c .before .before .before .before .before .before .args .p)) (c .before .before .before .loop-test .taken) (ap (λ (x : ℕ). isOpen (numberUp (c .before .before .before .before .before .before .args .p)) (x / 2)) (sym (c .before .before .cell .ensures)) ∙ sym (c .before .is-open .ensures) ∙ c .if1 .left), omega arith)
+loop-again c = (c .before .before .before .before .loop .inv .0 ∙ closed-more (c .before .before .before .before .before .before .args .bodies .now) (c .before .before .before .before .loop .d) (numberUp (c .before .before .before .before .before .before .args .p)) (c .before .before .before .loop-test .taken) (ap (λ (x : ℕ). isOpen (numberUp (c .before .before .before .before .before .before .args .p)) (x / 2)) (sym (c .before .before .cell-at .ensures)) ∙ sym (c .before .is-open .ensures) ∙ c .if1 .left), omega arith)
 
 returns-2 : tie.Need-returns-2 Inv-loop μ-loop
 returns-2 c = (closed-end (c .before .before .before .args .bodies .now) (c .before .loop .d) (numberUp (c .before .before .before .args .p)) (c .loop-test .left) ∙ sym (c .before .loop .inv .0), omega arith)
@@ -49,8 +49,8 @@ closed-to-spec =
     Inv-loop
     μ-loop
     loop-holds
-    sub-cell
-    cell-requires
+    sub-cell-at
+    cell-at-requires
     is-open-requires
     returns
     sub-d

@@ -21,14 +21,14 @@ kind-at-requires c κs = search needs
 is-compound-requires : tie.Need-is-compound-requires
 is-compound-requires c κs = search needs
 
-cast-put : tie.Need-cast-put
-cast-put c = search needs
+cast-set-cell : tie.Need-cast-set-cell
+cast-set-cell c = search needs
 
-mul-put : tie.Need-mul-put
-mul-put c = search needs
+mul-set-cell : tie.Need-mul-set-cell
+mul-set-cell c = search needs
 
-put-requires : tie.Need-put-requires
-put-requires c κs = search needs
+set-cell-requires : tie.Need-set-cell-requires
+set-cell-requires c κs = search needs
 
 add-result : tie.Need-add-result
 add-result c = search needs
@@ -37,7 +37,7 @@ same-length : tie.Need-same-length
 same-length c = search needs
 
 returns : tie.Need-returns
-returns c = (rw (c .before .before .put .ensures) (opened-yes (c .before .before .before .before .before .before .before .before .before .note-extension .last .0) (c .before .before .before .before .before .before .before .before .before .before .before .before .before .before .before .args .depth) (c .before .before .before .before .before .before .before .before .before .before .before .before .before .before .before .args .i) (inExtension ((recordIn (c .before .before .before .before .before .before .before .before .before .before .before .before .before .before .before .args .table .now) (c .before .before .before .before .before .before .before .before .before .before .before .before .before .before .before .args .unpacked .now) (c .before .before .before .before .before .before .before .before .before .before .before .before .before .before .before .args .i)) .extension) (framesOf (c .before .before .before .before .before .before .before .before .before .before .before .before .before .before .before .args .bodies .now) (c .before .before .before .before .before .before .before .before .before .before .before .before .before .before .before .args .depth))) (kindIsCompound ((recordIn (c .before .before .before .before .before .before .before .before .before .before .before .before .before .before .before .args .table .now) (c .before .before .before .before .before .before .before .before .before .before .before .before .before .before .before .args .unpacked .now) (c .before .before .before .before .before .before .before .before .before .before .before .before .before .before .before .args .i)) .kind)) (rw (c .before .before .before .before .before .before .before .before .before .before .extension-at .ensures) at (c .before .before .before .before .before .before .before .before .before .note-extension .ensures)) (omega (arith, c .before .before .before .before .before .before .before .before .before .note-extension .kept .0, c .before .before .before .before .before .before .before .before .before .before .before .before .before .before .before .pre .2 (ap kindIsCompound (sym (c .before .before .before .before .before .before .kind-at .ensures)) ∙ (sym (c .before .before .before .before .before .is-compound .ensures) ∙ c .before .before .before .before .if1 .taken)))) (ap kindIsCompound (sym (c .before .before .before .before .before .before .kind-at .ensures)) ∙ (sym (c .before .before .before .before .before .is-compound .ensures) ∙ c .before .before .before .before .if1 .taken))), omega (arith, c .before .before .before .before .before .before .before .before .before .before .before .before .before .before .before .pre .2 (ap kindIsCompound (sym (c .before .before .before .before .before .before .kind-at .ensures)) ∙ (sym (c .before .before .before .before .before .is-compound .ensures) ∙ c .before .before .before .before .if1 .taken))))
+returns c = (rw (c .before .before .set-cell .ensures) (opened-yes (c .before .before .before .before .before .before .before .before .before .note-extension .last .0) (c .before .before .before .before .before .before .before .before .before .before .before .before .before .before .before .args .depth) (c .before .before .before .before .before .before .before .before .before .before .before .before .before .before .before .args .i) (inExtension ((recordIn (c .before .before .before .before .before .before .before .before .before .before .before .before .before .before .before .args .table .now) (c .before .before .before .before .before .before .before .before .before .before .before .before .before .before .before .args .unpacked .now) (c .before .before .before .before .before .before .before .before .before .before .before .before .before .before .before .args .i)) .extension) (framesOf (c .before .before .before .before .before .before .before .before .before .before .before .before .before .before .before .args .bodies .now) (c .before .before .before .before .before .before .before .before .before .before .before .before .before .before .before .args .depth))) (kindIsCompound ((recordIn (c .before .before .before .before .before .before .before .before .before .before .before .before .before .before .before .args .table .now) (c .before .before .before .before .before .before .before .before .before .before .before .before .before .before .before .args .unpacked .now) (c .before .before .before .before .before .before .before .before .before .before .before .before .before .before .before .args .i)) .kind)) (rw (c .before .before .before .before .before .before .before .before .before .before .extension-at .ensures) at (c .before .before .before .before .before .before .before .before .before .note-extension .ensures)) (omega (arith, c .before .before .before .before .before .before .before .before .before .note-extension .kept .0, c .before .before .before .before .before .before .before .before .before .before .before .before .before .before .before .pre .2 (ap kindIsCompound (sym (c .before .before .before .before .before .before .kind-at .ensures)) ∙ (sym (c .before .before .before .before .before .is-compound .ensures) ∙ c .before .before .before .before .if1 .taken)))) (ap kindIsCompound (sym (c .before .before .before .before .before .before .kind-at .ensures)) ∙ (sym (c .before .before .before .before .before .is-compound .ensures) ∙ c .before .before .before .before .if1 .taken))), omega (arith, c .before .before .before .before .before .before .before .before .before .before .before .before .before .before .before .pre .2 (ap kindIsCompound (sym (c .before .before .before .before .before .before .kind-at .ensures)) ∙ (sym (c .before .before .before .before .before .is-compound .ensures) ∙ c .before .before .before .before .if1 .taken))))
 
 same-length-2 : tie.Need-same-length-2
 same-length-2 c = search needs
@@ -53,9 +53,9 @@ opened-spec =
     note-extension-requires
     kind-at-requires
     is-compound-requires
-    cast-put
-    mul-put
-    put-requires
+    cast-set-cell
+    mul-set-cell
+    set-cell-requires
     add-result
     same-length
     returns

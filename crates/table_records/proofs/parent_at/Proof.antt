@@ -1,9 +1,9 @@
 use mathlib.Core.Path.{_∙_, sym}
 use Rattle.table_records.specs.Stored.{recordIn}
-use Rattle.table_records.proofs.Fields.{up-number}
 use borrow.Author.Needs.{needs}
 use Rattle.table_records.proofs.parent_at.Statement.{statement}
 use Rattle.table_records.proofs.parent_at.Tie as tie
+use Rattle.definition_rules.proofs.TableLaws.{up-number}
 
 cell-requires : tie.Need-cell-requires
 cell-requires c κs = search needs

@@ -12,26 +12,26 @@ label-at-requires c κs = search needs
 key-requires : tie.Need-key-requires
 key-requires c κs = search needs
 
-head-requires : tie.Need-head-requires
-head-requires c κs = search needs
+cell-at-requires : tie.Need-cell-at-requires
+cell-at-requires c κs = search needs
 
 set-link-requires : tie.Need-set-link-requires
 set-link-requires c κs = search needs
 
-cast-put-head : tie.Need-cast-put-head
-cast-put-head c = search needs
+cast-set-cell : tie.Need-cast-set-cell
+cast-set-cell c = search needs
 
-add-put-head : tie.Need-add-put-head
-add-put-head c = search needs
+add-set-cell : tie.Need-add-set-cell
+add-set-cell c = search needs
 
-put-head-requires : tie.Need-put-head-requires
-put-head-requires c κs = search needs
+set-cell-requires : tie.Need-set-cell-requires
+set-cell-requires c κs = search needs
 
 same-length : tie.Need-same-length
 same-length c = search needs
 
 returns : tie.Need-returns
-returns c = c .before .before .put-head .ensures ∙ rw (c .before .before .before .before .before .before .set-link .ensures, c .before .before .before .before .before .before .before .before .head .ensures, c .before .before .before .before .before .before .before .before .before .before .key .ensures, c .before .before .before .before .before .before .before .before .before .before .before .before .before .parent-at .ensures, c .before .before .before .before .before .before .before .before .before .before .before .label-at .ensures)
+returns c = c .before .before .set-cell .ensures ∙ rw (c .before .before .before .before .before .before .set-link .ensures, c .before .before .before .before .before .before .before .before .cell-at .ensures, c .before .before .before .before .before .before .before .before .before .before .key .ensures, c .before .before .before .before .before .before .before .before .before .before .before .before .before .parent-at .ensures, c .before .before .before .before .before .before .before .before .before .before .before .label-at .ensures)
 
 pub link-one-spec : {M : Type 1} → statement M
 link-one-spec =
@@ -40,10 +40,10 @@ link-one-spec =
     parent-at-requires
     label-at-requires
     key-requires
-    head-requires
+    cell-at-requires
     set-link-requires
-    cast-put-head
-    add-put-head
-    put-head-requires
+    cast-set-cell
+    add-set-cell
+    set-cell-requires
     same-length
     returns)

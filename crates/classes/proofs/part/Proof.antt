@@ -1,0 +1,66 @@
+use native.Mathlib.Omega.{arith}
+use Rattle.classes.proofs.Rows.{part-over, part-none, part-back}
+use borrow.Author.Needs.{needs}
+use Rattle.classes.proofs.part.Statement.{statement}
+use Rattle.classes.proofs.part.Tie as tie
+
+part-result-start : tie.Need-part-result-start
+part-result-start c = search needs
+
+part-result-end : tie.Need-part-result-end
+part-result-end c = search needs
+
+returns : tie.Need-returns
+returns c = part-over _ _ _ (c .before .before .if1 .taken)
+
+sub-result : tie.Need-sub-result
+sub-result c = search needs
+
+part-result-start-2 : tie.Need-part-result-start-2
+part-result-start-2 c = search needs
+
+part-result-end-2 : tie.Need-part-result-end-2
+part-result-end-2 c = search needs
+
+returns-2 : tie.Need-returns-2
+returns-2 c = part-none _ _ _ (c .before .if2 .left)
+
+part-result-start-3 : tie.Need-part-result-start-3
+part-result-start-3 c = search needs
+
+part-result-end-3 : tie.Need-part-result-end-3
+part-result-end-3 c = search needs
+
+returns-3 : tie.Need-returns-3
+returns-3 c = search needs
+
+sub-result-2 : tie.Need-sub-result-2
+sub-result-2 c = search needs
+
+part-result-start-4 : tie.Need-part-result-start-4
+part-result-start-4 c = search needs
+
+part-result-end-4 : tie.Need-part-result-end-4
+part-result-end-4 c = search needs
+
+returns-4 : tie.Need-returns-4
+returns-4 c = part-back (c .before .before .before .args .s .now) (c .before .before .before .args .a) (c .before .before .before .args .e) (omega arith)
+
+pub part-spec : {M : Type 1} → statement M
+part-spec =
+    tie.close
+    (tie.spec
+    part-result-start
+    part-result-end
+    returns
+    sub-result
+    part-result-start-2
+    part-result-end-2
+    returns-2
+    part-result-start-3
+    part-result-end-3
+    returns-3
+    sub-result-2
+    part-result-start-4
+    part-result-end-4
+    returns-4)
