@@ -8,9 +8,23 @@ use lib.Dec.{eqb}
 use lib.ListN.{length, drop}
 use Rattle.classes.specs.Lists.{pick, All}
 use Rattle.definition_rules.specs.Words.{ByteClass, inRun, blank, single, slash, other, classOf}
-use Rattle.definition_rules.specs.Scan.{TextToken, run, mark, Item, gap, item, bad, ScanState, outside, lineComment, opening, comment, star, joinRun, startsWith, scan, badPlaces, isDeepBrace, bracesAfter, placeIf, deepPlaces}
+use Rattle.definition_rules.specs.Scan.{TextToken, run, mark, Item, gap, item, bad, ScanState, outside, lineComment, opening, comment, star, joinRun, startsWith, scan, badPlaces, isDeepBrace, bracesAfter, placeIf, deepPlaces, textTokensOf, placesOf}
 use Rattle.definition_rules.proofs.ScanLaws.{at-blank, at-single, at-other, at-slash, at-run}
 use Rattle.definition_scanner.specs.Live.{live, liveFrom, Ahead}
+
+pub tokens-live : (is : List Item) → textTokensOf (live is) ≡ textTokensOf is
+unfolding live textTokensOf
+tokens-live [] = refl
+tokens-live (gap ∷ r) = tokens-live r
+tokens-live (bad p ∷ r) = tokens-live r
+tokens-live (item p t ∷ r) = ap (λ l. t ∷ l) (tokens-live r)
+
+pub places-live : (is : List Item) → placesOf (live is) ≡ placesOf is
+unfolding live placesOf
+places-live [] = refl
+places-live (gap ∷ r) = places-live r
+places-live (bad p ∷ r) = places-live r
+places-live (item p t ∷ r) = ap (λ l. p ∷ l) (places-live r)
 
 pub bad-live : (is : List Item) → badPlaces (live is) ≡ badPlaces is
 unfolding live badPlaces

@@ -25,7 +25,7 @@ use Rattle.message_rules.proofs.Spelling.{spelled-cut, message-spelled,
 use Rattle.message_rules.proofs.Fuel.{Fine, fine-number, body-fine}
 
 -- no brace too deep among the lexemes: so among their tokens
-flat-tokens : (n : ℕ) (ls : List Lexeme) → tooDeep n ls ≡ nowhere → shallow openLimit n (tokensOf ls) ≡ true
+pub flat-tokens : (n : ℕ) (ls : List Lexeme) → tooDeep n ls ≡ nowhere → shallow openLimit n (tokensOf ls) ≡ true
 unfolding tooDeep shallow tokensOf
 flat-tokens n [] e = refl
 flat-tokens n (l ∷ ls) e = go (isOpening (l .token) && leb openLimit n) e (flat-tokens (openAfter n (l .token)) ls)
@@ -34,7 +34,7 @@ flat-tokens n (l ∷ ls) e = go (isOpening (l .token) && leb openLimit n) e (fla
     go true a k = let z : _≡_ {A = ℕ} 0 1 = cc in absurd (omega arith)
     go false a k = k a
 
-flat-lexemes : (n : ℕ) (ls : List Lexeme) → shallow openLimit n (tokensOf ls) ≡ true → tooDeep n ls ≡ nowhere
+pub flat-lexemes : (n : ℕ) (ls : List Lexeme) → shallow openLimit n (tokensOf ls) ≡ true → tooDeep n ls ≡ nowhere
 unfolding tooDeep shallow tokensOf
 flat-lexemes n [] e = refl
 flat-lexemes n (l ∷ ls) e = go (isOpening (l .token) && leb openLimit n) e (flat-lexemes (openAfter n (l .token)) ls)

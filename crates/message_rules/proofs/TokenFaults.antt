@@ -11,6 +11,7 @@ use Rattle.reading_rules.specs.Token.{Token}
 use Rattle.reading_rules.specs.Schema.{Found, nowhere, found}
 use Rattle.reading_rules.proofs.CountLaws.{clash-bool}
 use Rattle.message_rules.specs.Scan.{Lexeme, Spelled, Faulty, CutResult, cut, tokensOf, openAfter, isOpening, tooDeep, shallow, TokensAre, TokenFault, badByte, deepBrace, either, scanFault}
+use Rattle.message_rules.proofs.Promises.{flat-tokens, flat-lexemes}
 use Rattle.message_rules.proofs.Spelling.{message-spelled, spelled-once, message-bad, message-faulty, bad-unspelled}
 
 -- ---- the first brace too deep
@@ -55,24 +56,6 @@ at-deep n (m ∷ ms) l rest f d = by (isOpening (m .token) && leb openLimit n) r
     by true q k f d = clash-bool f
     by false q k f d = rw q (k f d)
 
-flat-none : (n : ℕ) (ls : List Lexeme) → shallow openLimit n (tokensOf ls) ≡ true → tooDeep n ls ≡ nowhere
-unfolding tooDeep shallow tokensOf
-flat-none n [] f = refl
-flat-none n (l ∷ ls) f = by (isOpening (l .token) && leb openLimit n) refl (flat-none (openAfter n (l .token)) ls) f
-  where
-    by : (b : Bool) → (isOpening (l .token) && leb openLimit n) ≡ b → (shallow openLimit (openAfter n (l .token)) (tokensOf ls) ≡ true → tooDeep (openAfter n (l .token)) ls ≡ nowhere) → (not b && shallow openLimit (openAfter n (l .token)) (tokensOf ls)) ≡ true → elim (isOpening (l .token) && leb openLimit n) [ true ↦ found (l .start) | false ↦ tooDeep (openAfter n (l .token)) ls ] ≡ nowhere
-    by true q k f = clash-bool f
-    by false q k f = rw q (k f)
-
-none-flat : (n : ℕ) (ls : List Lexeme) → tooDeep n ls ≡ nowhere → shallow openLimit n (tokensOf ls) ≡ true
-unfolding tooDeep shallow tokensOf
-none-flat n [] e = refl
-none-flat n (l ∷ ls) e = by (isOpening (l .token) && leb openLimit n) refl (none-flat (openAfter n (l .token)) ls) e
-  where
-    by : (b : Bool) → (isOpening (l .token) && leb openLimit n) ≡ b → (tooDeep (openAfter n (l .token)) ls ≡ nowhere → shallow openLimit (openAfter n (l .token)) (tokensOf ls) ≡ true) → elim b [ true ↦ found (l .start) | false ↦ tooDeep (openAfter n (l .token)) ls ] ≡ nowhere → (not (isOpening (l .token) && leb openLimit n) && shallow openLimit (openAfter n (l .token)) (tokensOf ls)) ≡ true
-    by true q k e = nowhere-found (sym e)
-    by false q k e = rw q (k e)
-
 -- ---- the message's tokens are those of the cut
 
 tokens-are : (message : List ℕ) → TokensAre message (cut message .lexemes)
@@ -97,17 +80,17 @@ unfolding scanFault
 fault-shown message place e = by (tooDeep 0 (cut message .lexemes)) refl e
   where
     by : (f : Found) → tooDeep 0 (cut message .lexemes) ≡ f → either f (cut message .bad) ≡ found place → TokenFault message place
-    by nowhere q e = unfold either in (badByte (cut message .lexemes) (message-bad message place e) (none-flat 0 (cut message .lexemes) q))
+    by nowhere q e = unfold either in (badByte (cut message .lexemes) (message-bad message place e) (flat-tokens 0 (cut message .lexemes) q))
     by (found p) q e = unfold either in (
-      let d = deep-at 0 (cut message .lexemes) place (q ∙ e) in
-      deepBrace (d .before) (d .brace) (d .after) (subst (TokensAre message) (d .split) (tokens-are message)) (d .flat) (d .deep) (d .starts)
-    )
+        let d = deep-at 0 (cut message .lexemes) place (q ∙ e) in
+        deepBrace (d .before) (d .brace) (d .after) (subst (TokensAre message) (d .split) (tokens-are message)) (d .flat) (d .deep) (d .starts)
+        )
 
 shown-fault : (message : List ℕ) (place : ℕ) → TokenFault message place → scanFault (cut message) ≡ found place
 unfolding scanFault either
 shown-fault message place (badByte ls h f) =
     let c = message-faulty message ls place h in
-    ap (λ k. either (tooDeep 0 (k .lexemes)) (k .bad)) c ∙ ap (λ k. either k (found place)) (flat-none 0 ls f)
+    ap (λ k. either (tooDeep 0 (k .lexemes)) (k .bad)) c ∙ ap (λ k. either k (found place)) (flat-lexemes 0 ls f)
 shown-fault message place (deepBrace ms l rest h f d s) =
     let c = cut-tokens message (ms ++ (l ∷ rest)) h in
     ap (λ k. either (tooDeep 0 k) (cut message .bad)) c ∙ (ap (λ k. either k (cut message .bad)) (at-deep 0 ms l rest f d) ∙ ap found (sym s))
