@@ -12,7 +12,7 @@ ghost use Rattle.definition_rules.specs.Table.{numberUp, just, decode};
 ghost use Rattle.definition_rules.specs.Compile.{firstFault, answerWithRoom, lentAfter, compileAnswer, tableAfter};
 ghost use Rattle.definition_rules.specs.Stuck.{StuckPromise};
 ghost use Rattle.table_rules.specs.Endless.{EndlessPromise};
-ghost use Rattle.definition_cells.specs.Cells.{cellAt, notedFrom};
+ghost use Rattle.definition_cells.specs.Cells.{cellAt, notedFrom, parentCell};
 ghost use Rattle.table_records.specs.Stored.{recordsAt};
 ghost use Rattle.table_tags.specs.Lists.{Linked};
 ghost use Rattle.definition.specs.Answers.{answerOfCompile, stopFinding, checks7to10, verdictFrom};
@@ -117,7 +117,7 @@ fn written_fault(text: &[u8], cells: &[u32], table: &[u8], n: usize) -> Stop
 // so that the lent table is touched only when nothing can be refused any more.
 fn compile_declarations(text: &[u8], cells: &[u32], n: usize, table: &mut [u8]) -> Compiled
     requires { ⌜ (n ≤ parameterLimit) × (length (now text) ≤ textLimit) ⌝ }
-    requires { ⌜ ((i : ℕ) → i < n → Before i (numberUp (cellAt (now cells) i 15))) ⌝ }
+    requires { ⌜ ((i : ℕ) → i < n → Before i (numberUp (cellAt (now cells) i parentCell))) ⌝ }
     ensures { λ r. ⌜ answerOfCompile r ≡ answerWithRoom (length (now (table .entry))) (verdictFrom (now (text .entry)) (now (cells .entry)) n) ⌝ }
     ensures { λ _. ⌜ now (table .exit) ≡ lentAfter (verdictFrom (now (text .entry)) (now (cells .entry)) n) (now (table .entry)) ⌝ }
 {

@@ -10,12 +10,48 @@ use Rattle.definition_rules.specs.Forms.{MaybeRun, absent, given, Tag, ownName,
 use Rattle.definition_rules.specs.Declarations.{Declaration, declaration, Spots, Noted, noted}
 use Rattle.definition_rules.specs.Table.{numberUp}
 
--- A declaration's numbers: where its runs start and end in the text (type 0 and 1, range 2 and 3, name 4 and 5,
--- cardinality 6 and 7, tag 8 and 9), 1 where a range (10) and a cardinality (11) are given, 0 for its own name as tag,
--- 1 for untagged, 2 for an explicit tag (12), 1 for plugin (13), 1 directly in an extension (14), its parent's number or 65,535 (15).
--- A run that is not there has the place of the type (range) or of the name (cardinality, tag).
+-- how many numbers a declaration has
 abbrev pub cellWidth : ℕ
 cellWidth = 16
+
+-- Where its runs start and end in the text: each of these cells has a run's start, the one after it the run's end.
+-- A run that is not there has the place of the type (range) or of the name (cardinality, tag).
+abbrev pub typeCell : ℕ
+typeCell = 0
+
+abbrev pub rangeCell : ℕ
+rangeCell = 2
+
+abbrev pub nameCell : ℕ
+nameCell = 4
+
+abbrev pub cardCell : ℕ
+cardCell = 6
+
+abbrev pub tagCell : ℕ
+tagCell = 8
+
+-- 1 where a range and a cardinality are given
+abbrev pub rangedCell : ℕ
+rangedCell = 10
+
+abbrev pub cardedCell : ℕ
+cardedCell = 11
+
+-- 0 for its own name as tag, 1 for untagged, 2 for an explicit tag
+abbrev pub taggedCell : ℕ
+taggedCell = 12
+
+-- 1 for plugin, 1 directly in an extension
+abbrev pub pluggedCell : ℕ
+pluggedCell = 13
+
+abbrev pub extendedCell : ℕ
+extendedCell = 14
+
+-- its parent's number or none
+abbrev pub parentCell : ℕ
+parentCell = 15
 
 abbrev pub cellAt : List ℕ → ℕ → ℕ → ℕ
 cellAt cs i k = getD cs (cellWidth * i + k) 0
@@ -25,7 +61,7 @@ unfoldable pub runAt : List ℕ → List ℕ → ℕ → ℕ → List ℕ
 runAt text cs i k = part text (cellAt cs i k) (cellAt cs i (k + 1))
 
 unfoldable pub tagAt : List ℕ → List ℕ → ℕ → Tag
-tagAt text cs i = pick (eqb (cellAt cs i 12) 0) ownName (pick (eqb (cellAt cs i 12) 1) tagless (explicit (runAt text cs i 8)))
+tagAt text cs i = pick (eqb (cellAt cs i taggedCell) 0) ownName (pick (eqb (cellAt cs i taggedCell) 1) tagless (explicit (runAt text cs i tagCell)))
 
 unfoldable pub maybeRunAt : List ℕ → List ℕ → ℕ → ℕ → ℕ → MaybeRun
 maybeRunAt text cs i flag k = pick (eqb (cellAt cs i flag) 1) (given (runAt text cs i k)) absent
@@ -34,9 +70,9 @@ maybeRunAt text cs i flag k = pick (eqb (cellAt cs i flag) 1) (given (runAt text
 unfoldable pub notedAt : List ℕ → List ℕ → ℕ → Noted
 notedAt text cs i =
     noted
-    (record { typeAt = cellAt cs i 0; rangeAt = cellAt cs i 2; nameAt = cellAt cs i 4; cardAt = cellAt cs i 6; tagAt = cellAt cs i 8 })
-    (declaration (numberUp (cellAt cs i 15)) (eqb (cellAt cs i 14) 1)
-    (heading (runAt text cs i 0) (maybeRunAt text cs i 10 2) (runAt text cs i 4) (maybeRunAt text cs i 11 6) (tagAt text cs i) (eqb (cellAt cs i 13) 1)))
+    (record { typeAt = cellAt cs i typeCell; rangeAt = cellAt cs i rangeCell; nameAt = cellAt cs i nameCell; cardAt = cellAt cs i cardCell; tagAt = cellAt cs i tagCell })
+    (declaration (numberUp (cellAt cs i parentCell)) (eqb (cellAt cs i extendedCell) 1)
+    (heading (runAt text cs i typeCell) (maybeRunAt text cs i rangedCell rangeCell) (runAt text cs i nameCell) (maybeRunAt text cs i cardedCell cardCell) (tagAt text cs i) (eqb (cellAt cs i pluggedCell) 1)))
 
 -- n declarations from the i-th on
 unfoldable pub notedFrom : List ℕ → List ℕ → ℕ → ℕ → List Noted

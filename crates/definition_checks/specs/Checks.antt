@@ -9,7 +9,7 @@ use Rattle.numbers.specs.Range.{highOf}
 use Rattle.definition_rules.specs.Table.{numberUp}
 use Rattle.definition_rules.specs.Faults.{nameBroken, referenceBroken, tagBroken, rangeBroken, countFine, dangling, Key, key, isNewKey}
 use Rattle.definition_cells.specs.declared.Place.{Place}
-use Rattle.definition_cells.specs.Cells.{cellAt, runAt, notedAt}
+use Rattle.definition_cells.specs.Cells.{cellAt, runAt, notedAt, nameCell, cardCell, cardedCell, parentCell}
 use Rattle.definition_cells.specs.Places.{lesser, atIf, spotOf}
 use Rattle.definition_headings.specs.Heads.{declaredKind, countsAt, namesFrom}
 
@@ -22,7 +22,7 @@ formFault text cs i =
 -- 6: a cardinality at a union's field
 abbrev pub onAlternative : List ℕ → List ℕ → ℕ → ℕ → Bool
 onAlternative text cs n i =
-    not (eqb (cellAt cs i 15) none16) && (ltb (cellAt cs i 15) n && eqb (declaredKind text cs (cellAt cs i 15)) 9) && eqb (cellAt cs i 11) 1
+    not (eqb (cellAt cs i parentCell) none16) && (ltb (cellAt cs i parentCell) n && eqb (declaredKind text cs (cellAt cs i parentCell)) 9) && eqb (cellAt cs i cardedCell) 1
 
 -- 6: the cardinality's own faults
 abbrev pub cardBroken : List ℕ → List ℕ → ℕ → ℕ → Bool
@@ -30,11 +30,11 @@ cardBroken text cs n i =
     not (countFine (countsAt text cs i)) || ((eqb (declaredKind text cs i) 1 && ltb 1 (highOf (countsAt text cs i))) || onAlternative text cs n i)
 
 unfoldable pub rangeFault : List ℕ → List ℕ → ℕ → ℕ → Place
-rangeFault text cs n i = lesser (spotOf rangeBroken (λ s. s .rangeAt) (notedAt text cs i)) (atIf (cardBroken text cs n i) (cellAt cs i 6))
+rangeFault text cs n i = lesser (spotOf rangeBroken (λ s. s .rangeAt) (notedAt text cs i)) (atIf (cardBroken text cs n i) (cellAt cs i cardCell))
 
 -- 8: names
 abbrev pub keyAt : List ℕ → List ℕ → ℕ → Key
-keyAt text cs i = key (numberUp (cellAt cs i 15)) (runAt text cs i 4)
+keyAt text cs i = key (numberUp (cellAt cs i parentCell)) (runAt text cs i nameCell)
 
 -- those of the first i, the last first
 unfoldable pub keysBelow : List ℕ → List ℕ → ℕ → List Key
@@ -42,10 +42,10 @@ keysBelow text cs zero = []
 keysBelow text cs (suc i) = keyAt text cs i ∷ keysBelow text cs i
 
 abbrev pub sameKeyAt : List ℕ → List ℕ → ℕ → ℕ → Bool
-sameKeyAt text cs i j = eqb (cellAt cs i 15) (cellAt cs j 15) && sameBytes (runAt text cs i 4) (runAt text cs j 4)
+sameKeyAt text cs i j = eqb (cellAt cs i parentCell) (cellAt cs j parentCell) && sameBytes (runAt text cs i nameCell) (runAt text cs j nameCell)
 
 unfoldable pub repeatFault : List ℕ → List ℕ → ℕ → Place
-repeatFault text cs i = atIf (not (isNewKey (keyAt text cs i) (keysBelow text cs i))) (cellAt cs i 4)
+repeatFault text cs i = atIf (not (isNewKey (keyAt text cs i) (keysBelow text cs i))) (cellAt cs i nameCell)
 
 -- 9: references
 unfoldable pub danglingFault : List ℕ → List ℕ → ℕ → ℕ → Place

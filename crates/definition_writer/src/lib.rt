@@ -8,7 +8,7 @@ ghost use lib.Seq.{sets};
 ghost use Rattle.numbers.specs.Limits.{textLimit, parameterLimit};
 ghost use Rattle.numbers.specs.LittleEndian.{put16, put32, signed};
 ghost use Rattle.definition_rules.specs.Table.{bit as bitOf, flagsNumber};
-ghost use Rattle.definition_cells.specs.Cells.{cellAt};
+ghost use Rattle.definition_cells.specs.Cells.{cellAt, taggedCell, pluggedCell, extendedCell};
 ghost use Rattle.definition_headings.specs.Heads.{labelAt};
 ghost use Rattle.definition_writer.specs.Written.{recordWritten, recordsWritten, low16, cutBytes, WroteRecords};
 
@@ -60,7 +60,7 @@ const PLUGIN: usize = numbers::PLUGIN as usize;
 
 // Untagged, directly in an extension, plugin.
 fn flags(cells: &[u32], i: usize) -> usize
-    ensures { λ r. ⌜ r ≡ flagsNumber (eqb (cellAt (now (cells .entry)) i 12) 1) (eqb (cellAt (now (cells .entry)) i 14) 1) (eqb (cellAt (now (cells .entry)) i 13) 1) ⌝ }
+    ensures { λ r. ⌜ r ≡ flagsNumber (eqb (cellAt (now (cells .entry)) i taggedCell) 1) (eqb (cellAt (now (cells .entry)) i extendedCell) 1) (eqb (cellAt (now (cells .entry)) i pluggedCell) 1) ⌝ }
 {
     let untagged = bit(
         definition_cells::cell(cells, i, definition_cells::TAGGED) == definition_cells::TAGLESS,
