@@ -7,9 +7,6 @@ use Rattle.cli_wording.specs.Lines.{lineAt}
 use Rattle.cli_wording.proofs.LineLaws.{line-begin, line-more, line-end}
 use Rattle.cli_wording.proofs.line_from.Statement.{statement}
 use Rattle.cli_wording.proofs.line_from.Tie as tie
-use Rattle.cli_wording.proofs.line_from.Reads as reads
-use Rattle.cli_wording.proofs.line_from.Lts as lts
-use Rattle.cli_wording.proofs.next_line.Reads as next-line-reads
 
 abbrev Inv-loop : tie.InvT-loop
 Inv-loop s n from₀ i₀ from i = (lineAt n s ≡ lineAt (n - i) (drop from s)) × (from ≤ length s) × (i ≤ n)
@@ -17,27 +14,21 @@ Inv-loop s n from₀ i₀ from i = (lineAt n s ≡ lineAt (n - i) (drop from s))
 abbrev μ-loop : tie.MeasureT-loop
 μ-loop s n from₀ i₀ from i = n - i
 
--- src/lib.rt:106:5
 loop-holds : tie.Need-loop-holds Inv-loop μ-loop
 loop-holds c = (line-begin (c .before .args .s .now) (c .before .args .n), omega arith, omega arith)
 
--- src/lib.rt:107:9
 next-line-requires : tie.Need-next-line-requires Inv-loop μ-loop
 next-line-requires c κs = search needs
 
--- src/lib.rt:108:9
 add-i : tie.Need-add-i Inv-loop μ-loop
 add-i c = search needs
 
--- src/lib.rt:106:5
 loop-less : tie.Need-loop-less Inv-loop μ-loop
 loop-less c = search needs
 
--- src/lib.rt:106:5
 loop-again : tie.Need-loop-again Inv-loop μ-loop
 loop-again c = (line-more (c .before .before .before .before .args .s .now) (c .before .before .before .before .args .n) (c .before .before .loop .i) (c .before .before .loop .from) (c .next-line .result) (c .before .loop-test .taken) (c .next-line .ensures .0) (c .before .before .loop .inv .0), c .next-line .ensures .1, omega arith)
 
--- src/lib.rt:101:1
 returns : tie.Need-returns Inv-loop μ-loop
 returns c = (line-end (c .before .before .before .args .s .now) (c .before .before .before .args .n) (c .before .loop .i) (c .before .loop .from) (c .loop-test .left) (c .before .loop .inv .0), c .before .loop .inv .1)
 

@@ -5,28 +5,20 @@ use Rattle.cli_wording.proofs.Said.{said, clear-kind, no-kind}
 use borrow.Author.Needs.{needs}
 use Rattle.cli_wording.proofs.put_kind.Statement.{statement}
 use Rattle.cli_wording.proofs.put_kind.Tie as tie
-use Rattle.cli_wording.proofs.put_kind.Reads as reads
-use Rattle.cli_wording.proofs.put_kind.Lts as lts
-use Rattle.cli_wording.proofs.put_line.Reads as put-line-reads
 
--- src/lib.rt:147:34
 slice-aggregate-put-line : tie.Need-slice-aggregate-put-line
 slice-aggregate-put-line c = search needs
 
--- src/lib.rt:147:9
 put-line-requires : tie.Need-put-line-requires
 put-line-requires c κs = search needs
 
--- src/lib.rt:147:9
 same-length : tie.Need-same-length
 same-length c = search needs
 
--- src/lib.rt:147:9
 returns : tie.Need-returns
 unfolding linesOf kindName sayingOf bytes
 returns c = said kindName 11 (c .before .before .before .before .before .before .before .args .kind) clear-kind refl (c .before .before .before .before .before .if1 .taken) (c .before .before .put-line .ensures)
 
--- src/lib.rt:143:1
 returns-2 : tie.Need-returns-2
 returns-2 c = no-kind (c .before .before .args .kind) _ _ (c .if1 .left)
 
