@@ -1,9 +1,11 @@
 // lumas: compiles definitions, reads messages by them, shows tables and says what refusals mean.
-// An answer goes to standard output, what keeps it from answering to standard error, and the exit
+// Results go to standard output, refusals and other messages to people to standard error, and the exit
 // status as one digit to descriptor 3, where bin/lumas reads it: a program itself can't give one.
 mod messages;
+mod words;
 
 use cli_files::Loaded;
+use cli_files::is_input;
 use cli_files::word;
 use cli_pages::ACCEPTED;
 use cli_pages::UNUSABLE;
@@ -15,6 +17,9 @@ use cli_tables::compile_file;
 use cli_tables::show_file;
 use messages::read_file;
 use numbers::Side;
+use words::WORD;
+use words::Words;
+use words::words_of;
 
 const STATUS_FILENO: i32 = 3;
 
@@ -25,6 +30,7 @@ enum Command {
     Check,
     Explain,
     Help,
+    Version,
     Unknown,
 }
 
@@ -51,16 +57,27 @@ fn help(out: &mut [u8]) -> u8 {
   lumas read --plain ..            bare numbers: parameter, parent row, start, end
   lumas show TABLE                 print the records of a table, or of a definition
   lumas check TABLE                say whether some definition compiles to this table
+  lumas check DEFINITION           say whether a definition compiles
   lumas explain NUMBER             say what a refusal's number means
   lumas help                       print this page
+  lumas --version                  print the version
 
 A file with a byte 0 in it is taken as a table, any other as a definition.
+The name - is standard input, and -- ends the options.
 A refusal names the file, the line and the column, counted from 1 (in a table the
 byte, counted from 0), its number and what that means; then the line is printed,
-with a ^ under the place.
+with a ^ under the place. The end of a text is shown behind its last byte that is
+no blank.
+Rows, records and answers go to standard output, refusals and other messages to
+standard error.
 Exit status: 0 accepted; 1 refused; 2 wrong use, or a file can't be read or written.
 ",
     );
+    ended(out, started(at), ACCEPTED)
+}
+
+fn version(out: &mut [u8]) -> u8 {
+    let at = text::put_text(out, 0, b"lumas 0.1.0\n");
     ended(out, started(at), ACCEPTED)
 }
 
@@ -83,6 +100,9 @@ fn command_of(word: &[u8]) -> Command {
     if is_help(word) {
         return Command::Help;
     }
+    if classes::same_bytes(word, b"--version") {
+        return Command::Version;
+    }
     Command::Unknown
 }
 
@@ -90,12 +110,6 @@ fn is_help(word: &[u8]) -> bool {
     classes::same_bytes(word, b"help")
         | classes::same_bytes(word, b"--help")
         | classes::same_bytes(word, b"-h")
-}
-
-fn is_plain(i: usize) -> bool {
-    let mut buf = [0u8; 8];
-    let n = os::arg(i, &mut buf);
-    classes::same_bytes(text::part(&buf, 0, n), b"--plain")
 }
 
 // A command on the file that argument i names.
@@ -112,61 +126,82 @@ fn with_one(command: Command, i: usize, out: &mut [u8]) -> u8 {
     }
 }
 
-// A command on the files that arguments i and j name.
-fn with_two(is_read: bool, i: usize, j: usize, is_plain: bool, out: &mut [u8]) -> u8 {
-    let mut first = io::buffer();
-    let mut second = io::buffer();
-    let Loaded::Bytes(n) = word(i, &mut first) else {
-        return UNUSABLE;
-    };
-    let Loaded::Bytes(m) = word(j, &mut second) else {
-        return UNUSABLE;
-    };
-    let from = text::part(&first, 0, n);
-    let to = text::part(&second, 0, m);
+// compile and read. One of the two files that are read can be standard input; a table is not written there.
+fn with_paths(is_read: bool, from: &[u8], to: &[u8], is_plain: bool, out: &mut [u8]) -> u8 {
     if is_read {
+        if is_input(from) & is_input(to) {
+            return misused(b"only one of two files can be standard input");
+        }
         return read_file(from, to, is_plain, out);
+    }
+    if is_input(to) {
+        return misused(b"- is standard input, and the table needs a file");
     }
     compile_file(from, to, out)
 }
 
-// read, with --plain before, between or behind the two files.
-fn read_command(count: usize, out: &mut [u8]) -> u8 {
-    if count == 4 {
-        return with_two(true, 2, 3, false, out);
+// A command on the files that two words name.
+fn with_two(is_read: bool, words: Words, out: &mut [u8]) -> u8 {
+    let mut first = io::buffer();
+    let mut second = io::buffer();
+    let Loaded::Bytes(n) = word(words.first, &mut first) else {
+        return UNUSABLE;
+    };
+    let Loaded::Bytes(m) = word(words.second, &mut second) else {
+        return UNUSABLE;
+    };
+    let from = text::part(&first, 0, n);
+    let to = text::part(&second, 0, m);
+    with_paths(is_read, from, to, words.is_plain, out)
+}
+
+fn run_on_words(command: Command, words: Words, out: &mut [u8]) -> u8 {
+    match command {
+        Command::Compile => {
+            if words.count != 2 {
+                return misused(b"compile takes two files");
+            }
+            with_two(false, words, out)
+        }
+        Command::Read => {
+            if words.count != 2 {
+                return misused(b"read takes two files");
+            }
+            with_two(true, words, out)
+        }
+        _ => {
+            if words.count != 1 {
+                return misused(b"show, check and explain take one word");
+            }
+            with_one(command, words.first, out)
+        }
     }
-    if count != 5 {
-        return misused(b"read takes two files");
+}
+
+fn is_read(command: Command) -> bool {
+    match command {
+        Command::Read => true,
+        _ => false,
     }
-    if is_plain(2) {
-        return with_two(true, 3, 4, true, out);
+}
+
+// A command that takes words and options.
+fn run_with_options(command: Command, words: Words, out: &mut [u8]) -> u8 {
+    if words.is_wrong {
+        return misused(b"no such option");
     }
-    if is_plain(3) {
-        return with_two(true, 2, 4, true, out);
+    if words.is_plain & !is_read(command) {
+        return misused(b"only read takes --plain");
     }
-    if is_plain(4) {
-        return with_two(true, 2, 3, true, out);
-    }
-    misused(b"read takes two files")
+    run_on_words(command, words, out)
 }
 
 fn run_command(command: Command, count: usize, out: &mut [u8]) -> u8 {
     match command {
-        Command::Compile => {
-            if count != 4 {
-                return misused(b"compile takes two files");
-            }
-            with_two(false, 2, 3, false, out)
-        }
-        Command::Read => read_command(count, out),
         Command::Help => help(out),
+        Command::Version => version(out),
         Command::Unknown => misused(b"no such command"),
-        _ => {
-            if count != 3 {
-                return misused(b"show, check and explain take one word");
-            }
-            with_one(command, 2, out)
-        }
+        _ => run_with_options(command, words_of(count), out),
     }
 }
 
@@ -175,7 +210,7 @@ fn run(out: &mut [u8]) -> u8 {
     if count < 2 {
         return help(out);
     }
-    let mut buf = [0u8; 8];
+    let mut buf = [0u8; WORD];
     let n = os::arg(1, &mut buf);
     run_command(command_of(text::part(&buf, 0, n)), count, out)
 }

@@ -4,15 +4,21 @@ use cli_files::load;
 use cli_pages::ACCEPTED;
 use cli_pages::MANY;
 use cli_pages::Page;
+use cli_pages::REFUSED;
 use cli_pages::UNUSABLE;
 use cli_pages::ended;
 use cli_pages::flushed;
 use cli_pages::refuse;
+use cli_pages::say;
 use cli_pages::started;
 use cli_tables::Source;
 use cli_tables::records_of;
 use cli_tables::table_of;
+use cli_unknown::Item;
 use message::Verdict;
+
+// The refusal that is the table's.
+const TABLE_REFUSED: u32 = 20;
 
 fn print_numbers(rows: &[u32], count: usize, out: &mut [u8]) -> u8 {
     let mut page = started(0);
@@ -57,26 +63,68 @@ fn print_rows(
     page
 }
 
+// A line for an unknown item, whose word stands from a place to a place.
+fn say_item(path: &[u8], message: &[u8], start: usize, end: usize, out: &mut [u8]) {
+    let word = text::part(message, start, end);
+    let at = cli_pages::put_unknown(out, path, message, start, word);
+    say(out, at);
+}
+
+// A line for each unknown item. There are no more of them than bytes.
+fn say_unknown(path: &[u8], message: &[u8], rows: &[u32], count: usize, out: &mut [u8]) {
+    let mut reached = cli_unknown::begin();
+    let mut left = message.len();
+    while 0 < left {
+        match cli_unknown::next(message, rows, count, reached) {
+            Item::Unknown(start, end, past) => {
+                say_item(path, message, start, end, out);
+                reached = past;
+            }
+            Item::Finished => {
+                return;
+            }
+        }
+        left -= 1;
+    }
+}
+
+// The rows are the result; what was passed over, and that all is accepted, are words to people.
 fn accept(
     path: &[u8],
-    table: &[u8],
+    named: &[u8],
     message: &[u8],
     rows: &[u32],
     count: usize,
     out: &mut [u8],
 ) -> u8 {
     let mut unpacked = [0u32; 2880];
-    records_of(table, &mut unpacked);
-    let page = print_rows(table, &unpacked, message, rows, count, out);
-    let at = cli_wording::put_accepted(out, page.at, path, count);
-    ended(
-        out,
-        Page {
-            at: at,
-            ok: page.ok,
-        },
-        ACCEPTED,
-    )
+    records_of(named, &mut unpacked);
+    let page = print_rows(named, &unpacked, message, rows, count, out);
+    let status = ended(out, page, ACCEPTED);
+    if status != ACCEPTED {
+        return status;
+    }
+    say_unknown(path, message, rows, count, out);
+    let at = cli_wording::put_accepted(out, 0, path, count);
+    say(out, at);
+    ACCEPTED
+}
+
+// The refusal, and what more can be said of it.
+fn refuse_message(
+    table: &[u8],
+    named: &[u8],
+    path: &[u8],
+    message: &[u8],
+    number: u32,
+    place: usize,
+    rows: &mut [u32],
+    out: &mut [u8],
+) -> u8 {
+    refuse(out, path, message, number, place);
+    let at = cli_wanted::put_lacking(out, table, named, message, number, place, rows);
+    say(out, at);
+    REFUSED
 }
 
 // A message has at most 16,384 tokens, and each begins at most one value and one alternative. So its
@@ -84,6 +132,7 @@ fn accept(
 fn read_message(
     from: &[u8],
     table: &[u8],
+    named: &[u8],
     path: &[u8],
     message: &[u8],
     is_plain: bool,
@@ -95,31 +144,48 @@ fn read_message(
             if is_plain {
                 return print_numbers(&rows, count, out);
             }
-            accept(path, table, message, &rows, count, out)
+            accept(path, named, message, &rows, count, out)
         }
         Verdict::Refused(number, place) => {
-            if number == 20 {
+            if number == TABLE_REFUSED {
                 return refuse(out, from, table, number, place);
             }
-            refuse(out, path, message, number, place)
+            refuse_message(table, named, path, message, number, place, &mut rows, out)
         }
     }
 }
 
-fn read_with(from: &[u8], table: &[u8], path: &[u8], is_plain: bool, out: &mut [u8]) -> u8 {
+fn read_with(
+    from: &[u8],
+    table: &[u8],
+    named: &[u8],
+    path: &[u8],
+    is_plain: bool,
+    out: &mut [u8],
+) -> u8 {
     let mut buf = io::large_buffer();
     match load(path, &mut buf) {
-        Loaded::Bytes(n) => read_message(from, table, path, text::part(&buf, 0, n), is_plain, out),
+        Loaded::Bytes(n) => read_message(
+            from,
+            table,
+            named,
+            path,
+            text::part(&buf, 0, n),
+            is_plain,
+            out,
+        ),
         Loaded::Failed => UNUSABLE,
     }
 }
 
 pub fn read_file(from: &[u8], path: &[u8], is_plain: bool, out: &mut [u8]) -> u8 {
     let mut table = io::large_buffer();
-    match table_of(from, &mut table, out) {
-        Source::Table(length) => read_with(
+    let mut named = io::large_buffer();
+    match table_of(from, &mut table, &mut named, out) {
+        Source::Table(length, names) => read_with(
             from,
             text::part(&table, 0, length),
+            text::part(&named, 0, names),
             path,
             is_plain,
             out,

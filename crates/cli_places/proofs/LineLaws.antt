@@ -9,7 +9,8 @@ use native.Mathlib.Omega.{arith}
 use borrow.Author.Tests.{eq-eqb, ne-eqb}
 use lib.Dec.{T, eqb, eqb→eq}
 use lib.ListN.{length, getD}
-use Rattle.cli_places.specs.Lines.{breakOf, breaksBefore, lineStart}
+use Rattle.classes.specs.Bytes.{isBlank}
+use Rattle.cli_places.specs.Lines.{breakOf, breaksBefore, lineStart, blanksOff}
 
 module _ (s : List ℕ) where
   pub breaks-more : (i : ℕ) → breaksBefore s (i + 1) ≡ breaksBefore s i + breakOf (getD s i 0)
@@ -36,6 +37,27 @@ module _ (s : List ℕ) where
 
   pub breaks-all : (i p n : ℕ) → i ≤ p → p ≤ i → n ≡ 1 + breaksBefore s i → n ≡ 1 + breaksBefore s p
   breaks-all i p n h l e = let q : i ≡ p = omega arith in rw q at e
+
+-- ---- the end without blanks
+
+module _ (s : List ℕ) where
+  off-one : (p : ℕ) → isBlank (getD s p 0) ≡ true → blanksOff s (p + 1) ≡ blanksOff s p
+  unfolding blanksOff
+  off-one p e = rw (add-one, e)
+
+  off-none : (p : ℕ) → isBlank (getD s p 0) ≡ false → blanksOff s (p + 1) ≡ p + 1
+  unfolding blanksOff
+  off-none p e = rw (add-one, e)
+
+  pub blank-off : (i : ℕ) → 0 < i → isBlank (getD s (i - 1) 0) ≡ true → blanksOff s i ≡ blanksOff s (i - 1)
+  blank-off i h e = let q : (i - 1) + 1 ≡ i = omega arith in rw q at (off-one (i - 1) e)
+
+  pub text-stays : (i : ℕ) → 0 < i → isBlank (getD s (i - 1) 0) ≡ false → blanksOff s i ≡ i
+  text-stays i h e = let q : (i - 1) + 1 ≡ i = omega arith in rw q at (off-none (i - 1) e)
+
+  pub all-off : (i : ℕ) → i ≤ 0 → blanksOff s i ≡ 0
+  unfolding blanksOff
+  all-off i h = let q : i ≡ 0 = omega arith in rw q
 
 -- ---- a line begins at 0 or behind a line feed, and none stands from there to the place
 

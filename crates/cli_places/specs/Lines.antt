@@ -4,6 +4,7 @@ use mathlib.Core.List.{List}
 use Prim.Native.Nat.{ℕ, zero, suc, _+_, _-_, _≤_, _<_, _^_}
 use lib.Dec.{eqb}
 use lib.ListN.{length, getD, drop}
+use Rattle.classes.specs.Bytes.{isBlank}
 use Rattle.classes.specs.Lists.{runOf}
 
 -- a place in a text, or its end; the text is one that numbers of 64 bits can count
@@ -38,3 +39,11 @@ lineEnd s p = p + runOf notBreak (drop p s)
 -- the column, counted from 1
 abbrev pub columnOf : List ℕ → ℕ → ℕ
 columnOf s p = p - lineStart s p + 1
+
+-- where the bytes before a place end without the blanks that stand last
+unfoldable pub blanksOff : List ℕ → ℕ → ℕ
+blanksOff s zero = 0
+blanksOff s (suc p) = cond (isBlank (getD s p 0)) (blanksOff s p) (suc p)
+
+abbrev pub textEnd : List ℕ → ℕ
+textEnd s = blanksOff s (length s)

@@ -2,7 +2,7 @@
 ghost use mathlib.Core.Path.{_≡_};
 ghost use Prim.Native.Nat.{_≤_};
 ghost use lib.ListN.{length};
-ghost use Rattle.cli_places.specs.Lines.{InText, breakOf, lineOf, lineStart, lineEnd, columnOf};
+ghost use Rattle.cli_places.specs.Lines.{InText, breakOf, lineOf, lineStart, lineEnd, columnOf, textEnd};
 
 // 1 for the byte that ends a line.
 fn breaks(b: u8) -> usize
@@ -64,4 +64,20 @@ pub fn column_of(s: &[u8], place: usize) -> usize
     ensures { λ r. ⌜ r ≡ columnOf (now (s .entry)) place ⌝ }
 {
     place - line_start(s, place) + 1
+}
+
+// Where a text ends without the blanks at its end.
+pub fn text_end(s: &[u8]) -> usize
+    ensures { λ r. ⌜ (r ≡ textEnd (now (s .entry))) × (r ≤ length (now (s .entry))) ⌝ }
+{
+    let mut i = s.len();
+    while 0 < i {
+        let b = s[i - 1];
+        if classes::is_blank(b) {
+            i -= 1;
+        } else {
+            return i;
+        }
+    }
+    0
 }

@@ -22,12 +22,12 @@ module _ (s : List ℕ) (p : ℕ) where
   unfolding viewEnd
   to-view end from sum to e l f v h t = rw (← e, ← v) (omega arith)
 
-  pub view : (from to : ℕ) (line before : List ℕ) {o o₁ : List ℕ} {at r : ℕ} → from ≡ viewStart s p → to ≡ viewEnd s p
+  pub view : (last : Bool) (from to : ℕ) (line before : List ℕ) {o o₁ : List ℕ} {at r : ℕ} → from ≡ viewStart s p → to ≡ viewEnd s p
       → line ≡ partOf s from to → before ≡ partOf s from p
-      → Wrote (shownText line ++ bytes "\n" ++ blanksFor before ++ markText (eqb p (length s))) o at o₁ r
-      → Wrote (viewText s p) o at o₁ r
+      → Wrote (shownText line ++ bytes "\n" ++ blanksFor before ++ markText last) o at o₁ r
+      → Wrote (viewText s p last) o at o₁ r
   unfolding viewText
-  view from to line before e f g h w = rw (← e, ← f, ← g, ← h) w
+  view last from to line before e f g h w = rw (← e, ← f, ← g, ← h) w
 
 -- ---- the mark stands under its byte: as many blanks as bytes before it, and a tab just where the line has one
 

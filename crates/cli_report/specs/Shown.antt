@@ -1,12 +1,12 @@
 -- The lines of a refusal.
-use mathlib.Core.Bool.{Bool, _||_, cond}
+use mathlib.Core.Bool.{Bool, true, false, _||_, cond}
 use mathlib.Core.List.{List, [], _∷_, _++_}
 use Prim.Native.Nat.{ℕ, _+_, _-_, min, max}
-use lib.Dec.{eqb}
+use lib.Dec.{eqb, ltb}
 use lib.ListN.{length}
 use Rattle.classes.specs.Bytes.{between}
 use Rattle.text.specs.Text.{partOf, each, decimal}
-use Rattle.cli_places.specs.Lines.{lineOf, lineStart, lineEnd, columnOf}
+use Rattle.cli_places.specs.Lines.{lineOf, lineStart, lineEnd, columnOf, textEnd}
 use Rattle.cli_wording.specs.Sayings.{bytes, meaningLine}
 
 -- a byte as it is shown: a tab as it is, a line's end as a space, what is no character as a question mark
@@ -35,20 +35,20 @@ unfoldable pub markText : Bool → List ℕ
 markText last = cond last (bytes "^ the end\n") (bytes "^\n")
 
 -- the line of a place, and under it the mark at the place
-unfoldable pub viewText : List ℕ → ℕ → List ℕ
-viewText s p =
+unfoldable pub viewText : List ℕ → ℕ → Bool → List ℕ
+viewText s p last =
     shownText (partOf s (viewStart s p) (viewEnd s p))
     ++ bytes "\n"
     ++ blanksFor (partOf s (viewStart s p) p)
-    ++ markText (eqb p (length s))
+    ++ markText last
 
 -- "tile.msg:1:9: "
 unfoldable pub whereText : List ℕ → List ℕ → ℕ → List ℕ
 whereText file s p = file ++ bytes ":" ++ decimal (lineOf s p) ++ bytes ":" ++ decimal (columnOf s p) ++ bytes ": "
 
 -- a refusal at a place of a text, at a byte of a table, and one that says how many bytes or rows are needed
-unfoldable pub inText : List ℕ → List ℕ → ℕ → ℕ → List ℕ
-inText file s number p = whereText file s p ++ meaningLine number ++ viewText s p
+unfoldable pub inText : List ℕ → List ℕ → ℕ → ℕ → Bool → List ℕ
+inText file s number p last = whereText file s p ++ meaningLine number ++ viewText s p last
 
 unfoldable pub inTable : List ℕ → ℕ → ℕ → List ℕ
 inTable file number p = file ++ bytes ": byte " ++ decimal p ++ bytes ": " ++ meaningLine number
@@ -56,8 +56,13 @@ inTable file number p = file ++ bytes ": byte " ++ decimal p ++ bytes ": " ++ me
 unfoldable pub neededText : List ℕ → ℕ → ℕ → List ℕ
 neededText file number n = file ++ bytes ": " ++ decimal n ++ bytes " needed: " ++ meaningLine number
 
--- the lines of a refusal; a place past the text's end counts as the end
+-- the lines of a refusal; the text's end, and any place past it, is shown behind the last byte that is no blank
 unfoldable pub refusalText : List ℕ → List ℕ → ℕ → ℕ → List ℕ
 refusalText file s number p =
     cond (eqb number 11 || eqb number 29) (neededText file number p)
-    (cond (eqb number 20) (inTable file number p) (inText file s number (min p (length s))))
+    (cond (eqb number 20) (inTable file number p)
+    (cond (ltb p (length s)) (inText file s number p false) (inText file s number (textEnd s) true)))
+
+-- "tile.msg:1:26: unknown, passed over: tide"
+unfoldable pub unknownLine : List ℕ → List ℕ → ℕ → List ℕ → List ℕ
+unknownLine file s p word = whereText file s p ++ bytes "unknown, passed over: " ++ word ++ bytes "\n"

@@ -4,8 +4,11 @@ mod refusals;
 mod tables;
 
 pub use refusals::put_refusal;
+pub use refusals::put_unknown;
+pub use tables::put_bounds;
 pub use tables::put_record_line;
 pub use tables::put_row_line;
 pub use tables::put_row_numbers;
 pub use tables::record_widths;
+pub use tables::row_number;
 pub use tables::row_widths;

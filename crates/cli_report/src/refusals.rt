@@ -1,14 +1,16 @@
 // The lines of a refusal.
 ghost use mathlib.Core.Path.{_≡_};
+ghost use mathlib.Core.Bool.{true};
 ghost use Prim.Native.Nat.{_-_, _<_, _^_, max};
 ghost use lib.ListN.{length};
 ghost use Rattle.text.specs.Text.{Wrote};
-ghost use Rattle.cli_places.specs.Lines.{InText};
-ghost use Rattle.cli_report.specs.Shown.{shownByte, blankFor, shownText, blanksFor, markText, viewText, whereText, inText, inTable, neededText, refusalText};
+ghost use Rattle.cli_places.specs.Lines.{InText, textEnd};
+ghost use Rattle.cli_report.specs.Shown.{shownByte, blankFor, shownText, blanksFor, markText, viewText, whereText, inText, inTable, neededText, refusalText, unknownLine};
 use cli_places::column_of;
 use cli_places::line_end;
 use cli_places::line_of;
 use cli_places::line_start;
+use cli_places::text_end;
 use cli_wording::put_refused;
 
 // Of a long line as much is shown before the place, and as much in all.
@@ -89,16 +91,16 @@ fn put_mark(out: &mut [u8], at: usize, last: bool) -> usize
 }
 
 // The line of a place, and under it a mark at the place.
-fn put_view(out: &mut [u8], at: usize, s: &[u8], place: usize) -> usize
+fn put_view(out: &mut [u8], at: usize, s: &[u8], place: usize, last: bool) -> usize
     requires { ⌜ InText (now s) place ⌝ }
-    ensures { λ r. ⌜ Wrote (viewText (now (s .entry)) place) (now (out .entry)) at (now (out .exit)) r ⌝ }
+    ensures { λ r. ⌜ Wrote (viewText (now (s .entry)) place last) (now (out .entry)) at (now (out .exit)) r ⌝ }
 {
     let from = view_from(line_start(s, place), place);
     let to = text::least(line_end(s, place), text::sum(from, WIDTH));
     let o = put_shown(out, at, text::part(s, from, to));
     let o = text::put_byte(out, o, b'\n');
     let o = put_blanks(out, o, text::part(s, from, place));
-    put_mark(out, o, place == s.len())
+    put_mark(out, o, last)
 }
 
 // "FILE:LINE:COLUMN: ".
@@ -115,13 +117,29 @@ fn put_where(out: &mut [u8], at: usize, file: &[u8], s: &[u8], place: usize) -> 
 }
 
 // A refusal at a place of a text: where, what, and the line.
-fn put_in_text(out: &mut [u8], at: usize, file: &[u8], s: &[u8], number: u32, place: usize) -> usize
+fn put_in_text(
+    out: &mut [u8],
+    at: usize,
+    file: &[u8],
+    s: &[u8],
+    number: u32,
+    place: usize,
+    last: bool,
+) -> usize
     requires { ⌜ InText (now s) place ⌝ }
-    ensures { λ r. ⌜ Wrote (inText (now (file .entry)) (now (s .entry)) number place) (now (out .entry)) at (now (out .exit)) r ⌝ }
+    ensures { λ r. ⌜ Wrote (inText (now (file .entry)) (now (s .entry)) number place last) (now (out .entry)) at (now (out .exit)) r ⌝ }
 {
     let o = put_where(out, at, file, s, place);
     let o = put_refused(out, o, number);
-    put_view(out, o, s, place)
+    put_view(out, o, s, place, last)
+}
+
+// A refusal at the end of a text, shown behind its last byte that is no blank.
+fn put_at_end(out: &mut [u8], at: usize, file: &[u8], s: &[u8], number: u32) -> usize
+    requires { ⌜ length (now s) < 2 ^ 32 ⌝ }
+    ensures { λ r. ⌜ Wrote (inText (now (file .entry)) (now (s .entry)) number (textEnd (now (s .entry))) true) (now (out .entry)) at (now (out .exit)) r ⌝ }
+{
+    put_in_text(out, at, file, s, number, text_end(s), true)
 }
 
 // A refusal at a byte of a table.
@@ -164,5 +182,26 @@ pub fn put_refusal(
     if number == 20 {
         return put_in_table(out, at, file, number, place);
     }
-    put_in_text(out, at, file, s, number, text::least(place, s.len()))
+    if place < s.len() {
+        return put_in_text(out, at, file, s, number, place, false);
+    }
+    put_at_end(out, at, file, s, number)
+}
+
+// The line that says of an unknown item where it is; the word is its tag.
+pub fn put_unknown(
+    out: &mut [u8],
+    at: usize,
+    file: &[u8],
+    s: &[u8],
+    place: usize,
+    word: &[u8],
+) -> usize
+    requires { ⌜ InText (now s) place ⌝ }
+    ensures { λ r. ⌜ Wrote (unknownLine (now (file .entry)) (now (s .entry)) place (now (word .entry))) (now (out .entry)) at (now (out .exit)) r ⌝ }
+{
+    let o = put_where(out, at, file, s, place);
+    let o = text::put_text(out, o, b"unknown, passed over: ");
+    let o = text::put_text(out, o, word);
+    text::put_byte(out, o, b'\n')
 }

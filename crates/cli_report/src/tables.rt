@@ -20,6 +20,9 @@ const RECORD_COLUMNS: usize = 7;
 // As much is shown of a struct or union; what is in it has rows of its own.
 const GLANCE: usize = 40;
 
+// The longest cell has a name and a tag of 63 bytes each.
+const CELL: usize = 160;
+
 // Ranges are counted from the least i32.
 const BIAS: u32 = 0x8000_0000;
 
@@ -116,14 +119,17 @@ fn put_int(out: &mut [u8], at: usize, n: u32) -> usize {
     text::put_decimal(out, at, (n - BIAS) as u64)
 }
 
+// "LEAST..MOST".
+pub fn put_bounds(out: &mut [u8], at: usize, least: u32, most: u32) -> usize {
+    let o = put_int(out, at, least);
+    let o = text::put_text(out, o, b"..");
+    put_int(out, o, most)
+}
+
 // Ints and the two kinds of ascii have a range.
 fn put_range(out: &mut [u8], at: usize, kind: u32, least: u32, most: u32) -> usize {
     match kind {
-        3 | 4 | 5 => {
-            let o = put_int(out, at, least);
-            let o = text::put_text(out, o, b"..");
-            put_int(out, o, most)
-        }
+        3 | 4 | 5 => put_bounds(out, at, least, most),
         _ => put_none(out, at),
     }
 }
@@ -177,7 +183,7 @@ fn record_cell(
 }
 
 fn record_width(table: &[u8], unpacked: &[u32], n: usize, column: usize) -> usize {
-    let mut cell = [0u8; 64];
+    let mut cell = [0u8; CELL];
     let mut width = record_cell(&mut cell, table, unpacked, 0, column);
     let mut i = 0;
     while i < n {
@@ -212,7 +218,7 @@ fn put_record_column(
     column: usize,
     width: usize,
 ) -> usize {
-    let mut cell = [0u8; 64];
+    let mut cell = [0u8; CELL];
     let n = record_cell(&mut cell, table, unpacked, line, column);
     put_cell(
         out,
@@ -239,7 +245,7 @@ pub fn put_record_line(
         o = put_record_column(out, o, table, unpacked, line, column, width);
         column += 1;
     }
-    let mut cell = [0u8; 64];
+    let mut cell = [0u8; CELL];
     let n = record_cell(&mut cell, table, unpacked, line, RECORD_COLUMNS);
     o = text::put_text(out, o, text::part(&cell, 0, n));
     text::put_byte(out, o, b'\n')
@@ -248,7 +254,7 @@ pub fn put_record_line(
 // ---- rows
 
 // A number of a row: 0 parameter, 1 parent, 2 start, 3 end. A row that isn't there has zeros.
-fn row_number(rows: &[u32], row: usize, k: usize) -> u32
+pub fn row_number(rows: &[u32], row: usize, k: usize) -> u32
     requires { ⌜ k < 4 ⌝ }
 {
     if rows.len() / ROW_WIDTH <= row {
@@ -304,7 +310,7 @@ fn row_cell(
 }
 
 fn row_width(table: &[u8], unpacked: &[u32], rows: &[u32], count: usize, column: usize) -> usize {
-    let mut cell = [0u8; 64];
+    let mut cell = [0u8; CELL];
     let mut width = row_cell(&mut cell, table, unpacked, rows, 0, column);
     let mut row = 0;
     while row < count {
@@ -346,7 +352,7 @@ fn put_row_column(
     column: usize,
     width: usize,
 ) -> usize {
-    let mut cell = [0u8; 64];
+    let mut cell = [0u8; CELL];
     let n = row_cell(&mut cell, table, unpacked, rows, line, column);
     put_cell(out, at, text::part(&cell, 0, n), width, column != 1)
 }

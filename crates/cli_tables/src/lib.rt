@@ -8,14 +8,15 @@ use cli_pages::UNUSABLE;
 use cli_pages::ended;
 use cli_pages::flushed;
 use cli_pages::refuse;
+use cli_pages::say;
 use cli_pages::started;
+use cli_pages::unusable;
 use definition::Compiled;
-use libc::STDERR_FILENO;
 use table_walk::Walk;
 
-// The length of a table, or the status to end with.
+// The length of a table and of the same table with names, or the status to end with.
 pub enum Source {
-    Table(usize),
+    Table(usize, usize),
     Ended(u8),
 }
 
@@ -32,22 +33,32 @@ fn has_zero(bytes: &[u8]) -> bool {
 }
 
 // The table in a file's bytes, or the one that the definition there compiles to.
-fn table_from(path: &[u8], bytes: &[u8], table: &mut [u8], out: &mut [u8]) -> Source {
+fn table_from(
+    path: &[u8],
+    bytes: &[u8],
+    table: &mut [u8],
+    named: &mut [u8],
+    out: &mut [u8],
+) -> Source {
     if has_zero(bytes) {
-        return Source::Table(text::put_text(table, 0, bytes));
+        let length = text::put_text(table, 0, bytes);
+        return Source::Table(length, text::put_text(named, 0, bytes));
     }
     match definition::compile(bytes, table) {
-        Compiled::Table(length) => Source::Table(length),
+        Compiled::Table(length) => {
+            let names = cli_names::put_named(named, text::part(table, 0, length), bytes);
+            Source::Table(length, names)
+        }
         Compiled::Refused(number, place) => {
             Source::Ended(refuse(out, path, bytes, number, place))
         }
     }
 }
 
-pub fn table_of(path: &[u8], table: &mut [u8], out: &mut [u8]) -> Source {
+pub fn table_of(path: &[u8], table: &mut [u8], named: &mut [u8], out: &mut [u8]) -> Source {
     let mut buf = io::large_buffer();
     match load(path, &mut buf) {
-        Loaded::Bytes(n) => table_from(path, text::part(&buf, 0, n), table, out),
+        Loaded::Bytes(n) => table_from(path, text::part(&buf, 0, n), table, named, out),
         Loaded::Failed => Source::Ended(UNUSABLE),
     }
 }
@@ -60,36 +71,55 @@ pub fn records_of(table: &[u8], unpacked: &mut [u32]) -> usize {
     }
 }
 
-fn say_size(path: &[u8], table: &[u8], out: &mut [u8]) -> u8 {
+// The line that says how large a file's table is.
+fn put_table_size(out: &mut [u8], path: &[u8], how: &[u8], table: &[u8]) -> usize {
     let mut unpacked = [0u32; 2880];
     let n = records_of(table, &mut unpacked);
-    let at = cli_wording::put_size(out, 0, path, n, table.len());
-    ended(out, started(at), ACCEPTED)
+    cli_wording::put_size(out, 0, path, how, n, table.len())
 }
 
 // ---- compile
 
+// A file that has the definition's text, as the definition itself has, is not written over.
+fn is_free(to: &[u8], bytes: &[u8]) -> bool {
+    if !cli_files::has_bytes(to) {
+        return true;
+    }
+    let mut buf = io::large_buffer();
+    let Loaded::Bytes(n) = load(to, &mut buf) else {
+        return false;
+    };
+    if !classes::same_bytes(text::part(&buf, 0, n), bytes) {
+        return true;
+    }
+    unusable(
+        to,
+        b": this is the definition or a copy of it, and is not overwritten\n",
+    );
+    false
+}
+
+fn write_table(table: &[u8], bytes: &[u8], to: &[u8], out: &mut [u8]) -> u8 {
+    if !is_free(to, bytes) {
+        return UNUSABLE;
+    }
+    if !save(to, table) {
+        return UNUSABLE;
+    }
+    let at = put_table_size(out, to, b": a table of ", table);
+    say(out, at);
+    ACCEPTED
+}
+
 fn compile_bytes(path: &[u8], bytes: &[u8], to: &[u8], out: &mut [u8]) -> u8 {
     let mut table = io::large_buffer();
     match definition::compile(bytes, &mut table) {
-        Compiled::Table(length) => {
-            if !save(to, text::part(&table, 0, length)) {
-                return UNUSABLE;
-            }
-            say_size(to, text::part(&table, 0, length), out)
-        }
+        Compiled::Table(length) => write_table(text::part(&table, 0, length), bytes, to, out),
         Compiled::Refused(number, place) => refuse(out, path, bytes, number, place),
     }
 }
 
 pub fn compile_file(path: &[u8], to: &[u8], out: &mut [u8]) -> u8 {
-    if classes::same_bytes(path, to) {
-        io::write_all(
-            STDERR_FILENO,
-            b"lumas: the table would overwrite the definition\n",
-        );
-        return UNUSABLE;
-    }
     let mut buf = io::large_buffer();
     match load(path, &mut buf) {
         Loaded::Bytes(n) => compile_bytes(path, text::part(&buf, 0, n), to, out),
@@ -97,7 +127,7 @@ pub fn compile_file(path: &[u8], to: &[u8], out: &mut [u8]) -> u8 {
     }
 }
 
-// ---- show and check
+// ---- show
 
 fn print_records(table: &[u8], out: &mut [u8]) -> u8 {
     let mut unpacked = [0u32; 2880];
@@ -116,32 +146,62 @@ fn print_records(table: &[u8], out: &mut [u8]) -> u8 {
     ended(out, page, ACCEPTED)
 }
 
-fn show_table(path: &[u8], table: &[u8], out: &mut [u8]) -> u8 {
+fn show_table(path: &[u8], table: &[u8], named: &[u8], out: &mut [u8]) -> u8 {
     if table::table_ok(table) {
-        return print_records(table, out);
+        return print_records(named, out);
     }
     refuse(out, path, table, 20, 0)
 }
 
 pub fn show_file(path: &[u8], out: &mut [u8]) -> u8 {
     let mut table = io::large_buffer();
-    match table_of(path, &mut table, out) {
-        Source::Table(length) => show_table(path, text::part(&table, 0, length), out),
+    let mut named = io::large_buffer();
+    match table_of(path, &mut table, &mut named, out) {
+        Source::Table(length, names) => show_table(
+            path,
+            text::part(&table, 0, length),
+            text::part(&named, 0, names),
+            out,
+        ),
         Source::Ended(status) => status,
     }
 }
 
+// ---- check
+
+fn answer_size(path: &[u8], how: &[u8], table: &[u8], out: &mut [u8]) -> u8 {
+    let at = put_table_size(out, path, how, table);
+    ended(out, started(at), ACCEPTED)
+}
+
 fn check_table(path: &[u8], table: &[u8], out: &mut [u8]) -> u8 {
     if table::table_ok(table) {
-        return say_size(path, table, out);
+        return answer_size(path, b": a table of ", table, out);
     }
     refuse(out, path, table, 20, 0)
 }
 
+fn check_definition(path: &[u8], bytes: &[u8], out: &mut [u8]) -> u8 {
+    let mut table = io::large_buffer();
+    match definition::compile(bytes, &mut table) {
+        Compiled::Table(length) => answer_size(
+            path,
+            b": compiles to a table of ",
+            text::part(&table, 0, length),
+            out,
+        ),
+        Compiled::Refused(number, place) => refuse(out, path, bytes, number, place),
+    }
+}
+
 pub fn check_file(path: &[u8], out: &mut [u8]) -> u8 {
     let mut buf = io::large_buffer();
-    match load(path, &mut buf) {
-        Loaded::Bytes(n) => check_table(path, text::part(&buf, 0, n), out),
-        Loaded::Failed => UNUSABLE,
+    let Loaded::Bytes(n) = load(path, &mut buf) else {
+        return UNUSABLE;
+    };
+    let bytes = text::part(&buf, 0, n);
+    if has_zero(bytes) {
+        return check_table(path, bytes, out);
     }
+    check_definition(path, bytes, out)
 }

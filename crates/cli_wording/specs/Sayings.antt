@@ -107,7 +107,7 @@ counted n what = decimal n ++ bytes " " ++ what ++ cond (eqb n 1) [] (bytes "s")
 unfoldable pub acceptedLine : List ℕ → ℕ → List ℕ
 acceptedLine file rows = file ++ bytes ": accepted, " ++ counted rows (bytes "row") ++ bytes "\n"
 
--- "tile.table: a table of 5 records, 139 bytes"
-unfoldable pub sizeLine : List ℕ → ℕ → ℕ → List ℕ
-sizeLine file records size =
-    file ++ bytes ": a table of " ++ counted records (bytes "record") ++ bytes ", " ++ counted size (bytes "byte") ++ bytes "\n"
+-- "tile.table: a table of 5 records, 139 bytes"; how is ": a table of "
+unfoldable pub sizeLine : List ℕ → List ℕ → ℕ → ℕ → List ℕ
+sizeLine file how records size =
+    file ++ how ++ counted records (bytes "record") ++ bytes ", " ++ counted size (bytes "byte") ++ bytes "\n"

@@ -193,12 +193,19 @@ pub fn put_accepted(out: &mut [u8], at: usize, file: &[u8], count: usize) -> usi
     text::put_byte(out, o, b'\n')
 }
 
-// "FILE: a table of 5 records, 139 bytes".
-pub fn put_size(out: &mut [u8], at: usize, file: &[u8], count: usize, bytes: usize) -> usize
-    ensures { λ r. ⌜ Wrote (sizeLine (now (file .entry)) count bytes) (now (out .entry)) at (now (out .exit)) r ⌝ }
+// "FILE: a table of 5 records, 139 bytes"; how stands between the file and the numbers.
+pub fn put_size(
+    out: &mut [u8],
+    at: usize,
+    file: &[u8],
+    how: &[u8],
+    count: usize,
+    bytes: usize,
+) -> usize
+    ensures { λ r. ⌜ Wrote (sizeLine (now (file .entry)) (now (how .entry)) count bytes) (now (out .entry)) at (now (out .exit)) r ⌝ }
 {
     let o = put_text(out, at, file);
-    let o = put_text(out, o, b": a table of ");
+    let o = put_text(out, o, how);
     let o = put_count(out, o, count, b"record");
     let o = put_text(out, o, b", ");
     let o = put_count(out, o, bytes, b"byte");

@@ -10,11 +10,8 @@ part-requires c κs = search needs
 put-refusal-requires : tie.Need-put-refusal-requires
 put-refusal-requires c κs = rw (c .part .ensures, length-take) (omega arith)
 
-started-requires : tie.Need-started-requires
-started-requires c κs = search needs
-
-ended-requires : tie.Need-ended-requires
-ended-requires c κs = search needs
+say-requires : tie.Need-say-requires
+say-requires c κs = search needs
 
 same-length : tie.Need-same-length
 same-length c = search needs
@@ -24,11 +21,4 @@ returns c = search needs
 
 pub refuse-spec : {M : Type 1} → statement M
 refuse-spec =
-    tie.close
-    (tie.spec
-    part-requires
-    put-refusal-requires
-    started-requires
-    ended-requires
-    same-length
-    returns)
+    tie.close (tie.spec part-requires put-refusal-requires say-requires same-length returns)

@@ -1,6 +1,6 @@
-use borrow.Author.Needs.{needs}
 use Rattle.text.proofs.Writing.{both}
 use Rattle.cli_report.specs.Shown.{inText}
+use borrow.Author.Needs.{needs}
 use Rattle.cli_report.proofs.refusals.put_in_text.Statement.{statement}
 use Rattle.cli_report.proofs.refusals.put_in_text.Tie as tie
 

@@ -6,7 +6,7 @@ use Rattle.cli_report.proofs.tables.record_width.Statement.{statement}
 use Rattle.cli_report.proofs.tables.record_width.Tie as tie
 
 abbrev Inv-loop : tie.InvT-loop
-Inv-loop table unpacked n column cell₀ width₀ i₀ cell width i = length cell ≡ 64
+Inv-loop table unpacked n column cell₀ width₀ i₀ cell width i = length cell ≡ 160
 
 abbrev μ-loop : tie.MeasureT-loop
 μ-loop table unpacked n column cell₀ width₀ i₀ cell width i = n - i

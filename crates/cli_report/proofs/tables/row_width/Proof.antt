@@ -6,7 +6,7 @@ use Rattle.cli_report.proofs.tables.row_width.Statement.{statement}
 use Rattle.cli_report.proofs.tables.row_width.Tie as tie
 
 abbrev Inv-loop : tie.InvT-loop
-Inv-loop table unpacked rows count column cell₀ width₀ row₀ cell width row = length cell ≡ 64
+Inv-loop table unpacked rows count column cell₀ width₀ row₀ cell width row = length cell ≡ 160
 
 abbrev μ-loop : tie.MeasureT-loop
 μ-loop table unpacked rows count column cell₀ width₀ row₀ cell width row = count - row

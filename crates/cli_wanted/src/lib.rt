@@ -1,0 +1,213 @@
+// What a message refused with 24 or 27 lacks: the type that is wanted at the place, or the fields that are missing.
+// The reader answers a number and a place. To tell whose value or body it is, the message is cut at the place, its braces
+// are closed, and it is read again by a relaxed table, whose rows say so. Up to the place both tables read the same.
+mod again;
+mod relaxed;
+
+use again::NOBODY;
+use again::PARAMETER;
+use again::PARENT;
+use again::body_row;
+use again::due_at;
+use again::read_cut;
+use cli_report::row_number;
+use relaxed::put_relaxed;
+
+// The refusals of which more can be said.
+const NO_VALUE: u32 = 24;
+
+const FIELD_MISSING: u32 = 27;
+
+// Kinds of records.
+const VOID: u32 = 1;
+
+const INT: u32 = 3;
+
+const WORD: u32 = 5;
+
+const UNION: u32 = 9;
+
+const REFERENCE: u32 = 10;
+
+// The record that has a parameter's kind, range and body: a reference's target, or its own.
+fn resolved(table: &[u8], unpacked: &[u32], p: usize) -> usize {
+    if table_records::kind_at(table, unpacked, p) == REFERENCE {
+        return table_records::target_at(table, unpacked, p);
+    }
+    p
+}
+
+// ---- 27
+
+fn is_required(table: &[u8], unpacked: &[u32], k: usize) -> bool {
+    (0 < table_records::lo_count_at(table, unpacked, k))
+        & !table_records::extension_at(table, unpacked, k)
+        & !table_records::plugin_at(table, unpacked, k)
+}
+
+// Has the body of a row a value of parameter k?
+fn is_given(rows: &[u32], count: usize, body: usize, k: usize) -> bool {
+    let mut row = 0;
+    while row < count {
+        if (text::size(row_number(rows, row, PARENT)) == body)
+            & (text::size(row_number(rows, row, PARAMETER)) == k)
+        {
+            return true;
+        }
+        row += 1;
+    }
+    false
+}
+
+// Is parameter k a required field of record s that the body of a row has not?
+fn is_missing(
+    table: &[u8],
+    unpacked: &[u32],
+    s: usize,
+    rows: &[u32],
+    count: usize,
+    body: usize,
+    k: usize,
+) -> bool {
+    table_records::is_under(table, unpacked, k, s)
+        & is_required(table, unpacked, k)
+        & !is_given(rows, count, body, k)
+}
+
+// One more label of a list that begins at first, if it is in it.
+fn put_if(out: &mut [u8], at: usize, first: usize, is_in: bool, label: &[u8]) -> usize {
+    if !is_in {
+        return at;
+    }
+    if at == first {
+        return text::put_text(out, at, label);
+    }
+    let o = text::put_text(out, at, b", ");
+    text::put_text(out, o, label)
+}
+
+// "missing: surveyed, d": the required fields of record s, of n records in all, that the body of a row has not.
+fn put_missing(
+    out: &mut [u8],
+    table: &[u8],
+    unpacked: &[u32],
+    n: usize,
+    s: usize,
+    rows: &[u32],
+    count: usize,
+    body: usize,
+) -> usize {
+    let first = text::put_text(out, 0, b"missing: ");
+    let mut o = first;
+    let mut k = 0;
+    while k < n {
+        let is_in = is_missing(table, unpacked, s, rows, count, body, k);
+        let label = table_records::label_at(table, unpacked, k);
+        o = put_if(out, o, first, is_in, label);
+        k += 1;
+    }
+    text::put_byte(out, o, b'\n')
+}
+
+fn say_missing(
+    out: &mut [u8],
+    relaxed: &[u8],
+    named: &[u8],
+    message: &[u8],
+    place: usize,
+    rows: &mut [u32],
+) -> usize {
+    let count = read_cut(relaxed, message, place, b"", rows);
+    let body = body_row(rows, count, message, place);
+    if count <= body {
+        return 0;
+    }
+    let mut unpacked = [0u32; 2880];
+    let n = cli_tables::records_of(named, &mut unpacked);
+    let s = resolved(
+        named,
+        &unpacked,
+        text::size(row_number(rows, body, PARAMETER)),
+    );
+    put_missing(out, named, &unpacked, n, s, rows, count, body)
+}
+
+// ---- 24
+
+// "int<1..99999>", "date".
+fn put_type(out: &mut [u8], at: usize, table: &[u8], unpacked: &[u32], t: usize) -> usize {
+    let kind = table_records::kind_at(table, unpacked, t);
+    let o = cli_wording::put_kind(out, at, kind);
+    if (kind < INT) | (WORD < kind) {
+        return o;
+    }
+    let o = text::put_byte(out, o, b'<');
+    let o = cli_report::put_bounds(
+        out,
+        o,
+        table_records::least_at(table, unpacked, t),
+        table_records::most_at(table, unpacked, t),
+    );
+    text::put_byte(out, o, b'>')
+}
+
+// Is a parameter the int that a union takes without a tag?
+fn is_choice(table: &[u8], unpacked: &[u32], p: usize) -> bool {
+    let parent = table_records::parent_at(table, unpacked, p);
+    table_records::untagged_at(table, unpacked, p)
+        & (table_records::kind_at(table, unpacked, parent) == UNION)
+}
+
+// "wanted: int<1..99999> id". In place of a union's int a tag of the union can stand.
+fn put_wanted(out: &mut [u8], table: &[u8], unpacked: &[u32], p: usize) -> usize {
+    let o = text::put_text(out, 0, b"wanted: ");
+    let o = put_type(out, o, table, unpacked, resolved(table, unpacked, p));
+    let o = text::put_byte(out, o, b' ');
+    let o = text::put_text(out, o, table_records::label_at(table, unpacked, p));
+    if is_choice(table, unpacked, p) {
+        return text::put_text(out, o, b", or a tag of the union\n");
+    }
+    text::put_byte(out, o, b'\n')
+}
+
+// A void that takes the probing word is a union's, and says nothing of what else the union takes.
+fn say_wanted(
+    out: &mut [u8],
+    relaxed: &[u8],
+    named: &[u8],
+    message: &[u8],
+    place: usize,
+    rows: &mut [u32],
+) -> usize {
+    let p = due_at(relaxed, message, place, rows);
+    let mut unpacked = [0u32; 2880];
+    let n = cli_tables::records_of(named, &mut unpacked);
+    if (n <= p) | (table_records::kind_at(named, &unpacked, p) == VOID) {
+        return 0;
+    }
+    put_wanted(out, named, &unpacked, p)
+}
+
+// ---- both
+
+// Puts what more can be said of a refusal, and answers how many bytes it has. The labels are those of the table with names.
+pub fn put_lacking(
+    out: &mut [u8],
+    table: &[u8],
+    named: &[u8],
+    message: &[u8],
+    number: u32,
+    place: usize,
+    rows: &mut [u32],
+) -> usize {
+    if (number != NO_VALUE) & (number != FIELD_MISSING) {
+        return 0;
+    }
+    let mut relaxed = io::large_buffer();
+    let length = put_relaxed(&mut relaxed, table);
+    let relaxed = text::part(&relaxed, 0, length);
+    if number == FIELD_MISSING {
+        return say_missing(out, relaxed, named, message, place, rows);
+    }
+    say_wanted(out, relaxed, named, message, place, rows)
+}
