@@ -4,4 +4,5 @@ mod Linking
 pub mod Searching
 -- a tag that stands twice
 mod Again
-pub mod Found
+-- what the code says it found
+pub mod Search

@@ -3,7 +3,7 @@ use native.Mathlib.Omega.{arith}
 use denote.Ref.{now}
 use Rattle.message_lookup.proofs.Marked.{complete-marks}
 use Rattle.message_frame.proofs.AtToken.{step-of-word}
-use Rattle.table_tags.proofs.Found.{found-at, found-none}
+use Rattle.table_tags.proofs.Search.{found-at, found-none}
 use Rattle.message_bodies.proofs.Parts.{unknown-ends, known-ends, items-done, items-stopped}
 use borrow.Author.Needs.{needs}
 use Rattle.message_bodies.proofs.item_at.Statement.{statement}

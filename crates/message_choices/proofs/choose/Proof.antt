@@ -2,7 +2,7 @@ use mathlib.Core.Path.{_≡_, sym, _∙_, refl, ap}
 use native.Mathlib.Omega.{arith}
 use denote.Ref.{now}
 use Rattle.message_frame.proofs.AtToken.{step-of-word, union-stopped}
-use Rattle.table_tags.proofs.Found.{found-at, found-none}
+use Rattle.table_tags.proofs.Search.{found-at, found-none}
 use Rattle.message_choices.proofs.Parts.{int-whole, int-stopped, chosen-ends}
 use borrow.Author.Needs.{needs}
 use Rattle.message_choices.proofs.choose.Statement.{statement}

@@ -1,7 +1,7 @@
 use mathlib.Core.List.{[]}
 use native.Mathlib.Omega.{arith}
 use Rattle.message_lookup.proofs.Laws.{untagged-next, untagged-none}
-use Rattle.table_tags.proofs.Found.{found-at, found-none}
+use Rattle.table_tags.proofs.Search.{found-at, found-none}
 use Rattle.message_frame.specs.declared.Got.the-variants.{Done, Refused}
 use Rattle.message_reader.proofs.Steps.{next-between, field-none, bodying-out, due-field}
 use borrow.Author.Needs.{needs}
