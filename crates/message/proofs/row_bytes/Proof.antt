@@ -6,84 +6,61 @@ use Rattle.message.proofs.Passes.{bytes-lost, bytes-back, bytes-over, b
 use borrow.Author.Needs.{needs}
 use Rattle.message.proofs.row_bytes.Statement.{statement}
 use Rattle.message.proofs.row_bytes.Tie as tie
-use Rattle.message.proofs.row_bytes.Reads as reads
-use Rattle.message.proofs.row_bytes.Lts as lts
-use Rattle.message.proofs.empty_part.Reads as empty-part-reads
-use Rattle.message.proofs.wide.Reads as wide-reads
 
--- src/lib.rt:53:9
 empty-part-requires : tie.Need-empty-part-requires
 empty-part-requires c κs = search needs
 
--- src/lib.rt:53:9
 returns : tie.Need-returns
 returns c = let x = bytes-lost _ _ _ (c .before .if1 .taken) in (c .empty-part .ensures .0 ∙ x .0, c .empty-part .ensures .1 ∙ ap (further (c .before .before .before .before .args .message .ptr)) (x .1))
 
--- src/lib.rt:55:27
 mul-wide : tie.Need-mul-wide
 mul-wide c = search needs
 
--- src/lib.rt:55:27
 add-wide : tie.Need-add-wide
 add-wide c = search needs
 
--- src/lib.rt:55:22
 mul-wide-2 : tie.Need-mul-wide-2
 mul-wide-2 c = search needs
 
--- src/lib.rt:55:22
 shared-slice-read-wide : tie.Need-shared-slice-read-wide
 shared-slice-read-wide c = search needs
 
--- src/lib.rt:55:9
 wide-requires : tie.Need-wide-requires
 wide-requires c κs = search needs
 
--- src/lib.rt:56:25
 mul-wide-3 : tie.Need-mul-wide-3
 mul-wide-3 c = search needs
 
--- src/lib.rt:56:25
 add-wide-2 : tie.Need-add-wide-2
 add-wide-2 c = search needs
 
--- src/lib.rt:56:20
 mul-wide-4 : tie.Need-mul-wide-4
 mul-wide-4 c = search needs
 
--- src/lib.rt:56:20
 shared-slice-read-wide-2 : tie.Need-shared-slice-read-wide-2
 shared-slice-read-wide-2 c = search needs
 
--- src/lib.rt:56:9
 wide-requires-2 : tie.Need-wide-requires-2
 wide-requires-2 c κs = search needs
 
--- src/lib.rt:58:9
 empty-part-requires-2 : tie.Need-empty-part-requires-2
 empty-part-requires-2 c κs = search needs
 
--- src/lib.rt:58:9
 returns-2 : tie.Need-returns-2
 returns-2 c = let x = bytes-back _ _ _ (c .before .before .before .before .before .before .if1 .left) (rw (c .before .before .wide2 .ensures .0, c .before .before .before .before .wide .ensures .0) at (c .before .if2 .taken)) in (c .empty-part2 .ensures .0 ∙ x .0, c .empty-part2 .ensures .1 ∙ ap (further (c .before .before .before .before .before .before .before .before .before .args .message .ptr)) (x .1))
 
--- src/lib.rt:61:9
 empty-part-requires-3 : tie.Need-empty-part-requires-3
 empty-part-requires-3 c κs = search needs
 
--- src/lib.rt:61:9
 returns-3 : tie.Need-returns-3
 returns-3 c = let x = bytes-over _ _ _ (c .before .before .before .before .before .before .before .if1 .left) (rw (c .before .before .before .wide2 .ensures .0, c .before .before .before .before .before .wide .ensures .0) at (c .before .before .if2 .left)) (rw (c .before .before .before .wide2 .ensures .0) at (c .before .if3 .taken)) in (c .empty-part3 .ensures .0 ∙ x .0, c .empty-part3 .ensures .1 ∙ ap (further (c .before .before .before .before .before .before .before .before .before .before .args .message .ptr)) (x .1))
 
--- src/lib.rt:63:5
 part-result-start : tie.Need-part-result-start
 part-result-start c = search needs
 
--- src/lib.rt:63:5
 part-result-end : tie.Need-part-result-end
 part-result-end c = search needs
 
--- src/lib.rt:48:1
 returns-4 : tie.Need-returns-4
 returns-4 c = let x = bytes-there _ _ _ (c .before .before .before .before .before .before .before .if1 .left) (rw (c .before .before .before .wide2 .ensures .0, c .before .before .before .before .before .wide .ensures .0) at (c .before .before .if2 .left)) (rw (c .before .before .before .wide2 .ensures .0) at (c .before .if3 .left)) in rw (c .before .before .before .before .before .wide .ensures .0, c .before .before .before .wide2 .ensures .0) (x .0, ap (further (c .before .before .before .before .before .before .before .before .before .before .args .message .ptr)) (x .1))
 
