@@ -5,6 +5,9 @@ use Prim.Native.Nat.{ℕ, _*_}
 use lib.Dec.{eqb, ltb}
 use lib.Seq.{sets}
 use Rattle.classes.specs.Lists.{pick}
+use Rattle.definition_cells.specs.Cells.{cellWidth}
+use Rattle.numbers.specs.Limits.{parameterLimit}
+use Rattle.definition_automaton.specs.Names.{referenceRun, takeType, takeRange, takeName, takeCard, takeTag, takeNoTag, takePlugin, endHeading, openBody, takeNameAfterRange}
 use Rattle.definition_automaton.specs.States.{contextOf, parentNumber, extensionFlag}
 use Rattle.definition_automaton.specs.declared.State.{State}
 use Rattle.definition_automaton.specs.declared.Span.{Span}
@@ -14,7 +17,7 @@ abbrev pub span : ℕ → ℕ → Span
 span s e = record { start = s; end = e }
 
 abbrev pub none : Pending
-none = record { typed = span 0 0; range = span 0 0; name = span 0 0; card = span 0 0; tag = span 0 0; ranged = 0; carded = 0; tagged = 0; plugin = 0; kind = 259 }
+none = record { typed = span 0 0; range = span 0 0; name = span 0 0; card = span 0 0; tag = span 0 0; ranged = 0; carded = 0; tagged = 0; plugin = 0; kind = referenceRun }
 
 abbrev pub typedOf : Pending → ℕ → Span → Pending
 typedOf p kind x = record { typed = x; range = p .range; name = p .name; card = p .card; tag = p .tag; ranged = p .ranged; carded = p .carded; tagged = p .tagged; plugin = p .plugin; kind = kind }
@@ -44,14 +47,14 @@ pluggedOf p = record { typed = p .typed; range = p .range; name = p .name; card 
 
 unfoldable pub pendingBy : Pending → ℕ → ℕ → Span → Pending
 pendingBy p a kind x =
-    pick (eqb a 1) (typedOf p kind x)
-    (pick (eqb a 3) (rangedOf p x)
-    (pick (eqb a 5) (namedOf (rangelessOf p) 0 x)
-    (pick (eqb a 7) (cardedOf p x)
-    (pick (eqb a 10) (taggedOf p x)
-    (pick (eqb a 11) (untaggedOf p)
-    (pick (eqb a 12) (pluggedOf p)
-    (pick (eqb a 19) (namedOf p 1 x) p)))))))
+    pick (eqb a takeType) (typedOf p kind x)
+    (pick (eqb a takeRange) (rangedOf p x)
+    (pick (eqb a takeName) (namedOf (rangelessOf p) 0 x)
+    (pick (eqb a takeCard) (cardedOf p x)
+    (pick (eqb a takeTag) (taggedOf p x)
+    (pick (eqb a takeNoTag) (untaggedOf p)
+    (pick (eqb a takePlugin) (pluggedOf p)
+    (pick (eqb a takeNameAfterRange) (namedOf p 1 x) p)))))))
 
 -- in the order of Cells
 abbrev pub runCells : Pending → List ℕ
@@ -64,7 +67,7 @@ abbrev pub cellsOf : Pending → ℕ → ℕ → List ℕ
 cellsOf p extension parent = runCells p ++ restCells p extension parent
 
 unfoldable pub notes : ℕ → Bool
-notes a = eqb a 13 || eqb a 14
+notes a = eqb a endHeading || eqb a openBody
 
 unfoldable pub noteCells : State → Pending → ℕ → List ℕ → List ℕ
-noteCells s p a cs = pick (notes a && ltb (s .count) 256) (sets cs (16 * s .count) (cellsOf p (extensionFlag (contextOf s)) (parentNumber s))) cs
+noteCells s p a cs = pick (notes a && ltb (s .count) parameterLimit) (sets cs (cellWidth * s .count) (cellsOf p (extensionFlag (contextOf s)) (parentNumber s))) cs

@@ -13,9 +13,9 @@ ghost use Rattle.definition_automaton.specs.Noting.{none, typedOf, range
 // ---- numbers by name
 
 // A token's kind: the end, a bad byte, a mark's byte, or one of the runs below.
-pub const END: u32 = 0;
+pub const END_TOKEN: u32 = 0;
 
-pub const BAD: u32 = 1;
+pub const BAD_TOKEN: u32 = 1;
 
 const SEMICOLON: u32 = b';' as u32;
 
@@ -41,11 +41,11 @@ pub const SIMPLE_TYPE: u32 = 257;
 
 pub const COMPOUND_TYPE: u32 = 258;
 
-pub const REFERENCE: u32 = 259;
+pub const REFERENCE_RUN: u32 = 259;
 
-pub const AS: u32 = 260;
+pub const AS_RUN: u32 = 260;
 
-pub const PLUGIN: u32 = 261;
+pub const PLUGIN_RUN: u32 = 261;
 
 // The least kind of a run.
 const RUNS: u32 = RANGED_TYPE;
@@ -53,51 +53,51 @@ const RUNS: u32 = RANGED_TYPE;
 // Modes: where a parameter or a body's end is due, a `;` after a body is, after a type, where its range is due, its `>`,
 // a name after a range, after a name, a cardinality, a tag, plugin, where a cardinality's range is due, a tag, a
 // cardinality's `]`.
-pub const AT_START: u32 = 0;
+pub const AT_START_MODE: u32 = 0;
 
-const DUE_SEMICOLON: u32 = 1;
+const DUE_SEMICOLON_MODE: u32 = 1;
 
-const AFTER_TYPE: u32 = 2;
+const AFTER_TYPE_MODE: u32 = 2;
 
-const DUE_RANGE: u32 = 3;
+const DUE_RANGE_MODE: u32 = 3;
 
-const DUE_RANGE_END: u32 = 4;
+const DUE_RANGE_END_MODE: u32 = 4;
 
-const DUE_NAME: u32 = 5;
+const DUE_NAME_MODE: u32 = 5;
 
-const AFTER_NAME: u32 = 6;
+const AFTER_NAME_MODE: u32 = 6;
 
-const AFTER_CARD: u32 = 7;
+const AFTER_CARD_MODE: u32 = 7;
 
-const AFTER_TAG: u32 = 8;
+const AFTER_TAG_MODE: u32 = 8;
 
-const AFTER_PLUGIN: u32 = 9;
+const AFTER_PLUGIN_MODE: u32 = 9;
 
-const DUE_CARD: u32 = 10;
+const DUE_CARD_MODE: u32 = 10;
 
-const DUE_TAG: u32 = 11;
+const DUE_TAG_MODE: u32 = 11;
 
-const DUE_CARD_END: u32 = 12;
+const DUE_CARD_END_MODE: u32 = 12;
 
 // How far a body is: among the fields, a group just opened, in a group, after a group.
-const IN_FIELDS: u32 = 0;
+const FIELDS_PART: u32 = 0;
 
-const GROUP_OPENED: u32 = 1;
+const OPENED_PART: u32 = 1;
 
-const IN_GROUP: u32 = 2;
+const GROUP_PART: u32 = 2;
 
-const GROUPS_CLOSED: u32 = 3;
+const CLOSED_PART: u32 = 3;
 
 // A context: at the top, or one more than how far the innermost body is.
-const AT_TOP: u32 = 0;
+const TOP_CONTEXT: u32 = 0;
 
-const FIELDS_CONTEXT: u32 = IN_FIELDS + 1;
+const FIELDS_CONTEXT: u32 = FIELDS_PART + 1;
 
-const OPENED_CONTEXT: u32 = GROUP_OPENED + 1;
+const OPENED_CONTEXT: u32 = OPENED_PART + 1;
 
-const GROUP_CONTEXT: u32 = IN_GROUP + 1;
+const GROUP_CONTEXT: u32 = GROUP_PART + 1;
 
-const CLOSED_CONTEXT: u32 = GROUPS_CLOSED + 1;
+const CLOSED_CONTEXT: u32 = CLOSED_PART + 1;
 
 // What a token does: it can't go on, or it is a type, `<`, a type's range, `>`, a name, `[` of a cardinality, its range,
 // its `]`, `as`, a tag, `?`, plugin, `;`, `{`, `}`, `;` after a body, `[` and `]` of a group, a name after a range.
@@ -199,8 +199,8 @@ fn end_act(kind: u32, k: u32) -> u32
 fn plugin_act(context: u32, kind: u32, k: u32) -> u32
     ensures { λ r. ⌜ r ≡ pluginAct context kind k ⌝ }
 {
-    if k == PLUGIN {
-        if context == AT_TOP {
+    if k == PLUGIN_RUN {
+        if context == TOP_CONTEXT {
             return STUCK;
         }
         return TAKE_PLUGIN;
@@ -212,8 +212,8 @@ fn plugin_act(context: u32, kind: u32, k: u32) -> u32
 fn as_act(context: u32, kind: u32, k: u32) -> u32
     ensures { λ r. ⌜ r ≡ asAct context kind k ⌝ }
 {
-    if k == AS {
-        if context == AT_TOP {
+    if k == AS_RUN {
+        if context == TOP_CONTEXT {
             return STUCK;
         }
         return TAKE_AS;
@@ -226,7 +226,7 @@ fn name_act(context: u32, kind: u32, k: u32) -> u32
     ensures { λ r. ⌜ r ≡ nameAct context kind k ⌝ }
 {
     if k == BRACKET_OPENS {
-        if context == AT_TOP {
+        if context == TOP_CONTEXT {
             return STUCK;
         }
         return OPEN_CARD;
@@ -238,8 +238,8 @@ fn name_act(context: u32, kind: u32, k: u32) -> u32
 fn type_act(context: u32, k: u32) -> u32
     ensures { λ r. ⌜ r ≡ typeAct context k ⌝ }
 {
-    if context == AT_TOP {
-        if k < REFERENCE {
+    if context == TOP_CONTEXT {
+        if k < REFERENCE_RUN {
             return TAKE_TYPE;
         }
         return STUCK;
@@ -338,44 +338,44 @@ pub fn act(mode: u32, context: u32, kind: u32, k: u32) -> u32
     ensures { λ r. ⌜ r ≡ actOf mode context kind k ⌝ }
 {
     match mode {
-        AT_START => start_act(context, k),
-        DUE_SEMICOLON => mark_act(SEMICOLON, END_BODY, k),
-        AFTER_TYPE => typed_act(kind, k),
-        DUE_RANGE => run_act(TAKE_RANGE, k),
-        DUE_RANGE_END => mark_act(RANGE_CLOSES, CLOSE_RANGE, k),
-        DUE_NAME => run_act(TAKE_NAME_AFTER_RANGE, k),
-        AFTER_NAME => name_act(context, kind, k),
-        AFTER_CARD => as_act(context, kind, k),
-        AFTER_TAG => plugin_act(context, kind, k),
-        AFTER_PLUGIN => end_act(kind, k),
-        DUE_CARD => run_act(TAKE_CARD, k),
-        DUE_TAG => tag_act(k),
+        AT_START_MODE => start_act(context, k),
+        DUE_SEMICOLON_MODE => mark_act(SEMICOLON, END_BODY, k),
+        AFTER_TYPE_MODE => typed_act(kind, k),
+        DUE_RANGE_MODE => run_act(TAKE_RANGE, k),
+        DUE_RANGE_END_MODE => mark_act(RANGE_CLOSES, CLOSE_RANGE, k),
+        DUE_NAME_MODE => run_act(TAKE_NAME_AFTER_RANGE, k),
+        AFTER_NAME_MODE => name_act(context, kind, k),
+        AFTER_CARD_MODE => as_act(context, kind, k),
+        AFTER_TAG_MODE => plugin_act(context, kind, k),
+        AFTER_PLUGIN_MODE => end_act(kind, k),
+        DUE_CARD_MODE => run_act(TAKE_CARD, k),
+        DUE_TAG_MODE => tag_act(k),
         _ => mark_act(BRACKET_CLOSES, CLOSE_CARD, k),
     }
 }
 
 // The mode after each act, in the order of the acts.
 const NEXT: [u32; 20] = [
-    AT_START,
-    AFTER_TYPE,
-    DUE_RANGE,
-    DUE_RANGE_END,
-    DUE_NAME,
-    AFTER_NAME,
-    DUE_CARD,
-    DUE_CARD_END,
-    AFTER_CARD,
-    DUE_TAG,
-    AFTER_TAG,
-    AFTER_TAG,
-    AFTER_PLUGIN,
-    AT_START,
-    AT_START,
-    DUE_SEMICOLON,
-    AT_START,
-    AT_START,
-    AT_START,
-    AFTER_NAME,
+    AT_START_MODE,
+    AFTER_TYPE_MODE,
+    DUE_RANGE_MODE,
+    DUE_RANGE_END_MODE,
+    DUE_NAME_MODE,
+    AFTER_NAME_MODE,
+    DUE_CARD_MODE,
+    DUE_CARD_END_MODE,
+    AFTER_CARD_MODE,
+    DUE_TAG_MODE,
+    AFTER_TAG_MODE,
+    AFTER_TAG_MODE,
+    AFTER_PLUGIN_MODE,
+    AT_START_MODE,
+    AT_START_MODE,
+    DUE_SEMICOLON_MODE,
+    AT_START_MODE,
+    AT_START_MODE,
+    AT_START_MODE,
+    AFTER_NAME_MODE,
 ];
 
 fn next_mode(a: u32) -> u32
@@ -385,7 +385,7 @@ fn next_mode(a: u32) -> u32
         let i = a as usize;
         return NEXT[i];
     }
-    AT_START
+    AT_START_MODE
 }
 
 // ---- the state
@@ -394,7 +394,7 @@ pub fn start() -> State
     ensures { λ r. ⌜ r ≡ started ⌝ }
 {
     State {
-        mode: AT_START,
+        mode: AT_START_MODE,
         depth: 0,
         numbers: [0, 0, 0, 0, 0, 0, 0, 0],
         bodies: [0, 0, 0, 0, 0, 0, 0, 0],
@@ -415,8 +415,8 @@ fn entry(row: [u32; numbers::DEPTH_LIMIT], i: usize) -> u32
 fn body_after(m: u32) -> u32
     ensures { λ r. ⌜ r ≡ bodyAfter m ⌝ }
 {
-    if m == GROUP_OPENED {
-        return IN_GROUP;
+    if m == OPENED_PART {
+        return GROUP_PART;
     }
     m
 }
@@ -424,7 +424,7 @@ fn body_after(m: u32) -> u32
 fn context_number(m: u32) -> u32
     ensures { λ r. ⌜ r ≡ contextNumber m ⌝ }
 {
-    if m < GROUPS_CLOSED {
+    if m < CLOSED_PART {
         return m + 1;
     }
     CLOSED_CONTEXT
@@ -465,7 +465,7 @@ impl State {
     {
         let d = self.depth;
         if d == 0 {
-            return AT_TOP;
+            return TOP_CONTEXT;
         }
         let row = self.bodies;
         context_number(entry(row, d - 1))
@@ -521,7 +521,7 @@ impl State {
             return self;
         }
         self.numbers[d] = (c % 65536) as u32;
-        self.bodies[d] = IN_FIELDS;
+        self.bodies[d] = FIELDS_PART;
         self.depth = d + 1;
         self
     }
@@ -557,8 +557,8 @@ impl State {
             END_HEADING => st.field_done().counted(name),
             OPEN_BODY => st.field_done().pushed().counted(name),
             CLOSE_BODY => st.popped(),
-            OPEN_GROUP => st.in_body(GROUP_OPENED),
-            CLOSE_GROUP => st.in_body(GROUPS_CLOSED),
+            OPEN_GROUP => st.in_body(OPENED_PART),
+            CLOSE_GROUP => st.in_body(CLOSED_PART),
             _ => st,
         }
     }
@@ -580,7 +580,7 @@ pub fn nothing() -> Pending
         carded: 0,
         tagged: definition_cells::OWN_NAME,
         plugin: 0,
-        kind: REFERENCE,
+        kind: REFERENCE_RUN,
     }
 }
 

@@ -34,7 +34,7 @@ fn type_kind(k: u32) -> u32
     ensures { λ r. ⌜ r ≡ typeKind k ⌝ }
 {
     if k == numbers::REFERENCE {
-        return definition_automaton::REFERENCE;
+        return definition_automaton::REFERENCE_RUN;
     }
     if numbers::STRUCT <= k {
         return definition_automaton::COMPOUND_TYPE;
@@ -53,10 +53,10 @@ fn run_kind(w: &[u8]) -> u32
     ensures { λ r. ⌜ r ≡ runKind (now (w .entry)) ⌝ }
 {
     if definition_words::is_as(w) {
-        return definition_automaton::AS;
+        return definition_automaton::AS_RUN;
     }
     if definition_words::is_plugin(w) {
-        return definition_automaton::PLUGIN;
+        return definition_automaton::PLUGIN_RUN;
     }
     type_kind(definition_words::kind_of_run(w))
 }
@@ -80,14 +80,14 @@ fn seen_from(c: Cursor, text: &[u8]) -> Seen
             end: d.at,
         },
         Lexeme::Bad(p) => Seen {
-            kind: definition_automaton::BAD,
+            kind: definition_automaton::BAD_TOKEN,
             start: p,
             end: p + 1,
         },
         Lexeme::End => {
             let n = text.len();
             Seen {
-                kind: definition_automaton::END,
+                kind: definition_automaton::END_TOKEN,
                 start: n,
                 end: n,
             }
@@ -98,7 +98,7 @@ fn seen_from(c: Cursor, text: &[u8]) -> Seen
 fn finish(st: State, len: usize) -> Formed
     ensures { λ r. ⌜ r ≡ finishOf st len ⌝ }
 {
-    if st.mode != definition_automaton::AT_START {
+    if st.mode != definition_automaton::AT_START_MODE {
         return Formed::Stuck(len);
     }
     if st.depth != 0 {
@@ -124,7 +124,7 @@ pub fn forms(text: &[u8], cells: &mut [u32]) -> Formed
     let mut x = seen_from(first, text);
     let mut st = definition_automaton::start();
     let mut p = definition_automaton::nothing();
-    while x.kind != definition_automaton::END {
+    while x.kind != definition_automaton::END_TOKEN {
         let a = definition_automaton::act(st.mode, st.context(), p.kind, x.kind);
         if a == definition_automaton::STUCK {
             return Formed::Stuck(x.start);

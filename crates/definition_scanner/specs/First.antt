@@ -8,6 +8,7 @@ use Rattle.definition_scanner.specs.Live.{liveFrom}
 use Rattle.definition_cells.specs.Places.{leastPlace}
 use Rattle.definition_scanner.specs.declared.Step.{Step}
 use Rattle.definition_scanner.specs.declared.Step.the-variants.{On, Out}
+use Rattle.numbers.specs.Limits.{depthLimit}
 
 -- the faults from a place on, with some braces open
 unfoldable pub faultsFrom : List ℕ → ℕ → ℕ → List ℕ
@@ -17,7 +18,7 @@ pub record GoesOn (text : List ℕ) (at deep e n : ℕ) : Type 0 where
   pub same : faultsFrom text at deep ≡ faultsFrom text e n
   pub after : at < e
   pub within : e ≤ length text
-  pub few : n ≤ 8
+  pub few : n ≤ depthLimit
 
 abbrev pub ScanStep : List ℕ → ℕ → ℕ → Step → Type 0
 ScanStep text at deep (On c n) = GoesOn text at deep (c .at) n

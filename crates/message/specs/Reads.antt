@@ -1,7 +1,7 @@
 -- The code's answers in the paper's terms, and what the two passes ensure.
 use mathlib.Core.Path.{_≡_}
 use mathlib.Core.List.{List}
-use Prim.Native.Nat.{ℕ}
+use Prim.Native.Nat.{ℕ, _+_}
 use lib.ListN.{length}
 use lib.Seq.{sets}
 use Rattle.numbers.specs.Limits.{openLimit}
@@ -22,7 +22,7 @@ answerOfRead (Accepted n) = accepted n
 answerOfRead (Refused n place) = refusal n place
 
 abbrev pub rootFrame : Frame
-rootFrame = record { base = 0; at = 0; row = 1; parameter = 0; parent = 0; depth = 17 }
+rootFrame = record { base = 0; at = 0; row = 1; parameter = 0; parent = 0; depth = openLimit + 1 }
 
 -- what the tokens of a message without number 22 make
 abbrev pub reading : List ℕ → List ℕ → ℕ → List ℕ → RoomFree
