@@ -78,18 +78,18 @@ fn put_with_cells(out: &mut [u8], table: &[u8], definition: &[u8], cells: &[u32]
     let mut unpacked = [0u32; 2880];
     match table_walk::unpack(table, &mut unpacked) {
         Walk::Count(n) => put_records(out, table, &unpacked, n, definition, cells),
-        Walk::Bad => 0,
+        Walk::Bad => text::put_text(out, 0, table),
     }
 }
 
-// Puts the table that the definition compiles to, with names, and answers its length.
+// Puts the table that the definition compiles to, with names, and answers its length. Any other table is put as it is.
 pub fn put_named(out: &mut [u8], table: &[u8], definition: &[u8]) -> usize {
     if TEXT_LIMIT < definition.len() {
-        return 0;
+        return text::put_text(out, 0, table);
     }
     let mut cells = [0u32; 4096];
     match definition_forms::forms(definition, &mut cells) {
         Formed::Complete(_) => put_with_cells(out, table, definition, &cells),
-        _ => 0,
+        _ => text::put_text(out, 0, table),
     }
 }

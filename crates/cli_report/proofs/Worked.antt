@@ -6,7 +6,7 @@ use Rattle.classes.specs.Lists.{runOf}
 use Rattle.text.specs.Text.{each, decimal, placesFrom}
 use Rattle.cli_places.specs.Lines.{breaksBefore, lineStart, lineEnd, blanksOff}
 use Rattle.cli_wording.specs.Sayings.{bytes, sayingOf, meaning, meaningLine}
-use Rattle.cli_report.specs.Shown.{shownByte, blankFor, viewStart, viewEnd, markText, viewText, whereText, inText, inTable, neededText, refusalText, unknownLine}
+use Rattle.cli_report.specs.Shown.{shownByte, blankFor, viewStart, viewEnd, markText, viewText, whereText, inText, inTable, neededText, refusalText, unknownLine, intText, boundsText}
 
 -- 01: D, `17 d=812`: 27 at 8
 at-the-end : refusalText (bytes "tile.msg") (bytes "17 d=812") 27 8
@@ -40,3 +40,8 @@ passed-over : unknownLine (bytes "tile.msg") (bytes "17 z surveyed=20240310 d=1"
     ≡ bytes "tile.msg:1:4: unknown, passed over: z\n"
 unfolding unknownLine whereText bytes breaksBefore lineStart decimal placesFrom
 passed-over = refl
+
+-- 01: the range -180 to 180, counted from the least i32
+a-range : boundsText 2147483468 2147483828 ≡ bytes "-180..180"
+unfolding boundsText intText bytes decimal placesFrom
+a-range = refl

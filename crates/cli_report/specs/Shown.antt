@@ -66,3 +66,11 @@ refusalText file s number p =
 -- "tile.msg:1:26: unknown, passed over: tide"
 unfoldable pub unknownLine : List ℕ → List ℕ → ℕ → List ℕ → List ℕ
 unknownLine file s p word = whereText file s p ++ bytes "unknown, passed over: " ++ word ++ bytes "\n"
+
+-- an int that is counted from the least i32
+unfoldable pub intText : ℕ → List ℕ
+intText n = cond (ltb n 0x80000000) (45 ∷ decimal (0x80000000 - n)) (decimal (n - 0x80000000))
+
+-- "-180..180"
+unfoldable pub boundsText : ℕ → ℕ → List ℕ
+boundsText least most = intText least ++ bytes ".." ++ intText most

@@ -1,6 +1,8 @@
 // Rows and records as tables. Line 0 has the columns' heads, and line k + 1 has row or record k.
 // A column is as wide as its widest cell; the last has no width and is not filled up.
 ghost use Prim.Native.Nat.{_<_};
+ghost use Rattle.text.specs.Text.{Wrote};
+ghost use Rattle.cli_report.specs.Shown.{intText, boundsText};
 use crate::refusals::put_shown;
 use cli_wording::put_kind;
 use cli_wording::put_line;
@@ -11,6 +13,15 @@ const NO_ROW: u32 = 4_294_967_295;
 const NONE: usize = 65_535;
 
 const ROW_WIDTH: usize = 4;
+
+// The numbers of a row.
+pub const PARAMETER: usize = 0;
+
+pub const PARENT: usize = 1;
+
+pub const START: usize = 2;
+
+pub const END: usize = 3;
 
 // How many columns have a width.
 const ROW_COLUMNS: usize = 5;
@@ -111,7 +122,9 @@ fn put_counts(out: &mut [u8], at: usize, lo: usize, hi: usize) -> usize {
 }
 
 // An i32 that is counted from the least.
-fn put_int(out: &mut [u8], at: usize, n: u32) -> usize {
+fn put_int(out: &mut [u8], at: usize, n: u32) -> usize
+    ensures { λ r. ⌜ Wrote (intText n) (now (out .entry)) at (now (out .exit)) r ⌝ }
+{
     if n < BIAS {
         let o = text::put_byte(out, at, b'-');
         return text::put_decimal(out, o, (BIAS - n) as u64);
@@ -120,7 +133,9 @@ fn put_int(out: &mut [u8], at: usize, n: u32) -> usize {
 }
 
 // "LEAST..MOST".
-pub fn put_bounds(out: &mut [u8], at: usize, least: u32, most: u32) -> usize {
+pub fn put_bounds(out: &mut [u8], at: usize, least: u32, most: u32) -> usize
+    ensures { λ r. ⌜ Wrote (boundsText least most) (now (out .entry)) at (now (out .exit)) r ⌝ }
+{
     let o = put_int(out, at, least);
     let o = text::put_text(out, o, b"..");
     put_int(out, o, most)
@@ -253,7 +268,7 @@ pub fn put_record_line(
 
 // ---- rows
 
-// A number of a row: 0 parameter, 1 parent, 2 start, 3 end. A row that isn't there has zeros.
+// A number of a row. A row that isn't there has zeros.
 pub fn row_number(rows: &[u32], row: usize, k: usize) -> u32
     requires { ⌜ k < 4 ⌝ }
 {
@@ -286,12 +301,12 @@ fn put_row_cell(
     match column {
         0 => text::put_decimal(out, at, row as u64),
         1 => {
-            let p = text::size(row_number(rows, row, 0));
+            let p = text::size(row_number(rows, row, PARAMETER));
             put_shown(out, at, table_records::label_at(table, unpacked, p))
         }
-        2 => put_parent(out, at, row_number(rows, row, 1)),
-        3 => text::put_decimal(out, at, row_number(rows, row, 2) as u64),
-        _ => text::put_decimal(out, at, row_number(rows, row, 3) as u64),
+        2 => put_parent(out, at, row_number(rows, row, PARENT)),
+        3 => text::put_decimal(out, at, row_number(rows, row, START) as u64),
+        _ => text::put_decimal(out, at, row_number(rows, row, END) as u64),
     }
 }
 
@@ -417,16 +432,16 @@ pub fn put_row_line(
     if line == 0 {
         return text::put_text(out, o, b"text\n");
     }
-    let p = text::size(row_number(rows, line - 1, 0));
+    let p = text::size(row_number(rows, line - 1, PARAMETER));
     let o = put_row_text(out, o, bytes, has_parts(table, unpacked, p));
     text::put_byte(out, o, b'\n')
 }
 
 // A row's four numbers.
 pub fn put_row_numbers(out: &mut [u8], at: usize, rows: &[u32], row: usize) -> usize {
-    let o = text::put_decimal(out, at, row_number(rows, row, 0) as u64);
-    let o = text::put_number(out, o, row_number(rows, row, 1) as u64);
-    let o = text::put_number(out, o, row_number(rows, row, 2) as u64);
-    let o = text::put_number(out, o, row_number(rows, row, 3) as u64);
+    let o = text::put_decimal(out, at, row_number(rows, row, PARAMETER) as u64);
+    let o = text::put_number(out, o, row_number(rows, row, PARENT) as u64);
+    let o = text::put_number(out, o, row_number(rows, row, START) as u64);
+    let o = text::put_number(out, o, row_number(rows, row, END) as u64);
     text::put_byte(out, o, b'\n')
 }

@@ -1,10 +1,9 @@
 // The unknown items of a message that was accepted, found by its rows. A word of a known part is a field's tag before `=` and
 // a value, or begins a row's span: a value, a void's tag, a union's choice. No row but the root's begins in an unknown item.
+use cli_report::START;
 use cli_report::row_number;
 use message_tokens::Cursor;
 use message_unknown::Passed;
-
-const START: usize = 2;
 
 const MESSAGE_LIMIT: usize = 16_384;
 

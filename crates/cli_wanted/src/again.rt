@@ -1,16 +1,10 @@
 // The message up to a place, read again.
+use cli_report::END;
+use cli_report::PARAMETER;
+use cli_report::START;
 use cli_report::row_number;
 use message::Verdict;
 use message_tokens::Cursor;
-
-// A number of a row.
-pub const PARAMETER: usize = 0;
-
-pub const PARENT: usize = 1;
-
-const START: usize = 2;
-
-const END: usize = 3;
 
 // No parameter has this number.
 pub const NOBODY: usize = 65_535;

@@ -1,15 +1,19 @@
 // What a message refused with 24 or 27 lacks: the type that is wanted at the place, or the fields that are missing.
 // The reader answers a number and a place. To tell whose value or body it is, the message is cut at the place, its braces
 // are closed, and it is read again by a relaxed table, whose rows say so. Up to the place both tables read the same.
+ghost use mathlib.Core.Path.{_≡_};
+ghost use Rattle.text.specs.Text.{Wrote};
+ghost use Rattle.cli_wanted.specs.Wanted.{resolvedIn, typeOf, isChoice, wantedText};
+
 mod again;
 mod relaxed;
 
 use again::NOBODY;
-use again::PARAMETER;
-use again::PARENT;
 use again::body_row;
 use again::due_at;
 use again::read_cut;
+use cli_report::PARAMETER;
+use cli_report::PARENT;
 use cli_report::row_number;
 use relaxed::put_relaxed;
 
@@ -30,7 +34,9 @@ const UNION: u32 = 9;
 const REFERENCE: u32 = 10;
 
 // The record that has a parameter's kind, range and body: a reference's target, or its own.
-fn resolved(table: &[u8], unpacked: &[u32], p: usize) -> usize {
+fn resolved(table: &[u8], unpacked: &[u32], p: usize) -> usize
+    ensures { λ r. ⌜ r ≡ resolvedIn (now (table .entry)) (now (unpacked .entry)) p ⌝ }
+{
     if table_records::kind_at(table, unpacked, p) == REFERENCE {
         return table_records::target_at(table, unpacked, p);
     }
@@ -135,7 +141,9 @@ fn say_missing(
 // ---- 24
 
 // "int<1..99999>", "date".
-fn put_type(out: &mut [u8], at: usize, table: &[u8], unpacked: &[u32], t: usize) -> usize {
+fn put_type(out: &mut [u8], at: usize, table: &[u8], unpacked: &[u32], t: usize) -> usize
+    ensures { λ r. ⌜ Wrote (typeOf (now (table .entry)) (now (unpacked .entry)) t) (now (out .entry)) at (now (out .exit)) r ⌝ }
+{
     let kind = table_records::kind_at(table, unpacked, t);
     let o = cli_wording::put_kind(out, at, kind);
     if (kind < INT) | (WORD < kind) {
@@ -152,14 +160,18 @@ fn put_type(out: &mut [u8], at: usize, table: &[u8], unpacked: &[u32], t: usize)
 }
 
 // Is a parameter the int that a union takes without a tag?
-fn is_choice(table: &[u8], unpacked: &[u32], p: usize) -> bool {
+fn is_choice(table: &[u8], unpacked: &[u32], p: usize) -> bool
+    ensures { λ r. ⌜ r ≡ isChoice (now (table .entry)) (now (unpacked .entry)) p ⌝ }
+{
     let parent = table_records::parent_at(table, unpacked, p);
     table_records::untagged_at(table, unpacked, p)
         & (table_records::kind_at(table, unpacked, parent) == UNION)
 }
 
 // "wanted: int<1..99999> id". In place of a union's int a tag of the union can stand.
-fn put_wanted(out: &mut [u8], table: &[u8], unpacked: &[u32], p: usize) -> usize {
+fn put_wanted(out: &mut [u8], table: &[u8], unpacked: &[u32], p: usize) -> usize
+    ensures { λ r. ⌜ Wrote (wantedText (now (table .entry)) (now (unpacked .entry)) p) (now (out .entry)) 0 (now (out .exit)) r ⌝ }
+{
     let o = text::put_text(out, 0, b"wanted: ");
     let o = put_type(out, o, table, unpacked, resolved(table, unpacked, p));
     let o = text::put_byte(out, o, b' ');

@@ -1,0 +1,74 @@
+use mathlib.Core.Path.{sym, _∙_}
+use Rattle.text.proofs.Writing.{both}
+use Rattle.cli_wording.specs.Sayings.{bytes}
+use Rattle.cli_wanted.specs.Wanted.{wantedText}
+use borrow.Author.Needs.{needs}
+use Rattle.cli_wanted.proofs.put_wanted.Statement.{statement}
+use Rattle.cli_wanted.proofs.put_wanted.Tie as tie
+
+slice-aggregate-put-text : tie.Need-slice-aggregate-put-text
+slice-aggregate-put-text c = search needs
+
+put-text-requires : tie.Need-put-text-requires
+put-text-requires c κs = search needs
+
+resolved-requires : tie.Need-resolved-requires
+resolved-requires c κs = search needs
+
+put-type-requires : tie.Need-put-type-requires
+put-type-requires c κs = search needs
+
+put-byte-requires : tie.Need-put-byte-requires
+put-byte-requires c κs = search needs
+
+label-at-requires : tie.Need-label-at-requires
+label-at-requires c κs = search needs
+
+put-text-requires-2 : tie.Need-put-text-requires-2
+put-text-requires-2 c κs = search needs
+
+is-choice-requires : tie.Need-is-choice-requires
+is-choice-requires c κs = search needs
+
+slice-aggregate-put-text-2 : tie.Need-slice-aggregate-put-text-2
+slice-aggregate-put-text-2 c = search needs
+
+put-text-requires-3 : tie.Need-put-text-requires-3
+put-text-requires-3 c κs = search needs
+
+same-length : tie.Need-same-length
+same-length c = search needs
+
+returns : tie.Need-returns
+unfolding wantedText bytes
+returns c = rw (sym (c .before .before .before .before .before .before .is-choice .ensures) ∙ c .before .before .before .before .before .if1 .taken, ← (c .before .before .before .before .before .before .before .before .before .before .before .before .before .before .before .before .before .before .before .resolved .ensures), ← (c .before .before .before .before .before .before .before .before .before .before .label-at .ensures)) (both (both (both (both (c .before .before .before .before .before .before .before .before .before .before .before .before .before .before .before .before .before .before .before .before .before .before .before .put-text .ensures) (c .before .before .before .before .before .before .before .before .before .before .before .before .before .before .before .before .before .before .put-type .ensures)) (c .before .before .before .before .before .before .before .before .before .before .before .before .before .before .put-byte .ensures)) (c .before .before .before .before .before .before .before .before .before .put-text2 .ensures)) (c .before .before .put-text3 .ensures))
+
+put-byte-requires-2 : tie.Need-put-byte-requires-2
+put-byte-requires-2 c κs = search needs
+
+same-length-2 : tie.Need-same-length-2
+same-length-2 c = search needs
+
+returns-2 : tie.Need-returns-2
+unfolding wantedText bytes
+returns-2 c = rw (sym (c .before .before .before .before .before .is-choice .ensures) ∙ c .before .before .before .before .if1 .left, ← (c .before .before .before .before .before .before .before .before .before .before .before .before .before .before .before .before .before .before .resolved .ensures), ← (c .before .before .before .before .before .before .before .before .before .label-at .ensures)) (both (both (both (both (c .before .before .before .before .before .before .before .before .before .before .before .before .before .before .before .before .before .before .before .before .before .before .put-text .ensures) (c .before .before .before .before .before .before .before .before .before .before .before .before .before .before .before .before .before .put-type .ensures)) (c .before .before .before .before .before .before .before .before .before .before .before .before .before .put-byte .ensures)) (c .before .before .before .before .before .before .before .before .put-text2 .ensures)) (c .before .before .put-byte2 .ensures))
+
+pub put-wanted-spec : {M : Type 1} → statement M
+put-wanted-spec =
+    tie.close
+    (tie.spec
+    slice-aggregate-put-text
+    put-text-requires
+    resolved-requires
+    put-type-requires
+    put-byte-requires
+    label-at-requires
+    put-text-requires-2
+    is-choice-requires
+    slice-aggregate-put-text-2
+    put-text-requires-3
+    same-length
+    returns
+    put-byte-requires-2
+    same-length-2
+    returns-2)
