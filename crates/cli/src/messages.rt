@@ -20,6 +20,10 @@ use message::Verdict;
 // The refusal that is the table's.
 const TABLE_REFUSED: u32 = 20;
 
+// A byte of a message begins at most one value and one alternative. So the rows, the root's included, are at
+// most as many, and number 29 does not come up.
+const ALL_ROWS: usize = numbers::ROW_WIDTH * (2 * numbers::MESSAGE_LIMIT + 1);
+
 fn print_numbers(rows: &[u32], count: usize, out: &mut [u8]) -> u8 {
     let mut page = started(0);
     let mut row = 0;
@@ -97,7 +101,7 @@ fn accept(
     count: usize,
     out: &mut [u8],
 ) -> u8 {
-    let mut unpacked = [0u32; 2880];
+    let mut unpacked = [0u32; table_records::ALL_CELLS];
     records_of(named, &mut unpacked);
     let page = print_rows(named, &unpacked, message, rows, count, out);
     let status = ended(out, page, ACCEPTED);
@@ -127,8 +131,6 @@ fn refuse_message(
     REFUSED
 }
 
-// A message has at most 16,384 tokens, and each begins at most one value and one alternative. So its
-// rows, the root's included, are at most 32,769, and number 29 does not come up.
 fn read_message(
     from: &[u8],
     table: &[u8],
@@ -138,7 +140,7 @@ fn read_message(
     is_plain: bool,
     out: &mut [u8],
 ) -> u8 {
-    let mut rows = [0u32; 131_076];
+    let mut rows = [0u32; ALL_ROWS];
     match message::read(table, message, &mut rows) {
         Verdict::Accepted(count) => {
             if is_plain {

@@ -5,16 +5,6 @@ ghost use Rattle.cli_names.specs.Labels.{shownLabel};
 use definition_forms::Formed;
 use table_walk::Walk;
 
-// A record's bytes before its label, and where its label's length stands.
-const HEAD: usize = 24;
-
-const LABEL_LENGTH: usize = 22;
-
-const TEXT_LIMIT: usize = 65_535;
-
-// Where the place of a name stands among the numbers of a declaration.
-const NAME: usize = 4;
-
 // A name, a tag and what stands between have no more bytes.
 const LABEL_MOST: usize = 255;
 
@@ -48,7 +38,11 @@ fn put_record(out: &mut [u8], at: usize, head: &[u8], name: &[u8], label: &[u8])
     let from = text::put_text(out, at, head);
     let end = put_label(out, from, name, label);
     numbers::put_u16(out, at, short(span(at, end)));
-    numbers::put_u16(out, text::sum(at, LABEL_LENGTH), short(span(from, end)));
+    numbers::put_u16(
+        out,
+        text::sum(at, numbers::LABEL_LENGTH_AT),
+        short(span(from, end)),
+    );
     end
 }
 
@@ -65,17 +59,17 @@ fn put_records(
     let mut i = 0;
     while i < n {
         let label = table_records::label_at(table, unpacked, i);
-        let head = text::part(table, from, text::sum(from, HEAD));
-        let name = definition_cells::run(definition, cells, i, NAME);
+        let head = text::part(table, from, text::sum(from, numbers::RECORD_HEADER));
+        let name = definition_cells::run(definition, cells, i, definition_cells::NAME);
         o = put_record(out, o, head, name, label);
-        from = text::sum(from, text::sum(HEAD, label.len()));
+        from = text::sum(from, text::sum(numbers::RECORD_HEADER, label.len()));
         i += 1;
     }
     o
 }
 
 fn put_with_cells(out: &mut [u8], table: &[u8], definition: &[u8], cells: &[u32]) -> usize {
-    let mut unpacked = [0u32; 2880];
+    let mut unpacked = [0u32; table_records::ALL_CELLS];
     match table_walk::unpack(table, &mut unpacked) {
         Walk::Count(n) => put_records(out, table, &unpacked, n, definition, cells),
         Walk::Bad => text::put_text(out, 0, table),
@@ -84,7 +78,7 @@ fn put_with_cells(out: &mut [u8], table: &[u8], definition: &[u8], cells: &[u32]
 
 // Puts the table that the definition compiles to, with names, and answers its length. Any other table is put as it is.
 pub fn put_named(out: &mut [u8], table: &[u8], definition: &[u8]) -> usize {
-    if TEXT_LIMIT < definition.len() {
+    if numbers::TEXT_LIMIT < definition.len() {
         return text::put_text(out, 0, table);
     }
     let mut cells = [0u32; 4096];

@@ -5,10 +5,6 @@ mod tables;
 
 pub use refusals::put_refusal;
 pub use refusals::put_unknown;
-pub use tables::END;
-pub use tables::PARAMETER;
-pub use tables::PARENT;
-pub use tables::START;
 pub use tables::put_bounds;
 pub use tables::put_record_line;
 pub use tables::put_row_line;

@@ -7,21 +7,9 @@ use crate::refusals::put_shown;
 use cli_wording::put_kind;
 use cli_wording::put_line;
 
-// What stands for "none" in a row and in a record.
-const NO_ROW: u32 = 4_294_967_295;
+const NO_ROW: u32 = numbers::NO_ROW as u32;
 
-const NONE: usize = 65_535;
-
-const ROW_WIDTH: usize = 4;
-
-// The numbers of a row.
-pub const PARAMETER: usize = 0;
-
-pub const PARENT: usize = 1;
-
-pub const START: usize = 2;
-
-pub const END: usize = 3;
+const NO_LIMIT: usize = numbers::NO_LIMIT as usize;
 
 // How many columns have a width.
 const ROW_COLUMNS: usize = 5;
@@ -33,9 +21,6 @@ const GLANCE: usize = 40;
 
 // The longest cell has a name and a tag of 63 bytes each.
 const CELL: usize = 160;
-
-// Ranges are counted from the least i32.
-const BIAS: u32 = 0x8000_0000;
 
 // ---- texts by number, a line each
 
@@ -102,7 +87,7 @@ fn put_none(out: &mut [u8], at: usize) -> usize {
 
 // A record's number, or none.
 fn put_some(out: &mut [u8], at: usize, n: usize) -> usize {
-    if n == NONE {
+    if n == numbers::NONE16 {
         return put_none(out, at);
     }
     text::put_decimal(out, at, n as u64)
@@ -115,7 +100,7 @@ fn put_flags(out: &mut [u8], at: usize, flags: u32) -> usize {
 fn put_counts(out: &mut [u8], at: usize, lo: usize, hi: usize) -> usize {
     let o = text::put_decimal(out, at, lo as u64);
     let o = text::put_text(out, o, b"..");
-    if hi == NONE {
+    if hi == NO_LIMIT {
         return text::put_byte(out, o, b'*');
     }
     text::put_decimal(out, o, hi as u64)
@@ -125,11 +110,11 @@ fn put_counts(out: &mut [u8], at: usize, lo: usize, hi: usize) -> usize {
 fn put_int(out: &mut [u8], at: usize, n: u32) -> usize
     ensures { λ r. ⌜ Wrote (intText n) (now (out .entry)) at (now (out .exit)) r ⌝ }
 {
-    if n < BIAS {
+    if n < numbers::BIAS {
         let o = text::put_byte(out, at, b'-');
-        return text::put_decimal(out, o, (BIAS - n) as u64);
+        return text::put_decimal(out, o, (numbers::BIAS - n) as u64);
     }
-    text::put_decimal(out, at, (n - BIAS) as u64)
+    text::put_decimal(out, at, (n - numbers::BIAS) as u64)
 }
 
 // "LEAST..MOST".
@@ -272,10 +257,10 @@ pub fn put_record_line(
 pub fn row_number(rows: &[u32], row: usize, k: usize) -> u32
     requires { ⌜ k < 4 ⌝ }
 {
-    if rows.len() / ROW_WIDTH <= row {
+    if rows.len() / numbers::ROW_WIDTH <= row {
         return 0;
     }
-    rows[ROW_WIDTH * row + k]
+    rows[numbers::ROW_WIDTH * row + k]
 }
 
 fn put_row_head(out: &mut [u8], at: usize, column: usize) -> usize {
@@ -301,12 +286,12 @@ fn put_row_cell(
     match column {
         0 => text::put_decimal(out, at, row as u64),
         1 => {
-            let p = text::size(row_number(rows, row, PARAMETER));
+            let p = text::size(row_number(rows, row, numbers::ROW_PARAMETER));
             put_shown(out, at, table_records::label_at(table, unpacked, p))
         }
-        2 => put_parent(out, at, row_number(rows, row, PARENT)),
-        3 => text::put_decimal(out, at, row_number(rows, row, START) as u64),
-        _ => text::put_decimal(out, at, row_number(rows, row, END) as u64),
+        2 => put_parent(out, at, row_number(rows, row, numbers::ROW_PARENT)),
+        3 => text::put_decimal(out, at, row_number(rows, row, numbers::ROW_START) as u64),
+        _ => text::put_decimal(out, at, row_number(rows, row, numbers::ROW_END) as u64),
     }
 }
 
@@ -432,16 +417,20 @@ pub fn put_row_line(
     if line == 0 {
         return text::put_text(out, o, b"text\n");
     }
-    let p = text::size(row_number(rows, line - 1, PARAMETER));
+    let p = text::size(row_number(rows, line - 1, numbers::ROW_PARAMETER));
     let o = put_row_text(out, o, bytes, has_parts(table, unpacked, p));
     text::put_byte(out, o, b'\n')
 }
 
 // A row's four numbers.
 pub fn put_row_numbers(out: &mut [u8], at: usize, rows: &[u32], row: usize) -> usize {
-    let o = text::put_decimal(out, at, row_number(rows, row, PARAMETER) as u64);
-    let o = text::put_number(out, o, row_number(rows, row, PARENT) as u64);
-    let o = text::put_number(out, o, row_number(rows, row, START) as u64);
-    let o = text::put_number(out, o, row_number(rows, row, END) as u64);
+    let o = text::put_decimal(
+        out,
+        at,
+        row_number(rows, row, numbers::ROW_PARAMETER) as u64,
+    );
+    let o = text::put_number(out, o, row_number(rows, row, numbers::ROW_PARENT) as u64);
+    let o = text::put_number(out, o, row_number(rows, row, numbers::ROW_START) as u64);
+    let o = text::put_number(out, o, row_number(rows, row, numbers::ROW_END) as u64);
     text::put_byte(out, o, b'\n')
 }

@@ -73,7 +73,7 @@ pub fn records_of(table: &[u8], unpacked: &mut [u32]) -> usize {
 
 // The line that says how large a file's table is.
 fn put_table_size(out: &mut [u8], path: &[u8], how: &[u8], table: &[u8]) -> usize {
-    let mut unpacked = [0u32; 2880];
+    let mut unpacked = [0u32; table_records::ALL_CELLS];
     let n = records_of(table, &mut unpacked);
     cli_wording::put_size(out, 0, path, how, n, table.len())
 }
@@ -130,7 +130,7 @@ pub fn compile_file(path: &[u8], to: &[u8], out: &mut [u8]) -> u8 {
 // ---- show
 
 fn print_records(table: &[u8], out: &mut [u8]) -> u8 {
-    let mut unpacked = [0u32; 2880];
+    let mut unpacked = [0u32; table_records::ALL_CELLS];
     let mut widths = [0usize; 8];
     let n = records_of(table, &mut unpacked);
     cli_report::record_widths(table, &unpacked, n, &mut widths);

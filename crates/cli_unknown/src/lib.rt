@@ -1,11 +1,8 @@
 // The unknown items of a message that was accepted, found by its rows. A word of a known part is a field's tag before `=` and
 // a value, or begins a row's span: a value, a void's tag, a union's choice. No row but the root's begins in an unknown item.
-use cli_report::START;
 use cli_report::row_number;
 use message_tokens::Cursor;
 use message_unknown::Passed;
-
-const MESSAGE_LIMIT: usize = 16_384;
 
 // Where the search goes on: the next token, and the next row that may begin there.
 pub struct Reached {
@@ -30,7 +27,7 @@ pub fn begin() -> Reached {
 }
 
 fn start_of(rows: &[u32], row: usize) -> usize {
-    text::size(row_number(rows, row, START))
+    text::size(row_number(rows, row, numbers::ROW_START))
 }
 
 // The first row from one on that begins at a place or behind it.
@@ -62,7 +59,7 @@ fn unknown(start: usize, end: usize, past: usize, row: usize) -> Turn {
 
 // Past the list of an unknown item, or at its start where there is none.
 fn past_list(message: &[u8], first: Cursor) -> usize {
-    if MESSAGE_LIMIT < message.len() {
+    if numbers::MESSAGE_LIMIT < message.len() {
         return first.at;
     }
     match message_unknown::list(message, 0, first) {

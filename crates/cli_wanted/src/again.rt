@@ -1,7 +1,4 @@
 // The message up to a place, read again.
-use cli_report::END;
-use cli_report::PARAMETER;
-use cli_report::START;
 use cli_report::row_number;
 use message::Verdict;
 use message_tokens::Cursor;
@@ -88,9 +85,9 @@ fn last_row(rows: &[u32], count: usize, is_start: bool, place: usize) -> usize {
 
 fn edge(rows: &[u32], row: usize, is_start: bool) -> u32 {
     if is_start {
-        return row_number(rows, row, START);
+        return row_number(rows, row, numbers::ROW_START);
     }
-    row_number(rows, row, END)
+    row_number(rows, row, numbers::ROW_END)
 }
 
 // The row of the body that is closed at a place: the root's at the message's end.
@@ -106,7 +103,7 @@ fn taker(relaxed: &[u8], message: &[u8], place: usize, value: &[u8], rows: &mut 
     let count = read_cut(relaxed, message, place, value, rows);
     let row = last_row(rows, count, true, text::sum(place, 1));
     if row < count {
-        return text::size(row_number(rows, row, PARAMETER));
+        return text::size(row_number(rows, row, numbers::ROW_PARAMETER));
     }
     NOBODY
 }

@@ -12,8 +12,6 @@ use again::NOBODY;
 use again::body_row;
 use again::due_at;
 use again::read_cut;
-use cli_report::PARAMETER;
-use cli_report::PARENT;
 use cli_report::row_number;
 use relaxed::put_relaxed;
 
@@ -22,22 +20,11 @@ const NO_VALUE: u32 = 24;
 
 const FIELD_MISSING: u32 = 27;
 
-// Kinds of records.
-const VOID: u32 = 1;
-
-const INT: u32 = 3;
-
-const WORD: u32 = 5;
-
-const UNION: u32 = 9;
-
-const REFERENCE: u32 = 10;
-
 // The record that has a parameter's kind, range and body: a reference's target, or its own.
 fn resolved(table: &[u8], unpacked: &[u32], p: usize) -> usize
     ensures { λ r. ⌜ r ≡ resolvedIn (now (table .entry)) (now (unpacked .entry)) p ⌝ }
 {
-    if table_records::kind_at(table, unpacked, p) == REFERENCE {
+    if table_records::kind_at(table, unpacked, p) == numbers::REFERENCE {
         return table_records::target_at(table, unpacked, p);
     }
     p
@@ -55,8 +42,8 @@ fn is_required(table: &[u8], unpacked: &[u32], k: usize) -> bool {
 fn is_given(rows: &[u32], count: usize, body: usize, k: usize) -> bool {
     let mut row = 0;
     while row < count {
-        if (text::size(row_number(rows, row, PARENT)) == body)
-            & (text::size(row_number(rows, row, PARAMETER)) == k)
+        if (text::size(row_number(rows, row, numbers::ROW_PARENT)) == body)
+            & (text::size(row_number(rows, row, numbers::ROW_PARAMETER)) == k)
         {
             return true;
         }
@@ -128,12 +115,12 @@ fn say_missing(
     if count <= body {
         return 0;
     }
-    let mut unpacked = [0u32; 2880];
+    let mut unpacked = [0u32; table_records::ALL_CELLS];
     let n = cli_tables::records_of(named, &mut unpacked);
     let s = resolved(
         named,
         &unpacked,
-        text::size(row_number(rows, body, PARAMETER)),
+        text::size(row_number(rows, body, numbers::ROW_PARAMETER)),
     );
     put_missing(out, named, &unpacked, n, s, rows, count, body)
 }
@@ -146,7 +133,7 @@ fn put_type(out: &mut [u8], at: usize, table: &[u8], unpacked: &[u32], t: usize)
 {
     let kind = table_records::kind_at(table, unpacked, t);
     let o = cli_wording::put_kind(out, at, kind);
-    if (kind < INT) | (WORD < kind) {
+    if (kind < numbers::INT) | (numbers::UNQUOTED < kind) {
         return o;
     }
     let o = text::put_byte(out, o, b'<');
@@ -165,7 +152,7 @@ fn is_choice(table: &[u8], unpacked: &[u32], p: usize) -> bool
 {
     let parent = table_records::parent_at(table, unpacked, p);
     table_records::untagged_at(table, unpacked, p)
-        & (table_records::kind_at(table, unpacked, parent) == UNION)
+        & (table_records::kind_at(table, unpacked, parent) == numbers::UNION)
 }
 
 // "wanted: int<1..99999> id". In place of a union's int a tag of the union can stand.
@@ -192,9 +179,9 @@ fn say_wanted(
     rows: &mut [u32],
 ) -> usize {
     let p = due_at(relaxed, message, place, rows);
-    let mut unpacked = [0u32; 2880];
+    let mut unpacked = [0u32; table_records::ALL_CELLS];
     let n = cli_tables::records_of(named, &mut unpacked);
-    if (n <= p) | (table_records::kind_at(named, &unpacked, p) == VOID) {
+    if (n <= p) | (table_records::kind_at(named, &unpacked, p) == numbers::VOID) {
         return 0;
     }
     put_wanted(out, named, &unpacked, p)
