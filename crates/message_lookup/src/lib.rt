@@ -16,9 +16,6 @@ ghost use Rattle.message_lookup.specs.Seen.{noMarks, isRequiredOf, isMis
 ghost use Rattle.message_lookup.specs.IntList.{IntsOf};
 use table_tags::Found;
 
-// A hi count that sets no limit.
-const NO_LIMIT: usize = numbers::NO_LIMIT as usize;
-
 // The bias and the largest number of a range, as places are counted.
 const ZERO: usize = numbers::BIAS as usize;
 
@@ -100,7 +97,7 @@ pub fn hi(table: &[u8], unpacked: &[u32], n: usize, p: usize) -> usize
 pub fn may_grow(hi: usize, c: usize) -> bool
     ensures { λ r. ⌜ r ≡ mayGrow hi c ⌝ }
 {
-    (hi == NO_LIMIT) | (c < hi)
+    (hi == table_records::NO_LIMIT) | (c < hi)
 }
 
 // What a list of ints takes, in packed digits: from least to most; fewer than hi values may have one more. Without on it is
@@ -126,7 +123,7 @@ fn above_zero(x: u32) -> u32
 fn most_values(hi: usize) -> usize
     ensures { λ r. ⌜ ((c : ℕ) → c < r → mayGrow hi c ≡ true) ⌝ }
 {
-    if hi == NO_LIMIT {
+    if hi == table_records::NO_LIMIT {
         return LARGEST;
     }
     hi

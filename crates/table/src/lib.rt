@@ -1,6 +1,6 @@
 // The check behind number 20: whether some definition compiles to a table.
 ghost use mathlib.Core.Path.{_≡_};
-ghost use Prim.Native.Nat.{_≤_, _<_};
+ghost use Prim.Native.Nat.{_+_, _*_, _≤_, _<_};
 ghost use lib.ListN.{length};
 ghost use Rattle.numbers.specs.Limits.{parameterLimit};
 ghost use Rattle.reading_rules.specs.Record.{Nested};
@@ -9,7 +9,7 @@ ghost use mathlib.Core.Bool.{true};
 ghost use mathlib.Core.Logic.{_↔_};
 ghost use Rattle.table_rules.specs.Compilable.{Compilable};
 ghost use Rattle.table_rules.specs.RecordRules.{noneBroken, recordChecks, recordRules, tableRules};
-ghost use Rattle.table_records.specs.Stored.{recordIn, recordsAt};
+ghost use Rattle.table_records.specs.Stored.{headCells, recordCells, recordIn, recordsAt};
 ghost use Rattle.table_tags.specs.Lists.{Linked};
 ghost use Rattle.table_walk.specs.Walked.{Enough};
 ghost use Rattle.table.specs.Checks.{isBroken, Checked};
@@ -144,13 +144,13 @@ const FEW_CELLS: usize = table_records::HEADS + table_records::WIDTH * FEW_RECOR
 
 // Cells for the records of a small table, and for as many as there may be.
 pub fn few_cells() -> [u32; FEW_CELLS]
-    ensures { λ r. ⌜ 240 ≡ length r ⌝ }
+    ensures { λ r. ⌜ headCells + recordCells * 16 ≡ length r ⌝ }
 {
     [0u32; FEW_CELLS]
 }
 
 pub fn many_cells() -> [u32; table_records::ALL_CELLS]
-    ensures { λ r. ⌜ 2880 ≡ length r ⌝ }
+    ensures { λ r. ⌜ headCells + recordCells * parameterLimit ≡ length r ⌝ }
 {
     [0u32; table_records::ALL_CELLS]
 }

@@ -7,10 +7,8 @@ ghost use Rattle.table_rules.specs.RecordRules.{kindsOfRecords, isSingleValue, 
 ghost use Rattle.table_records.specs.Stored.{recordIn, recordsFrom, recordsAt};
 ghost use Rattle.table_fields.specs.Keys.{labelKey};
 
-// The largest count, and the one that sets no limit.
+// The largest count.
 const COUNT_LIMIT: usize = numbers::COUNT_LIMIT as usize;
-
-const NO_LIMIT: usize = numbers::NO_LIMIT as usize;
 
 // ---- one record
 
@@ -46,7 +44,8 @@ fn counts_fine(table: &[u8], unpacked: &[u32], n: usize, i: usize) -> bool
     let single = (lo == 1) & (hi == 1);
     (lo <= COUNT_LIMIT)
         & ((1 <= hi)
-            & ((lo <= hi) & ((hi <= NO_LIMIT) & (!is_single(table, unpacked, n, i) | single))))
+            & ((lo <= hi)
+                & ((hi <= table_records::NO_LIMIT) & (!is_single(table, unpacked, n, i) | single))))
 }
 
 fn range_fine(table: &[u8], unpacked: &[u32], i: usize) -> bool

@@ -37,6 +37,9 @@ const LABEL_LENGTH: u8 = 9;
 
 const LINK: u8 = 10;
 
+// A hi count that sets no limit, as counts are given here.
+pub const NO_LIMIT: usize = numbers::NO_LIMIT as usize;
+
 // Cells for as many records as there may be.
 pub const ALL_CELLS: usize = HEADS + WIDTH * numbers::PARAMETER_LIMIT;
 
