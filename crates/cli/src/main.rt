@@ -61,6 +61,7 @@ fn help(out: &mut [u8]) -> u8 {
   lumas explain NUMBER             say what a refusal's number means
   lumas help                       print this page
   lumas --version                  print the version
+  lumas --unproved ..              the same, by a program built in seconds, without proofs
 
 A file with a byte 0 in it is taken as a table, any other as a definition.
 The name - is standard input, and -- ends the options.

@@ -9,8 +9,6 @@ use cli_wording::put_line;
 
 const NO_ROW: u32 = numbers::NO_ROW as u32;
 
-const NO_LIMIT: usize = numbers::NO_LIMIT as usize;
-
 // How many columns have a width.
 const ROW_COLUMNS: usize = 5;
 
@@ -100,7 +98,7 @@ fn put_flags(out: &mut [u8], at: usize, flags: u32) -> usize {
 fn put_counts(out: &mut [u8], at: usize, lo: usize, hi: usize) -> usize {
     let o = text::put_decimal(out, at, lo as u64);
     let o = text::put_text(out, o, b"..");
-    if hi == NO_LIMIT {
+    if hi == table_records::NO_LIMIT {
         return text::put_byte(out, o, b'*');
     }
     text::put_decimal(out, o, hi as u64)

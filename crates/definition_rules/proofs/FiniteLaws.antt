@@ -6,6 +6,7 @@ use Prim.Native.Nat.{ℕ, zero, suc, _+_, _≤_, _<_}
 use native.Mathlib.Omega.{arith}
 use lib.Dec.{leb, eqb}
 use lib.ListN.{length, getD, replicate}
+use Rattle.classes.proofs.Bools.{clash-bool}
 use Rattle.classes.specs.Lists.{pick}
 use Rattle.reading_rules.specs.Record.{Record}
 use Rattle.reading_rules.specs.Schema.{isUnder}
@@ -13,9 +14,6 @@ use Rattle.definition_rules.specs.Finite.{Sub, Closed, canDoWithout, end
 use mathlib.Core.Logic.{_⊎_, inl, inr}
 
 -- ---- sets of parameters
-
-clash : {X : Type 0} → _≡_ {A = Bool} false true → X
-clash e = let x : _≡_ {A = ℕ} 0 1 = cc in absurd (omega arith)
 
 pub sub-at : (s t : List Bool) → Sub s t → (i : ℕ) → getD s i false ≡ true → getD t i false ≡ true
 unfolding Sub
@@ -37,13 +35,13 @@ sub-trans (a ∷ s) (b ∷ t) (c ∷ u) h k = ((λ e. k .0 (h .0 e)), sub-trans 
 none-sub : (t : List Bool) → Sub (replicate (length t) false) t
 unfolding Sub
 none-sub [] = tt
-none-sub (b ∷ t) = ((λ e. clash e), none-sub t)
+none-sub (b ∷ t) = ((λ e. clash-bool e), none-sub t)
 
 -- ---- the step grows with the set
 
 and-grows : (a b c d : Bool) → (a ≡ true → c ≡ true) → (b ≡ true → d ≡ true) → a && b ≡ true → c && d ≡ true
 and-grows true b c d f g e = rw (f refl) (g e)
-and-grows false b c d f g e = clash e
+and-grows false b c d f g e = clash-bool e
 
 or-grows : (a b c d : Bool) → (a ≡ true → c ≡ true) → (b ≡ true → d ≡ true) → a || b ≡ true → c || d ≡ true
 or-grows true b c d f g e = rw (f refl)
@@ -124,7 +122,7 @@ sub-count (true ∷ s) (true ∷ t) h = by (sub-count s t (h .1))
     by : _⊎_ (s ≡ t) (count s < count t) → _⊎_ (true ∷ s ≡ true ∷ t) (1 + count s < 1 + count t)
     by (inl e) = inl (ap (λ q. true ∷ q) e)
     by (inr l) = inr (omega arith)
-sub-count (true ∷ s) (false ∷ t) h = clash (h .0 refl)
+sub-count (true ∷ s) (false ∷ t) h = clash-bool (h .0 refl)
 sub-count (false ∷ s) (true ∷ t) h = inr (by (sub-count s t (h .1)))
   where
     by : _⊎_ (s ≡ t) (count s < count t) → 0 + count s < 1 + count t

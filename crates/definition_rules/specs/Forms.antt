@@ -26,20 +26,8 @@ pub data Heading : Type 0 where
 unfoldable pub typeRun : Heading → List ℕ
 typeRun (heading w g n c t p) = w
 
-unfoldable pub rangeRun : Heading → MaybeRun
-rangeRun (heading w g n c t p) = g
-
-unfoldable pub nameRun : Heading → List ℕ
-nameRun (heading w g n c t p) = n
-
-unfoldable pub cardRun : Heading → MaybeRun
-cardRun (heading w g n c t p) = c
-
 unfoldable pub tagOf : Heading → Tag
 tagOf (heading w g n c t p) = t
-
-unfoldable pub pluginOf : Heading → Bool
-pluginOf (heading w g n c t p) = p
 
 -- its tokens, in front of what follows
 unfoldable pub putRange : MaybeRun → List TextToken → List TextToken

@@ -14,6 +14,7 @@ use Rattle.reading_rules.specs.Count.{Once, has, allIn}
 use Rattle.reading_rules.proofs.CountLaws.{hasnt-in, once-more, once-nil}
 use Rattle.reading_rules.specs.Reading.{TreeSort, unknownValue, unknownList, value, list, body, items, Tree, unknownWord, unknownString, unknownBraces, unknownPair, unknownLast, unknownMore, leaf, braced, chosenVoid, chosen, chosenInt, last, more, listed, stopped, itemized, noItem, voidItem, listItem, unknownItem, unknownListItem, leavesThen, balancedFrom, count, fieldsOf, InRange, Full, For, Law}
 use Rattle.reading_rules.specs.Parse.{Result, refused, got, then, need, whether, onEquals, afterToken, pairWith, bracesAt, unknownAt, afterUnknown, unknownsAt, judged, simpleAt, shut, structAt, alternative, bareFor, choose, unionAt, noneAt, byKind, valueAt, mayGrow, listEnds, afterValue, listAt, wholeList, requiredOf, endNumber, bodyEnds, unknownAfter, itemAt, itemsAt, listThen, listsAt, wholeValue, bodyAt, parse}
+use Rattle.message_rules.proofs.Spans.{tokens-length}
 use Rattle.message_rules.specs.Scan.{Lexeme, tokensOf}
 use Rattle.reading_rules.proofs.Sound.{braces-sound, unknown-sound, unknowns-sound, ValueSound, value-sound, whole-sound, body-sound}
 
@@ -326,11 +327,6 @@ part-short (later p) = omega (arith, part-short p)
 pub part-drop : {r x : List Token} → EndPart r x → drop (length x - length r) x ≡ r
 part-drop {r} all = let e : length r - length r ≡ 0 = omega arith in rw e
 part-drop {r} (later {x = y} p) = let e : suc (length y) - length r ≡ suc (length y - length r) = omega (arith, part-short p) in rw e (part-drop p)
-
-tokens-length : (ls : List Lexeme) → length (tokensOf ls) ≡ length ls
-unfolding tokensOf
-tokens-length [] = refl
-tokens-length (l ∷ ls) = ap suc (tokens-length ls)
 
 tokens-drop : (k : ℕ) (ls : List Lexeme) → tokensOf (drop k ls) ≡ drop k (tokensOf ls)
 unfolding tokensOf

@@ -7,7 +7,7 @@ use native.Mathlib.Omega.{arith}
 use lib.ListN.{length, getD, take, drop, set, length-take}
 use lib.Seq.{sets, take-suc, getD-take, getD-drop, getD-set-other, length-take-le}
 use Rattle.text.specs.Text.{partOf}
-use Rattle.text.proofs.Parts.{sets-append}
+use Rattle.classes.proofs.Stores.{sets-append}
 
 getD-sets-after : (xs l : List ℕ) (i k : ℕ) → i + length xs ≤ k → getD (sets l i xs) k 0 ≡ getD l k 0
 getD-sets-after [] l i k h = refl

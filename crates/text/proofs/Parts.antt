@@ -30,12 +30,6 @@ module _ (s : List ℕ) (from to : ℕ) where
 
 -- ---- stores one behind the other
 
-pub sets-append : (xs ys l : List ℕ) (i : ℕ) → sets (sets l i xs) (i + length xs) ys ≡ sets l i (xs ++ ys)
-sets-append [] ys l i = rw (add-zero i)
-sets-append (x ∷ xs) ys l i =
-    let p : i + suc (length xs) ≡ suc i + length xs = omega arith in
-    rw p (sets-append xs ys (set l i x) (suc i))
-
 pub sets-out : (xs l : List ℕ) (i : ℕ) → length l ≤ i → sets l i xs ≡ l
 sets-out [] l i h = refl
 sets-out (x ∷ xs) l i h =
