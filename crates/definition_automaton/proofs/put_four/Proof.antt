@@ -2,42 +2,31 @@ use Rattle.definition_automaton.proofs.CellLaws.{four-are}
 use borrow.Author.Needs.{needs}
 use Rattle.definition_automaton.proofs.put_four.Statement.{statement}
 use Rattle.definition_automaton.proofs.put_four.Tie as tie
-use Rattle.definition_automaton.proofs.put_four.Reads as reads
-use Rattle.definition_automaton.proofs.put_four.Lts as lts
 
--- src/lib.rt:554:5
 set-cell-requires : tie.Need-set-cell-requires
 set-cell-requires c κs = search needs
 
--- src/lib.rt:555:16
 add-set-cell : tie.Need-add-set-cell
 add-set-cell c = search needs
 
--- src/lib.rt:555:5
 set-cell-requires-2 : tie.Need-set-cell-requires-2
 set-cell-requires-2 c κs = search needs
 
--- src/lib.rt:556:16
 add-set-cell-2 : tie.Need-add-set-cell-2
 add-set-cell-2 c = search needs
 
--- src/lib.rt:556:5
 set-cell-requires-3 : tie.Need-set-cell-requires-3
 set-cell-requires-3 c κs = search needs
 
--- src/lib.rt:557:16
 add-set-cell-3 : tie.Need-add-set-cell-3
 add-set-cell-3 c = search needs
 
--- src/lib.rt:557:5
 set-cell-requires-4 : tie.Need-set-cell-requires-4
 set-cell-requires-4 c κs = search needs
 
--- src/lib.rt:550:1
 same-length : tie.Need-same-length
 same-length c = search needs
 
--- src/lib.rt:550:1
 returns : tie.Need-returns
 returns c = four-are (c .before .before .before .before .before .before .before .before .before .before .before .before .before .before .before .before .before .args .cells .now) _ _ _ _ (c .before .before .before .before .before .before .before .before .before .before .before .before .before .before .before .before .before .args .j) (c .before .before .before .before .before .before .before .before .before .before .before .before .before .before .before .before .before .args .a) _ _ _ (c .before .before .before .before .before .before .before .before .before .before .before .before .before .before .set-cell .ensures) (c .before .before .before .before .before .before .before .before .before .before .set-cell2 .ensures) (c .before .before .before .before .before .before .set-cell3 .ensures) (c .before .before .set-cell4 .ensures)
 

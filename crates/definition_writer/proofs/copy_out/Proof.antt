@@ -2,23 +2,16 @@ use Rattle.definition_writer.proofs.WriteLaws.{copy-front}
 use borrow.Author.Needs.{needs}
 use Rattle.definition_writer.proofs.copy_out.Statement.{statement}
 use Rattle.definition_writer.proofs.copy_out.Tie as tie
-use Rattle.definition_writer.proofs.copy_out.Reads as reads
-use Rattle.definition_writer.proofs.copy_out.Lts as lts
-use Rattle.definition_writer.proofs.put_bytes.Reads as put-bytes-reads
 
--- src/lib.rt:136:25
 part-requires : tie.Need-part-requires
 part-requires c κs = search needs
 
--- src/lib.rt:136:5
 put-bytes-requires : tie.Need-put-bytes-requires
 put-bytes-requires c κs = search needs
 
--- src/lib.rt:133:1
 same-length : tie.Need-same-length
 same-length c = search needs
 
--- src/lib.rt:133:1
 returns : tie.Need-returns
 returns c = copy-front (c .before .before .before .before .before .before .before .args .scratch .now) _ (c .before .before .before .before .before .before .before .args .table .now) _ (c .before .before .before .before .before .before .before .args .len) (c .before .before .before .part .ensures) (c .before .before .put-bytes .ensures)
 
