@@ -81,7 +81,7 @@ pub fn put_named(out: &mut [u8], table: &[u8], definition: &[u8]) -> usize {
     if numbers::TEXT_LIMIT < definition.len() {
         return text::put_text(out, 0, table);
     }
-    let mut cells = [0u32; 4096];
+    let mut cells = [0u32; definition_cells::ALL_CELLS];
     match definition_forms::forms(definition, &mut cells) {
         Formed::Complete(_) => put_with_cells(out, table, definition, &cells),
         _ => text::put_text(out, 0, table),

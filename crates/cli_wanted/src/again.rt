@@ -3,9 +3,6 @@ use cli_report::row_number;
 use message::Verdict;
 use message_tokens::Cursor;
 
-// No parameter has this number.
-pub const NOBODY: usize = 65_535;
-
 // The braces open behind a token.
 fn open_after(kind: u8, open: usize) -> usize {
     if kind == message_tokens::OPENING {
@@ -105,18 +102,18 @@ fn taker(relaxed: &[u8], message: &[u8], place: usize, value: &[u8], rows: &mut 
     if row < count {
         return text::size(row_number(rows, row, numbers::ROW_PARAMETER));
     }
-    NOBODY
+    numbers::NONE16
 }
 
 // The parameter whose value is due at a place, tried by a word, a string and a struct. A union that takes no int takes
 // none of them, and has no name here.
 pub fn due_at(relaxed: &[u8], message: &[u8], place: usize, rows: &mut [u32]) -> usize {
     let p = taker(relaxed, message, place, b" 0", rows);
-    if p != NOBODY {
+    if p != numbers::NONE16 {
         return p;
     }
     let p = taker(relaxed, message, place, b" \"\"", rows);
-    if p != NOBODY {
+    if p != numbers::NONE16 {
         return p;
     }
     taker(relaxed, message, place, b" {}", rows)

@@ -8,7 +8,6 @@ ghost use Rattle.cli_wanted.specs.Wanted.{resolvedIn, typeOf, isChoice, 
 mod again;
 mod relaxed;
 
-use again::NOBODY;
 use again::body_row;
 use again::due_at;
 use again::read_cut;

@@ -1,7 +1,7 @@
 // The relaxed table: every body may end early, every list may be short, and every simple value is a word or a string of
 // any length. All that the table reads it reads with the same rows, and it is lawful too.
 
-const WORD: u16 = 5;
+const WORD: u16 = numbers::UNQUOTED as u16;
 
 // The whole range of ints, as bytes hold it.
 const LEAST_INT: u32 = 0x8000_0000;

@@ -12,6 +12,11 @@ use test_frames::Head;
 // 1,100,017 bytes and fits behind them.
 const MANY: usize = 65_536;
 
+// The rooms of the input, in which the longest frame fits, and of the lines.
+const INPUT: usize = 400_000;
+
+const OUTPUT: usize = 1_200_000;
+
 // Where the program stands.
 struct State {
     // The input's bytes that are there and not answered yet.
@@ -190,10 +195,10 @@ fn flushed(out: &[u8], s: State) -> State {
 // A proved loop has to end, and nothing says that the input does. So the loop counts its turns down
 // from a number that no run uses up.
 fn run(
-    input: &mut [u8; 400_000],
-    table: &mut [u8; 100_000],
-    numbers: &mut [u32; 100_000],
-    out: &mut [u8; 1_200_000],
+    input: &mut [u8; INPUT],
+    table: &mut [u8; test_frames::LIMIT],
+    numbers: &mut [u32; test_frames::LIMIT],
+    out: &mut [u8; OUTPUT],
 ) {
     let mut turns = u64::MAX;
     let mut s = State {
@@ -210,9 +215,9 @@ fn run(
 }
 
 fn main() {
-    let mut input = [0u8; 400_000];
-    let mut table = [0u8; 100_000];
-    let mut numbers = [0u32; 100_000];
-    let mut out = [0u8; 1_200_000];
+    let mut input = [0u8; INPUT];
+    let mut table = [0u8; test_frames::LIMIT];
+    let mut numbers = [0u32; test_frames::LIMIT];
+    let mut out = [0u8; OUTPUT];
     run(&mut input, &mut table, &mut numbers, &mut out);
 }

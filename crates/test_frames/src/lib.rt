@@ -13,7 +13,7 @@ ghost use Rattle.test_frames.specs.Lines.{keptText, refusedText, tableLi
 // The bytes of a frame's head.
 const HEAD_BYTES: usize = 13;
 // The most that room, a and b may be.
-const LIMIT: usize = 100_000;
+pub const LIMIT: usize = 100_000;
 // What a lent byte, and a lent number, holds before.
 const LENT: u8 = 0xA5;
 
