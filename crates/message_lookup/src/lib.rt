@@ -193,11 +193,15 @@ pub fn bare(table: &[u8], unpacked: &[u32], n: usize, p: usize) -> Found
     next_untagged(table, unpacked, n, p, 0)
 }
 
-// The tag search: the field or alternative of p with this wire tag.
+// The tag search: the field or alternative of p with this wire tag. Made again by a match: handed on as it is, the
+// reader's loop over ints is compiled into slower code (docs/PERFORMANCE.md).
 pub fn find(table: &[u8], unpacked: &[u32], n: usize, p: usize, word: &[u8]) -> Found
     ensures { λ r. ⌜ foundOf r ≡ schemaAt (now (table .entry)) (now (unpacked .entry)) n .find p (now (word .entry)) ⌝ }
 {
-    table_tags::find(table, unpacked, n, p, word)
+    match table_tags::find(table, unpacked, n, p, word) {
+        Found::Nowhere => Found::Nowhere,
+        Found::At(q) => Found::At(q),
+    }
 }
 
 // ---- the fields that have appeared

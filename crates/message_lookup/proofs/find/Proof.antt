@@ -1,4 +1,6 @@
+use mathlib.Core.Path.{_∙_, refl, sym, ap}
 use Rattle.message_lookup.specs.Questions.{withFind}
+use Rattle.table_tags.specs.Lists.{foundOf}
 use borrow.Author.Needs.{needs}
 use Rattle.message_lookup.proofs.find.Statement.{statement}
 use Rattle.message_lookup.proofs.find.Tie as tie
@@ -6,9 +8,19 @@ use Rattle.message_lookup.proofs.find.Tie as tie
 find-requires : tie.Need-find-requires
 find-requires c κs = search needs
 
+enum-told : tie.Need-enum-told
+enum-told c = search needs
+
+enum-known-q : tie.Need-enum-known-q
+enum-known-q c = search needs
+
 returns : tie.Need-returns
 unfolding withFind
-returns c = c .find .ensures
+returns c = ap foundOf (sym (c .enum-told .given .1)) ∙ c .before .before .find .ensures
+
+returns-2 : tie.Need-returns-2
+unfolding withFind
+returns-2 c = ap foundOf (sym (c .before .q .given .1)) ∙ c .before .before .before .find .ensures
 
 pub find-spec : {M : Type 1} → statement M
-find-spec = tie.close (tie.spec find-requires returns)
+find-spec = tie.close (tie.spec find-requires enum-told enum-known-q returns returns-2)
