@@ -7,7 +7,7 @@ use native.Mathlib.Numerals.{add-one}
 use native.Mathlib.Omega.{arith}
 use borrow.Author.Tests.{eq-eqb, ne-eqb, eqb-true}
 use lib.Dec.{eqb}
-use lib.ListN.{length, getD, take, drop, replicate, length-drop, drop-of-length-le}
+use lib.ListN.{length, getD, take, drop, replicate, length-take, length-drop, drop-of-length-le}
 use lib.Seq.{drop-cons, take-all, take-nil}
 use Rattle.classes.specs.Lists.{every, runOf, sameBytes, part}
 use Rattle.classes.proofs.Bools.{clash-bool, both-true}
@@ -127,6 +127,16 @@ part-none t p e h = let q : length t ≤ p = omega arith in rw (drop-of-length-l
 
 pub part-back : (t : List ℕ) (p e : ℕ) → e ≤ p → [] ≡ part t p e
 part-back t p e h = let q : e - p ≡ 0 = omega arith in rw q
+
+pub part-most : (t : List ℕ) (p e : ℕ) → length (part t p e) ≤ length t
+part-most t p e = rw (length-take, length-drop) (omega arith)
+
+pub part-within : (t : List ℕ) (p e i : ℕ) → i < length (part t p e) → p + i < length t
+part-within t p e i h = omega (arith, simp (length-take, length-drop) at h)
+
+-- a part of n bytes
+pub part-of : (t : List ℕ) (p n : ℕ) → part t p (p + n) ≡ take n (drop p t)
+part-of t p n = let q : p + n - p ≡ n = omega arith in rw q
 
 -- the part of a slice from a place to its end
 pub rest-all : (s : List ℕ) (i : ℕ) → take (length s - i) (drop i s) ≡ drop i s

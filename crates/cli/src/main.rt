@@ -119,7 +119,7 @@ fn with_one(command: Command, i: usize, out: &mut [u8]) -> u8 {
     let Loaded::Bytes(n) = word(i, &mut buf) else {
         return UNUSABLE;
     };
-    let path = text::part(&buf, 0, n);
+    let path = classes::part(&buf, 0, n);
     match command {
         Command::Show => show_file(path, out),
         Command::Check => check_file(path, out),
@@ -151,8 +151,8 @@ fn with_two(is_read: bool, words: Words, out: &mut [u8]) -> u8 {
     let Loaded::Bytes(m) = word(words.second, &mut second) else {
         return UNUSABLE;
     };
-    let from = text::part(&first, 0, n);
-    let to = text::part(&second, 0, m);
+    let from = classes::part(&first, 0, n);
+    let to = classes::part(&second, 0, m);
     with_paths(is_read, from, to, words.is_plain, out)
 }
 
@@ -213,7 +213,7 @@ fn run(out: &mut [u8]) -> u8 {
     }
     let mut buf = [0u8; WORD];
     let n = os::arg(1, &mut buf);
-    run_command(command_of(text::part(&buf, 0, n)), count, out)
+    run_command(command_of(classes::part(&buf, 0, n)), count, out)
 }
 
 fn main() {

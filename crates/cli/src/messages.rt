@@ -69,7 +69,7 @@ fn print_rows(
 
 // A line for an unknown item, whose word stands from a place to a place.
 fn say_item(path: &[u8], message: &[u8], start: usize, end: usize, out: &mut [u8]) {
-    let word = text::part(message, start, end);
+    let word = classes::part(message, start, end);
     let at = cli_pages::put_unknown(out, path, message, start, word);
     say(out, at);
 }
@@ -172,7 +172,7 @@ fn read_with(
             table,
             named,
             path,
-            text::part(&buf, 0, n),
+            classes::part(&buf, 0, n),
             is_plain,
             out,
         ),
@@ -186,8 +186,8 @@ pub fn read_file(from: &[u8], path: &[u8], is_plain: bool, out: &mut [u8]) -> u8
     match table_of(from, &mut table, &mut named, out) {
         Source::Table(length, names) => read_with(
             from,
-            text::part(&table, 0, length),
-            text::part(&named, 0, names),
+            classes::part(&table, 0, length),
+            classes::part(&named, 0, names),
             path,
             is_plain,
             out,

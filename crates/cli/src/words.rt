@@ -58,7 +58,7 @@ fn with_argument(words: Words, i: usize) -> Words {
     if words.is_ended | !is_option {
         return with_word(words, i);
     }
-    with_option(words, text::part(&buf, 0, n))
+    with_option(words, classes::part(&buf, 0, n))
 }
 
 // The arguments from 2 on, of count in all.

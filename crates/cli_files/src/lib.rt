@@ -88,7 +88,7 @@ fn is_replaced(path: &[u8], bytes: &[u8]) -> bool {
     let mut buf = io::buffer();
     let o = text::put_text(&mut buf, 0, path);
     let o = text::put_text(&mut buf, o, b".new");
-    let beside = text::part(&buf, 0, o);
+    let beside = classes::part(&buf, 0, o);
     let fd = os::create(beside);
     if fd < 0 {
         os::fail(beside);

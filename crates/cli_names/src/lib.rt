@@ -59,7 +59,7 @@ fn put_records(
     let mut i = 0;
     while i < n {
         let label = table_records::label_at(table, unpacked, i);
-        let head = text::part(table, from, text::sum(from, numbers::RECORD_HEADER));
+        let head = classes::part(table, from, text::sum(from, numbers::RECORD_HEADER));
         let name = definition_cells::run(definition, cells, i, definition_cells::NAME);
         o = put_record(out, o, head, name, label);
         from = text::sum(from, text::sum(numbers::RECORD_HEADER, label.len()));

@@ -28,7 +28,7 @@ pub fn flushed(out: &[u8], page: Page, many: usize) -> Page {
     if !page.ok | (page.at < many) {
         return page;
     }
-    let is_written = io::write_all(STDOUT_FILENO, text::part(out, 0, page.at));
+    let is_written = io::write_all(STDOUT_FILENO, classes::part(out, 0, page.at));
     if !is_written {
         os::fail(b"lumas");
     }
@@ -55,12 +55,12 @@ pub fn started(at: usize) -> Page {
 
 // Writes out the first bytes. Where that fails there is nobody to tell, and the status stays.
 pub fn say(out: &[u8], at: usize) {
-    io::write_all(STDERR_FILENO, text::part(out, 0, at));
+    io::write_all(STDERR_FILENO, classes::part(out, 0, at));
 }
 
 // No file's bytes are more than a buffer holds, so that none are left out here.
 pub fn refuse(out: &mut [u8], path: &[u8], bytes: &[u8], number: u32, place: usize) -> u8 {
-    let at = cli_report::put_refusal(out, 0, path, text::part(bytes, 0, ROOM), number, place);
+    let at = cli_report::put_refusal(out, 0, path, classes::part(bytes, 0, ROOM), number, place);
     say(out, at);
     REFUSED
 }
@@ -73,7 +73,7 @@ pub fn put_unknown(
     place: usize,
     word: &[u8],
 ) -> usize {
-    let s = text::part(message, 0, ROOM);
+    let s = classes::part(message, 0, ROOM);
     cli_report::put_unknown(out, 0, path, s, text::least(place, s.len()), word)
 }
 

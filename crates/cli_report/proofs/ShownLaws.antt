@@ -7,7 +7,8 @@ use native.Mathlib.Omega.{arith}
 use lib.Dec.{eqb}
 use lib.ListN.{length, length-take, length-drop}
 use Rattle.classes.specs.Bytes.{between}
-use Rattle.text.specs.Text.{Wrote, partOf, each}
+use Rattle.classes.specs.Lists.{part}
+use Rattle.text.specs.Text.{Wrote, each}
 use Rattle.cli_places.specs.Lines.{lineStart, lineEnd}
 use Rattle.cli_wording.specs.Sayings.{bytes}
 use Rattle.cli_report.specs.Shown.{shownByte, blankFor, shownText, blanksFor, markText, viewStart, viewEnd, viewText}
@@ -23,7 +24,7 @@ module _ (s : List ℕ) (p : ℕ) where
   to-view end from sum to e l f v h t = rw (← e, ← v) (omega arith)
 
   pub view : (last : Bool) (from to : ℕ) (line before : List ℕ) {o o₁ : List ℕ} {at r : ℕ} → from ≡ viewStart s p → to ≡ viewEnd s p
-      → line ≡ partOf s from to → before ≡ partOf s from p
+      → line ≡ part s from to → before ≡ part s from p
       → Wrote (shownText line ++ bytes "\n" ++ blanksFor before ++ markText last) o at o₁ r
       → Wrote (viewText s p last) o at o₁ r
   unfolding viewText
@@ -46,8 +47,8 @@ unfolding each
 one-each f [] = refl
 one-each f (b ∷ l) = ap suc (one-each f l)
 
-pub mark-under : (s : List ℕ) (p : ℕ) → p ≤ length s → length (blanksFor (partOf s (viewStart s p) p)) ≡ p - viewStart s p
+pub mark-under : (s : List ℕ) (p : ℕ) → p ≤ length s → length (blanksFor (part s (viewStart s p) p)) ≡ p - viewStart s p
 mark-under s p h = one-each blankFor _ ∙ simp (length-take, length-drop) (omega arith)
 
-pub line-wide : (s : List ℕ) (from to : ℕ) → length (shownText (partOf s from to)) ≡ length (partOf s from to)
+pub line-wide : (s : List ℕ) (from to : ℕ) → length (shownText (part s from to)) ≡ length (part s from to)
 line-wide s from to = one-each shownByte _

@@ -5,7 +5,8 @@ use Prim.Native.Nat.{ℕ, _+_, _-_, min, max}
 use lib.Dec.{eqb, ltb}
 use lib.ListN.{length}
 use Rattle.classes.specs.Bytes.{between}
-use Rattle.text.specs.Text.{partOf, each, decimal}
+use Rattle.classes.specs.Lists.{part}
+use Rattle.text.specs.Text.{each, decimal}
 use Rattle.cli_places.specs.Lines.{lineOf, lineStart, lineEnd, columnOf, textEnd}
 use Rattle.cli_wording.specs.Sayings.{bytes, meaningLine}
 
@@ -37,9 +38,9 @@ markText last = cond last (bytes "^ the end\n") (bytes "^\n")
 -- the line of a place, and under it the mark at the place
 unfoldable pub viewText : List ℕ → ℕ → Bool → List ℕ
 viewText s p last =
-    shownText (partOf s (viewStart s p) (viewEnd s p))
+    shownText (part s (viewStart s p) (viewEnd s p))
     ++ bytes "\n"
-    ++ blanksFor (partOf s (viewStart s p) p)
+    ++ blanksFor (part s (viewStart s p) p)
     ++ markText last
 
 -- "tile.msg:1:9: "

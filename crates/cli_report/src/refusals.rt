@@ -97,9 +97,9 @@ fn put_view(out: &mut [u8], at: usize, s: &[u8], place: usize, last: bool) -> us
 {
     let from = view_from(line_start(s, place), place);
     let to = text::least(line_end(s, place), text::sum(from, WIDTH));
-    let o = put_shown(out, at, text::part(s, from, to));
+    let o = put_shown(out, at, classes::part(s, from, to));
     let o = text::put_byte(out, o, b'\n');
-    let o = put_blanks(out, o, text::part(s, from, place));
+    let o = put_blanks(out, o, classes::part(s, from, place));
     put_mark(out, o, last)
 }
 

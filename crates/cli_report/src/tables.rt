@@ -221,7 +221,7 @@ fn put_record_column(
     put_cell(
         out,
         at,
-        text::part(&cell, 0, n),
+        classes::part(&cell, 0, n),
         width,
         is_record_number(column),
     )
@@ -245,7 +245,7 @@ pub fn put_record_line(
     }
     let mut cell = [0u8; CELL];
     let n = record_cell(&mut cell, table, unpacked, line, RECORD_COLUMNS);
-    o = text::put_text(out, o, text::part(&cell, 0, n));
+    o = text::put_text(out, o, classes::part(&cell, 0, n));
     text::put_byte(out, o, b'\n')
 }
 
@@ -284,7 +284,7 @@ fn put_row_cell(
     match column {
         0 => text::put_decimal(out, at, row as u64),
         1 => {
-            let p = text::size(row_number(rows, row, numbers::ROW_PARAMETER));
+            let p = numbers::u32_as_usize(row_number(rows, row, numbers::ROW_PARAMETER));
             put_shown(out, at, table_records::label_at(table, unpacked, p))
         }
         2 => put_parent(out, at, row_number(rows, row, numbers::ROW_PARENT)),
@@ -352,7 +352,7 @@ fn put_row_column(
 ) -> usize {
     let mut cell = [0u8; CELL];
     let n = row_cell(&mut cell, table, unpacked, rows, line, column);
-    put_cell(out, at, text::part(&cell, 0, n), width, column != 1)
+    put_cell(out, at, classes::part(&cell, 0, n), width, column != 1)
 }
 
 fn put_row_columns(
@@ -394,7 +394,7 @@ fn has_parts(table: &[u8], unpacked: &[u32], p: usize) -> bool {
 // A row's text, of which the first bytes are enough where its parts have rows of their own.
 fn put_row_text(out: &mut [u8], at: usize, bytes: &[u8], has_parts: bool) -> usize {
     if has_parts & (GLANCE < bytes.len()) {
-        let o = put_shown(out, at, text::part(bytes, 0, GLANCE));
+        let o = put_shown(out, at, classes::part(bytes, 0, GLANCE));
         return text::put_text(out, o, b" ..");
     }
     put_shown(out, at, bytes)
@@ -415,7 +415,7 @@ pub fn put_row_line(
     if line == 0 {
         return text::put_text(out, o, b"text\n");
     }
-    let p = text::size(row_number(rows, line - 1, numbers::ROW_PARAMETER));
+    let p = numbers::u32_as_usize(row_number(rows, line - 1, numbers::ROW_PARAMETER));
     let o = put_row_text(out, o, bytes, has_parts(table, unpacked, p));
     text::put_byte(out, o, b'\n')
 }

@@ -46,7 +46,7 @@ fn table_from(
     }
     match definition::compile(bytes, table) {
         Compiled::Table(length) => {
-            let names = cli_names::put_named(named, text::part(table, 0, length), bytes);
+            let names = cli_names::put_named(named, classes::part(table, 0, length), bytes);
             Source::Table(length, names)
         }
         Compiled::Refused(number, place) => {
@@ -58,7 +58,7 @@ fn table_from(
 pub fn table_of(path: &[u8], table: &mut [u8], named: &mut [u8], out: &mut [u8]) -> Source {
     let mut buf = io::large_buffer();
     match load(path, &mut buf) {
-        Loaded::Bytes(n) => table_from(path, text::part(&buf, 0, n), table, named, out),
+        Loaded::Bytes(n) => table_from(path, classes::part(&buf, 0, n), table, named, out),
         Loaded::Failed => Source::Ended(UNUSABLE),
     }
 }
@@ -89,7 +89,7 @@ fn is_free(to: &[u8], bytes: &[u8]) -> bool {
     let Loaded::Bytes(n) = load(to, &mut buf) else {
         return false;
     };
-    if !classes::same_bytes(text::part(&buf, 0, n), bytes) {
+    if !classes::same_bytes(classes::part(&buf, 0, n), bytes) {
         return true;
     }
     unusable(
@@ -114,7 +114,7 @@ fn write_table(table: &[u8], bytes: &[u8], to: &[u8], out: &mut [u8]) -> u8 {
 fn compile_bytes(path: &[u8], bytes: &[u8], to: &[u8], out: &mut [u8]) -> u8 {
     let mut table = io::large_buffer();
     match definition::compile(bytes, &mut table) {
-        Compiled::Table(length) => write_table(text::part(&table, 0, length), bytes, to, out),
+        Compiled::Table(length) => write_table(classes::part(&table, 0, length), bytes, to, out),
         Compiled::Refused(number, place) => refuse(out, path, bytes, number, place),
     }
 }
@@ -122,7 +122,7 @@ fn compile_bytes(path: &[u8], bytes: &[u8], to: &[u8], out: &mut [u8]) -> u8 {
 pub fn compile_file(path: &[u8], to: &[u8], out: &mut [u8]) -> u8 {
     let mut buf = io::large_buffer();
     match load(path, &mut buf) {
-        Loaded::Bytes(n) => compile_bytes(path, text::part(&buf, 0, n), to, out),
+        Loaded::Bytes(n) => compile_bytes(path, classes::part(&buf, 0, n), to, out),
         Loaded::Failed => UNUSABLE,
     }
 }
@@ -159,8 +159,8 @@ pub fn show_file(path: &[u8], out: &mut [u8]) -> u8 {
     match table_of(path, &mut table, &mut named, out) {
         Source::Table(length, names) => show_table(
             path,
-            text::part(&table, 0, length),
-            text::part(&named, 0, names),
+            classes::part(&table, 0, length),
+            classes::part(&named, 0, names),
             out,
         ),
         Source::Ended(status) => status,
@@ -187,7 +187,7 @@ fn check_definition(path: &[u8], bytes: &[u8], out: &mut [u8]) -> u8 {
         Compiled::Table(length) => answer_size(
             path,
             b": compiles to a table of ",
-            text::part(&table, 0, length),
+            classes::part(&table, 0, length),
             out,
         ),
         Compiled::Refused(number, place) => refuse(out, path, bytes, number, place),
@@ -199,7 +199,7 @@ pub fn check_file(path: &[u8], out: &mut [u8]) -> u8 {
     let Loaded::Bytes(n) = load(path, &mut buf) else {
         return UNUSABLE;
     };
-    let bytes = text::part(&buf, 0, n);
+    let bytes = classes::part(&buf, 0, n);
     if has_zero(bytes) {
         return check_table(path, bytes, out);
     }

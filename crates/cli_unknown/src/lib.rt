@@ -27,7 +27,7 @@ pub fn begin() -> Reached {
 }
 
 fn start_of(rows: &[u32], row: usize) -> usize {
-    text::size(row_number(rows, row, numbers::ROW_START))
+    numbers::u32_as_usize(row_number(rows, row, numbers::ROW_START))
 }
 
 // The first row from one on that begins at a place or behind it.

@@ -46,7 +46,7 @@ fn put_closings(cut: &mut [u8], at: usize, count: usize) -> usize {
 
 // The message up to a place, a value, and all that is open closed.
 fn put_cut(cut: &mut [u8], message: &[u8], place: usize, value: &[u8]) -> usize {
-    let before = text::part(message, 0, place);
+    let before = classes::part(message, 0, place);
     let o = text::put_text(cut, 0, before);
     let o = text::put_text(cut, o, value);
     put_closings(cut, o, open_at_end(before))
@@ -62,7 +62,7 @@ pub fn read_cut(
 ) -> usize {
     let mut cut = io::large_buffer();
     let n = put_cut(&mut cut, message, place, value);
-    match message::read(relaxed, text::part(&cut, 0, n), rows) {
+    match message::read(relaxed, classes::part(&cut, 0, n), rows) {
         Verdict::Accepted(count) => count,
         Verdict::Refused(_, _) => 0,
     }
@@ -73,7 +73,7 @@ fn last_row(rows: &[u32], count: usize, is_start: bool, place: usize) -> usize {
     let mut row = count;
     while 0 < row {
         row -= 1;
-        if text::size(edge(rows, row, is_start)) == place {
+        if numbers::u32_as_usize(edge(rows, row, is_start)) == place {
             return row;
         }
     }
@@ -100,7 +100,7 @@ fn taker(relaxed: &[u8], message: &[u8], place: usize, value: &[u8], rows: &mut 
     let count = read_cut(relaxed, message, place, value, rows);
     let row = last_row(rows, count, true, text::sum(place, 1));
     if row < count {
-        return text::size(row_number(rows, row, numbers::ROW_PARAMETER));
+        return numbers::u32_as_usize(row_number(rows, row, numbers::ROW_PARAMETER));
     }
     numbers::NONE16
 }

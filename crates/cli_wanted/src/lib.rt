@@ -41,8 +41,8 @@ fn is_required(table: &[u8], unpacked: &[u32], k: usize) -> bool {
 fn is_given(rows: &[u32], count: usize, body: usize, k: usize) -> bool {
     let mut row = 0;
     while row < count {
-        if (text::size(row_number(rows, row, numbers::ROW_PARENT)) == body)
-            & (text::size(row_number(rows, row, numbers::ROW_PARAMETER)) == k)
+        if (numbers::u32_as_usize(row_number(rows, row, numbers::ROW_PARENT)) == body)
+            & (numbers::u32_as_usize(row_number(rows, row, numbers::ROW_PARAMETER)) == k)
         {
             return true;
         }
@@ -119,7 +119,7 @@ fn say_missing(
     let s = resolved(
         named,
         &unpacked,
-        text::size(row_number(rows, body, numbers::ROW_PARAMETER)),
+        numbers::u32_as_usize(row_number(rows, body, numbers::ROW_PARAMETER)),
     );
     put_missing(out, named, &unpacked, n, s, rows, count, body)
 }
@@ -203,7 +203,7 @@ pub fn put_lacking(
     }
     let mut relaxed = io::large_buffer();
     let length = put_relaxed(&mut relaxed, table);
-    let relaxed = text::part(&relaxed, 0, length);
+    let relaxed = classes::part(&relaxed, 0, length);
     if number == FIELD_MISSING {
         return say_missing(out, relaxed, named, message, place, rows);
     }

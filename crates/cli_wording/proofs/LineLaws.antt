@@ -7,9 +7,8 @@ use native.Mathlib.Nat.{add-zero}
 use native.Mathlib.Omega.{arith}
 use lib.ListN.{length, take, drop, drop-of-length-le, length-drop}
 use lib.Seq.{take-append-seam, drop-drop}
-use Rattle.classes.specs.Lists.{every, runOf}
+use Rattle.classes.specs.Lists.{every, runOf, part}
 use Rattle.cli_places.specs.Lines.{lineEnd, notBreak}
-use Rattle.text.specs.Text.{partOf}
 use Rattle.cli_wording.specs.Lines.{firstLine, behindLine, lineAt, linesOf}
 
 -- ---- in the code
@@ -29,7 +28,7 @@ module _ (s : List ℕ) (p e : ℕ) (h : e ≡ lineEnd s p) where
       let q : length (drop p s) ≤ suc (runOf notBreak (drop p s)) = rw length-drop (omega (arith, ends)) in
       drop-of-length-le s l ∙ sym (drop-of-length-le (drop p s) q)
 
-  pub whole : partOf s p e ≡ firstLine (drop p s)
+  pub whole : part s p e ≡ firstLine (drop p s)
   whole = let q : e - p ≡ runOf notBreak (drop p s) = omega (arith, ends) in rw q
 
 pub line-begin : (s : List ℕ) (n : ℕ) → lineAt n s ≡ lineAt (n - 0) (drop 0 s)

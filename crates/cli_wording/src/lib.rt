@@ -116,7 +116,7 @@ pub fn put_line(out: &mut [u8], at: usize, lines: &[u8], n: usize) -> usize
 {
     let from = line_from(lines, n);
     let to = cli_places::line_end(lines, from);
-    put_text(out, at, text::part(lines, from, to))
+    put_text(out, at, classes::part(lines, from, to))
 }
 
 // What a refusal means.

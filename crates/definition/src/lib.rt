@@ -7,7 +7,7 @@ ghost use mathlib.Core.List.{List};
 ghost use Prim.Native.Nat.{ℕ, _≤_, _<_};
 ghost use lib.ListN.{length};
 ghost use Rattle.numbers.specs.Limits.{parameterLimit, textLimit};
-ghost use Rattle.reading_rules.specs.Record.{Record, Before, Nested};
+ghost use Rattle.reading_rules.specs.Record.{Record, Before, AfterParents};
 ghost use Rattle.definition_rules.specs.Table.{numberUp, just, decode};
 ghost use Rattle.definition_rules.specs.Compile.{firstFault, answerWithRoom, lentAfter, compileAnswer, tableAfter};
 ghost use Rattle.definition_rules.specs.Stuck.{StuckPromise};
@@ -65,7 +65,7 @@ fn blank_marks() -> [bool; numbers::PARAMETER_LIMIT]
 // Numbers 7 to 10, over the declarations and the records that were written for them.
 fn record_fault(text: &[u8], cells: &[u32], table: &[u8], unpacked: &[u32], n: usize) -> Stop
     requires { ⌜ (n ≤ parameterLimit) × Linked (now table) (now unpacked) n 0 ⌝ }
-    ensures { λ r. ⌜ (Nested (recordsAt (now (table .entry)) (now (unpacked .entry)) n) → stopFinding r ≡ firstFault (checks7to10 (recordsAt (now (table .entry)) (now (unpacked .entry)) n) (notedFrom (now (text .entry)) (now (cells .entry)) n 0))) ⌝ }
+    ensures { λ r. ⌜ (AfterParents (recordsAt (now (table .entry)) (now (unpacked .entry)) n) → stopFinding r ≡ firstFault (checks7to10 (recordsAt (now (table .entry)) (now (unpacked .entry)) n) (notedFrom (now (text .entry)) (now (cells .entry)) n 0))) ⌝ }
 {
     let mut have = blank_marks();
     match definition_faults::least_fault(cells, table, unpacked, &have, n, 7) {
@@ -101,7 +101,7 @@ fn record_fault(text: &[u8], cells: &[u32], table: &[u8], unpacked: &[u32], n: u
 // The same, over the table in which the records were written. A table of these records is walked to its end.
 fn written_fault(text: &[u8], cells: &[u32], table: &[u8], n: usize) -> Stop
     requires { ⌜ n ≤ parameterLimit ⌝ }
-    ensures { λ r. ⌜ ((rs : List Record) → decode (now (table .entry)) ≡ just rs → length rs ≡ n → Nested rs → stopFinding r ≡ firstFault (checks7to10 rs (notedFrom (now (text .entry)) (now (cells .entry)) n 0))) ⌝ }
+    ensures { λ r. ⌜ ((rs : List Record) → decode (now (table .entry)) ≡ just rs → length rs ≡ n → AfterParents rs → stopFinding r ≡ firstFault (checks7to10 rs (notedFrom (now (text .entry)) (now (cells .entry)) n 0))) ⌝ }
 {
     let mut unpacked = blank_records();
     match table_walk::unpack(table, &mut unpacked) {

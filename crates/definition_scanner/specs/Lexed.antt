@@ -25,9 +25,9 @@ pub record CommentEnded (text : List ℕ) (from e : ℕ) : Type 0 where
   pub after : from ≤ e
   pub within : e ≤ length text
 
-abbrev pub Closed : List ℕ → ℕ → Comment → Type 0
-Closed text from (Ends e) = CommentEnded text from e
-Closed text from Endless = (q : ℕ) → scan (comment q) from (drop from text) ≡ bad q ∷ []
+abbrev pub CommentClosed : List ℕ → ℕ → Comment → Type 0
+CommentClosed text from (Ends e) = CommentEnded text from e
+CommentClosed text from Endless = (q : ℕ) → scan (comment q) from (drop from text) ≡ bad q ∷ []
 
 pub record RunAt (text : List ℕ) (at a e : ℕ) : Type 0 where
   pub cut : liveFrom text at ≡ item a (run (part text a e)) ∷ liveFrom text e

@@ -9,7 +9,7 @@ ghost use Rattle.classes.specs.Lists.{runOf};
 ghost use Rattle.classes.specs.Bytes.{isRunByte};
 ghost use Rattle.definition_rules.specs.Scan.{itemsOf, bracesAfter, isDeepBrace};
 ghost use Rattle.definition_rules.specs.Compile.{faults2};
-ghost use Rattle.definition_scanner.specs.Lexed.{LineEnded, Closed, LexTurned, Lexed};
+ghost use Rattle.definition_scanner.specs.Lexed.{LineEnded, CommentClosed, LexTurned, Lexed};
 ghost use Rattle.definition_cells.specs.Places.{leastPlace};
 ghost use Rattle.definition_scanner.specs.First.{ScanStep};
 use definition_cells::Place;
@@ -89,7 +89,7 @@ fn ends_comment(text: &[u8], at: usize) -> bool
 // Past the first `*/`.
 fn comment_end(text: &[u8], from: usize) -> Comment
     requires { ⌜ from ≤ length (now text) ⌝ }
-    ensures { λ r. ⌜ Closed (now (text .entry)) from r ⌝ }
+    ensures { λ r. ⌜ CommentClosed (now (text .entry)) from r ⌝ }
 {
     let n = text.len();
     if n == 0 {

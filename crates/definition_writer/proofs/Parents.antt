@@ -10,7 +10,7 @@ use lib.ListN.{length}
 use borrow.Author.Tests.{eqb-true}
 use Rattle.classes.specs.Lists.{pick}
 use Rattle.numbers.specs.Limits.{none16}
-use Rattle.reading_rules.specs.Record.{Record, Up, top, under, recordAt, Before, Nested}
+use Rattle.reading_rules.specs.Record.{Record, Up, top, under, recordAt, Before, AfterParents}
 use Rattle.definition_rules.specs.Scan.{TextToken}
 use Rattle.definition_rules.specs.Forms.{MaybeRun, FormSort, tops, Form, plain, compound, noField, field, noGroup, group, lastTop, moreTops}
 use Rattle.definition_rules.specs.Declarations.{Declaration, declaration, Noted, noted, countForm, declare, treeDeclarations, complete, parseTokens, declarationsOf}
@@ -93,8 +93,8 @@ module _ (cs : List ℕ) (n : ℕ) (b : (i : ℕ) → i < n → Before i (number
         let z : suc i + j ≡ i + suc j = omega arith in
         subst (λ (k : ℕ). Before k (recordAt (recordsFor names (declarationsOf (notedFrom t cs m (suc i)))) j .parent)) z (record-before m (suc i) (λ k l. subst (λ (q : ℕ). Before q (numberUp (cellAt cs q 15))) (omega arith) (a (suc k) (omega arith))) j (omega arith))
 
-  pub records-nested : (t : List ℕ) → Nested (recordsOf (declarationsOf (notedFrom t cs n 0)))
-  unfolding Nested recordsOf
-  records-nested t i h =
+  pub records-after-parents : (t : List ℕ) → AfterParents (recordsOf (declarationsOf (notedFrom t cs n 0)))
+  unfolding AfterParents recordsOf
+  records-after-parents t i h =
       let z : 0 + i ≡ i = zero-add i in
       subst (λ (k : ℕ). Before k (recordAt (recordsFor (topNames (declarationsOf (notedFrom t cs n 0))) (declarationsOf (notedFrom t cs n 0))) i .parent)) z (record-before t (topNames (declarationsOf (notedFrom t cs n 0))) n 0 (λ j l. subst (λ (q : ℕ). Before q (numberUp (cellAt cs q 15))) (sym (zero-add j)) (b j l)) i h)

@@ -89,6 +89,6 @@ pub extern "C" fn lumas_row(message: &[u8], rows: &[u32], row: usize, start: &mu
         *start = 0;
         return 0;
     }
-    *start = numbers::wide(rows[numbers::ROW_WIDTH * row + numbers::ROW_START]);
+    *start = numbers::u32_as_usize(rows[numbers::ROW_WIDTH * row + numbers::ROW_START]);
     count
 }

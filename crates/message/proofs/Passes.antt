@@ -13,7 +13,7 @@ use Rattle.numbers.specs.Limits.{messageLimit, openLimit, rowWidth, noRow, para
 use Rattle.reading_rules.specs.Schema.{schemaOf, Found, nowhere, found}
 use Rattle.reading_rules.specs.Reading.{Tree, body}
 use Rattle.table_records.specs.Stored.{recordsAt}
-use Rattle.message_rules.specs.RowBytes.{startAt, endAt, rowLies, rowBytes, rowStart}
+use Rattle.message_rules.specs.RowBytes.{rowFrom, rowTo, rowLies, rowBytes, rowStart}
 use Rattle.message_rules.specs.Scan.{cut, scanFault, tokensOf}
 use Rattle.message_rules.specs.Scan.{Lexeme as Lex}
 use Rattle.reading_rules.specs.Parse.{Result, refused, bodyAt, parse}
@@ -53,21 +53,21 @@ module _ (m lent : List ℕ) (row : ℕ) where
   unfolding rowBytes rowStart
   not-lying e = rw (e, rowBytes, rowStart) (refl, refl)
 
-  lying : rowLies m lent row ≡ true → (take (endAt lent row - startAt lent row) (drop (startAt lent row) m) ≡ rowBytes m lent row) × (startAt lent row ≡ rowStart m lent row)
+  lying : rowLies m lent row ≡ true → (take (rowTo lent row - rowFrom lent row) (drop (rowFrom lent row) m) ≡ rowBytes m lent row) × (rowFrom lent row ≡ rowStart m lent row)
   unfolding rowBytes rowStart
   lying e = rw (e, rowBytes, rowStart) (refl, refl)
 
   pub bytes-lost : length lent / 4 ≤ row → ([] ≡ rowBytes m lent row) × (0 ≡ rowStart m lent row)
   bytes-lost h = not-lying (rw (lt-leb (4 * row + 4) (length lent) (row-lost (length lent) row h)) refl)
 
-  pub bytes-back : row < length lent / 4 → endAt lent row < startAt lent row → ([] ≡ rowBytes m lent row) × (0 ≡ rowStart m lent row)
-  bytes-back h e = not-lying (rw (le-leb (4 * row + 4) (length lent) (row-there (length lent) row h), lt-leb (startAt lent row) (endAt lent row) e) refl)
+  pub bytes-back : row < length lent / 4 → rowTo lent row < rowFrom lent row → ([] ≡ rowBytes m lent row) × (0 ≡ rowStart m lent row)
+  bytes-back h e = not-lying (rw (le-leb (4 * row + 4) (length lent) (row-there (length lent) row h), lt-leb (rowFrom lent row) (rowTo lent row) e) refl)
 
-  pub bytes-over : row < length lent / 4 → startAt lent row ≤ endAt lent row → length m < endAt lent row → ([] ≡ rowBytes m lent row) × (0 ≡ rowStart m lent row)
-  bytes-over h e f = not-lying (rw (le-leb (4 * row + 4) (length lent) (row-there (length lent) row h), le-leb (startAt lent row) (endAt lent row) e, lt-leb (endAt lent row) (length m) f) refl)
+  pub bytes-over : row < length lent / 4 → rowFrom lent row ≤ rowTo lent row → length m < rowTo lent row → ([] ≡ rowBytes m lent row) × (0 ≡ rowStart m lent row)
+  bytes-over h e f = not-lying (rw (le-leb (4 * row + 4) (length lent) (row-there (length lent) row h), le-leb (rowFrom lent row) (rowTo lent row) e, lt-leb (rowTo lent row) (length m) f) refl)
 
-  pub bytes-there : row < length lent / 4 → startAt lent row ≤ endAt lent row → endAt lent row ≤ length m → (take (endAt lent row - startAt lent row) (drop (startAt lent row) m) ≡ rowBytes m lent row) × (startAt lent row ≡ rowStart m lent row)
-  bytes-there h e f = lying (rw (le-leb (4 * row + 4) (length lent) (row-there (length lent) row h), le-leb (startAt lent row) (endAt lent row) e, le-leb (endAt lent row) (length m) f) refl)
+  pub bytes-there : row < length lent / 4 → rowFrom lent row ≤ rowTo lent row → rowTo lent row ≤ length m → (take (rowTo lent row - rowFrom lent row) (drop (rowFrom lent row) m) ≡ rowBytes m lent row) × (rowFrom lent row ≡ rowStart m lent row)
+  bytes-there h e f = lying (rw (le-leb (4 * row + 4) (length lent) (row-there (length lent) row h), le-leb (rowFrom lent row) (rowTo lent row) e, le-leb (rowTo lent row) (length m) f) refl)
 
   pub bytes-within : row < length lent / 4 → 4 * row + 4 ≤ length lent
   bytes-within h = row-there (length lent) row h

@@ -40,8 +40,8 @@ pub fn row_bytes<'a>(message: &'a [u8], rows: &[u32], row: usize) -> &'a [u8]
     if rows.len() / numbers::ROW_WIDTH <= row {
         return empty_part(message);
     }
-    let start = numbers::wide(rows[numbers::ROW_WIDTH * row + numbers::ROW_START]);
-    let end = numbers::wide(rows[numbers::ROW_WIDTH * row + numbers::ROW_END]);
+    let start = numbers::u32_as_usize(rows[numbers::ROW_WIDTH * row + numbers::ROW_START]);
+    let end = numbers::u32_as_usize(rows[numbers::ROW_WIDTH * row + numbers::ROW_END]);
     if end < start {
         return empty_part(message);
     }

@@ -285,20 +285,13 @@ fn digits_by_byte(s: &[u8], at: usize) -> Digits
             if 0x00FF_FFFF_FFFF_FFFF < sum {
                 return Digits::Other;
             }
-            sum = sum * 256 + wide(b - 48);
+            sum = sum * 256 + numbers::u8_as_u64(b - 48);
             i += 1;
         } else {
             return digits_before(s, at, i, sum, b);
         }
     }
     digits_before(s, at, i, sum, 0)
-}
-
-// A byte as a u64.
-fn wide(b: u8) -> u64
-    ensures { λ r. ⌜ (r ≡ b) × (r < 256) ⌝ }
-{
-    b as u64
 }
 
 // In each of eight bytes: the digit 0, the bit 4 that every digit has, the high half, and 6.
@@ -314,15 +307,15 @@ const SIXES: u64 = 0x0606_0606_0606_0606;
 fn digit_guess(s: &[u8], at: usize) -> usize
     requires { ⌜ at + 8 ≤ length (now s) ⌝ }
 {
-    let w = wide(s[at])
-        | wide(s[at + 1]) << 8
-        | wide(s[at + 2]) << 16
-        | wide(s[at + 3]) << 24
-        | wide(s[at + 4]) << 32
-        | wide(s[at + 5]) << 40
-        | wide(s[at + 6]) << 48
-        | wide(s[at + 7]) << 56;
-    numbers::wide(u64::trailing_zeros(!w & BITS) / 8)
+    let w = numbers::u8_as_u64(s[at])
+        | numbers::u8_as_u64(s[at + 1]) << 8
+        | numbers::u8_as_u64(s[at + 2]) << 16
+        | numbers::u8_as_u64(s[at + 3]) << 24
+        | numbers::u8_as_u64(s[at + 4]) << 32
+        | numbers::u8_as_u64(s[at + 5]) << 40
+        | numbers::u8_as_u64(s[at + 6]) << 48
+        | numbers::u8_as_u64(s[at + 7]) << 56;
+    numbers::u32_as_usize(u64::trailing_zeros(!w & BITS) / 8)
 }
 
 // Four bytes as one number, the first highest.
@@ -330,7 +323,10 @@ fn four_at(s: &[u8], at: usize) -> u64
     requires { ⌜ at + 4 ≤ length (now s) ⌝ }
     ensures { λ r. ⌜ (r ≡ joined 4 (now (s .entry)) at) × (r < 4294967296) ⌝ }
 {
-    ((wide(s[at]) * 256 + wide(s[at + 1])) * 256 + wide(s[at + 2])) * 256 + wide(s[at + 3])
+    ((numbers::u8_as_u64(s[at]) * 256 + numbers::u8_as_u64(s[at + 1])) * 256
+        + numbers::u8_as_u64(s[at + 2]))
+        * 256
+        + numbers::u8_as_u64(s[at + 3])
 }
 
 // Eight bytes as one number, the first highest.

@@ -50,5 +50,5 @@ Before i top = Unit {0}
 Before i (under p) = p < i
 
 -- as in every table
-unfoldable pub Nested : List Record → Type 0
-Nested rs = (i : ℕ) → i < length rs → Before i (recordAt rs i .parent)
+unfoldable pub AfterParents : List Record → Type 0
+AfterParents rs = (i : ℕ) → i < length rs → Before i (recordAt rs i .parent)

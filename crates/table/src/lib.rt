@@ -3,7 +3,7 @@ ghost use mathlib.Core.Path.{_≡_};
 ghost use Prim.Native.Nat.{_+_, _*_, _≤_, _<_};
 ghost use lib.ListN.{length};
 ghost use Rattle.numbers.specs.Limits.{parameterLimit};
-ghost use Rattle.reading_rules.specs.Record.{Nested};
+ghost use Rattle.reading_rules.specs.Record.{AfterParents};
 ghost use Rattle.definition_rules.specs.Finite.{isEndless};
 ghost use mathlib.Core.Bool.{true};
 ghost use mathlib.Core.Logic.{_↔_};
@@ -72,7 +72,7 @@ fn none_yet() -> [bool; numbers::PARAMETER_LIMIT]
 
 fn checks_fine(table: &[u8], unpacked: &[u32], n: usize) -> bool
     requires { ⌜ (n ≤ parameterLimit) × Linked (now table) (now unpacked) n 0 ⌝ }
-    ensures { λ r. ⌜ (Nested (recordsAt (now (table .entry)) (now (unpacked .entry)) n) → r ≡ recordChecks (recordsAt (now (table .entry)) (now (unpacked .entry)) n)) ⌝ }
+    ensures { λ r. ⌜ (AfterParents (recordsAt (now (table .entry)) (now (unpacked .entry)) n) → r ≡ recordChecks (recordsAt (now (table .entry)) (now (unpacked .entry)) n)) ⌝ }
 {
     if !none_broken(table, unpacked, n) {
         return false;

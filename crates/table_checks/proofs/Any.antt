@@ -65,6 +65,17 @@ module _ (rs : List Record) (i : ℕ) (r : Record) (k : ℕ) (u : r .untagged �
   unfolding pick
   untagged-field z = untagged-by false (ne-eqb k 9 z)
 
+-- ---- an untagged field in an extension
+
+module _ (rs : List Record) (i : ℕ) (r : Record) (x : r .extension ≡ true) where
+  pub field-in-extension : true ≡ misplacedField rs i r
+  unfolding misplacedField
+  field-in-extension = rw x
+
+  pub alternative-in-extension : true ≡ misplacedAlternative rs i r
+  unfolding misplacedAlternative
+  alternative-in-extension = rw x
+
 -- ---- a tagged field of a struct
 
 -- it breaks no rule of number 7 unless it is a plugin

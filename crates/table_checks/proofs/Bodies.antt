@@ -10,12 +10,12 @@ use lib.ListN.{length, getD, set, List·getD-eq-default}
 use lib.Seq.{getD-set-same, getD-set-other}
 use borrow.Author.Tests.{eqb-true, eqb-false, ne-eqb, ltb-true, ltb-false}
 use Rattle.classes.specs.Lists.{pick}
-use Rattle.reading_rules.specs.Record.{Record, Up, top, under, recordAt, Before, Nested}
+use Rattle.reading_rules.specs.Record.{Record, Up, top, under, recordAt, Before, AfterParents}
 use Rattle.reading_rules.specs.Schema.{isUnder}
 use Rattle.definition_rules.specs.Finite.{canDoWithout, endsNeeds, structStep, unionStep, finiteStep}
 use Rattle.table_records.specs.Stored.{recordIn, recordsFrom, recordsAt}
 use Rattle.table_records.proofs.Laws.{length-records, record-at, records-more, records-end, records-all}
-use Rattle.table_checks.specs.Sweeps.{stepBy, bodyOver, stepWith, gathered, Over, Empty}
+use Rattle.table_checks.specs.Sweeps.{stepBy, bodyOver, stepWith, gathered, Over, NoneMarked}
 
 -- ---- a place that is written
 
@@ -28,7 +28,7 @@ module _ (s : List Bool) (i : ℕ) (b : Bool) (h : i < length s) where
       go true z = rw (eqb-true k i z, getD-set-same s i b false h) here
       go false z = let q = eqb-false k i z in rw (getD-set-other s i k b false q) (below k (omega arith))
 
-pub clear-end : (have : List Bool) (i : ℕ) → ((k : ℕ) → k < i → getD have k false ≡ false) → length have ≤ i → Empty have
+pub clear-end : (have : List Bool) (i : ℕ) → ((k : ℕ) → k < i → getD have k false ≡ false) → length have ≤ i → NoneMarked have
 clear-end have i below h k = go (ltb k i) refl
   where
     go : (b : Bool) → ltb k i ≡ b → getD have k false ≡ false
@@ -121,12 +121,12 @@ step-of true b s u x = refl
 step-of false true s u x = refl
 step-of false false s u x = refl
 
-module _ (t unpacked : List ℕ) (n : ℕ) (w : Nested (recordsAt t unpacked n)) where
+module _ (t unpacked : List ℕ) (n : ℕ) (w : AfterParents (recordsAt t unpacked n)) where
   abbrev rs : List Record
   rs = recordsAt t unpacked n
 
   above : (m : ℕ) → m < n → Before m (recordIn t unpacked m .parent)
-  unfolding Nested
+  unfolding AfterParents
   above m h = subst (λ q. Before m (q .parent)) (record-at t unpacked n m h) (w m (rw (length-records t unpacked n 0) h))
 
   skipped : (have : List Bool) (j : ℕ) (r : Record) → j < n → (m : ℕ) → m ≤ j + 1 → bodyOver have j r 0 rs ≡ bodyOver have j r m (recordsFrom t unpacked (n - m) m)

@@ -9,7 +9,7 @@ use lib.Dec.{eqb, ltb}
 use lib.ListN.{length, getD}
 use borrow.Author.Tests.{ne-eqb, ltb-true, ltb-false}
 use Rattle.classes.specs.Lists.{pick}
-use Rattle.reading_rules.specs.Record.{Record, recordAt, Before, Nested}
+use Rattle.reading_rules.specs.Record.{Record, recordAt, Before, AfterParents}
 use Rattle.reading_rules.specs.Schema.{isUnder}
 use Rattle.reading_rules.proofs.CountLaws.{clash-bool}
 use Rattle.definition_rules.specs.Finite.{canDoWithout, endsNeeds, structStep, finiteStep, finites}
@@ -40,10 +40,10 @@ unfolding pick
 step-by true b c s u t e f g = e
 step-by false b c s u t e f g = rw (f, g)
 
-module _ (rs : List Record) (w : Nested rs) (s : (k : ℕ) → k < length rs → recordAt rs k .kind < 9) where
+module _ (rs : List Record) (w : AfterParents rs) (s : (k : ℕ) → k < length rs → recordAt rs k .kind < 9) where
   -- the step of any record, where those after it have a value
   step-has : (j : ℕ) → j < length rs → ((k : ℕ) → j < k → k < length rs → getD (finites rs) k false ≡ true) → finiteStep rs (finites rs) j (recordAt rs j) ≡ true
-  unfolding finiteStep Nested
+  unfolding finiteStep AfterParents
   step-has j h f =
       let l = s j h in
       step-by (eqb (recordAt rs j .kind) 8) (eqb (recordAt rs j .kind) 9) (eqb (recordAt rs j .kind) 10) _ _ _
@@ -63,7 +63,7 @@ module _ (rs : List Record) (w : Nested rs) (s : (k : ℕ) → k < length rs →
   structs-finite j h = from-last (length rs) j (omega arith) h
 
 -- the same, over the records as they are kept
-pub kept-finite : (t unpacked : List ℕ) (n : ℕ) → Nested (recordsAt t unpacked n) → ((k : ℕ) → k < n → recordIn t unpacked k .kind < 9) → AllFinite (recordsAt t unpacked n)
+pub kept-finite : (t unpacked : List ℕ) (n : ℕ) → AfterParents (recordsAt t unpacked n) → ((k : ℕ) → k < n → recordIn t unpacked k .kind < 9) → AllFinite (recordsAt t unpacked n)
 kept-finite t unpacked n w s =
     structs-finite (recordsAt t unpacked n) w (λ k h.
     let m : k < n = rw (length-records t unpacked n 0) at h in

@@ -11,14 +11,14 @@ use lib.Seq.{getD-set-same, getD-set-other}
 use borrow.Author.Tests.{eqb-true, eqb-false, ltb-true, ltb-false}
 use Rattle.classes.proofs.Rows.{no-mark}
 use Rattle.classes.specs.Lists.{pick}
-use Rattle.reading_rules.specs.Record.{Record, recordAt, blank, Nested}
+use Rattle.reading_rules.specs.Record.{Record, recordAt, blank, AfterParents}
 use Rattle.reading_rules.proofs.CountLaws.{clash-bool}
 use Rattle.definition_rules.specs.Finite.{finiteStep, round, rounds, finites}
 use mathlib.Core.Logic.{_⊎_, inl, inr}
 use Rattle.definition_rules.proofs.FiniteLaws.{sub-at, step-grows, finites-closed}
 use Rattle.table_records.specs.Stored.{recordIn, recordsAt}
 use Rattle.table_records.proofs.Laws.{length-records}
-use Rattle.table_checks.specs.Sweeps.{stepBy, isNewlyFinite, addIf, gathered, Over, isAdded, added, swept, sweepAdds, Swept, Empty, HasFinites}
+use Rattle.table_checks.specs.Sweeps.{stepBy, isNewlyFinite, addIf, gathered, Over, isAdded, added, swept, sweepAdds, Swept, NoneMarked, HasFinites}
 use Rattle.table_checks.proofs.Bodies.{over-more, over-marks, step-is}
 
 -- ---- sets of parameters
@@ -193,7 +193,7 @@ module _ (rs : List Record) where
     pub within : In have (finites rs)
     pub ahead : In (rounds k rs none) have
 
-  pub going-start : (have : List Bool) → length rs ≤ length have → Empty have → Going 0 have
+  pub going-start : (have : List Bool) → length rs ≤ length have → NoneMarked have → Going 0 have
   unfolding rounds
   going-start have r e = record {
     room = r;
@@ -229,7 +229,7 @@ unfolding addIf pick
 new-off true have i m h = sym (getD-set-other have i m true false (λ e. absurd (omega arith)))
 new-off false have i m h = refl
 
-module _ (t unpacked : List ℕ) (n : ℕ) (w : Nested (recordsAt t unpacked n)) (have₀ : List Bool) where
+module _ (t unpacked : List ℕ) (n : ℕ) (w : AfterParents (recordsAt t unpacked n)) (have₀ : List Bool) where
   abbrev all : List Record
   all = recordsAt t unpacked n
 

@@ -73,8 +73,8 @@ pub record Swept (rs : List Record) (before after : List Bool) (more : Bool) : T
   pub marks : after ≡ swept rs (length rs) before
   pub adds : more ≡ sweepAdds rs (length rs) before
 
-abbrev pub Empty : List Bool → Type 0
-Empty have = (i : ℕ) → getD have i false ≡ false
+abbrev pub NoneMarked : List Bool → Type 0
+NoneMarked have = (i : ℕ) → getD have i false ≡ false
 
 -- what is kept is number 10's outcome
 abbrev pub HasFinites : List Record → List Bool → Type 0

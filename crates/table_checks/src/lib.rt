@@ -5,12 +5,12 @@ ghost use mathlib.Core.Bool.{Bool, true, false};
 ghost use mathlib.Core.List.{List};
 ghost use Prim.Native.Nat.{_≤_};
 ghost use lib.ListN.{length, getD};
-ghost use Rattle.reading_rules.specs.Record.{isTop, Nested};
+ghost use Rattle.reading_rules.specs.Record.{isTop, AfterParents};
 ghost use Rattle.definition_rules.specs.Finite.{canDoWithout, endsNeeds, isEndless};
 ghost use Rattle.definition_rules.specs.Faults.{voidMany, anyBefore, parentKind, beside as isBeside, misplacedField, misplacedAlternative, misplacedUntagged, numberTag, voidTop, pluginUndotted, rule7Broken, rootNoStruct};
 ghost use Rattle.table_records.specs.Stored.{recordIn, recordsAt};
 ghost use Rattle.table_checks.specs.Besides.{isSuch};
-ghost use Rattle.table_checks.specs.Sweeps.{stepBy, isNewlyFinite, addIf, stepWith, gathered, Over, Swept, Empty, HasFinites, AllFinite};
+ghost use Rattle.table_checks.specs.Sweeps.{stepBy, isNewlyFinite, addIf, stepWith, gathered, Over, Swept, NoneMarked, HasFinites, AllFinite};
 
 // What is asked of the other records of a body, or of the other tops.
 enum Such {
@@ -294,7 +294,7 @@ fn join(table: &[u8], unpacked: &[u32], have: &[bool], rest: &mut [bool], i: usi
 // rest has the whole body when its record is met.
 fn sweep(table: &[u8], unpacked: &[u32], n: usize, have: &mut [bool], rest: &mut [bool]) -> bool
     requires { ⌜ n ≤ length (now rest) ⌝ }
-    ensures { λ r. ⌜ (Nested (recordsAt (now (table .entry)) (now (unpacked .entry)) n) → Swept (recordsAt (now (table .entry)) (now (unpacked .entry)) n) (now (have .entry)) (now (have .exit)) r) ⌝ }
+    ensures { λ r. ⌜ (AfterParents (recordsAt (now (table .entry)) (now (unpacked .entry)) n) → Swept (recordsAt (now (table .entry)) (now (unpacked .entry)) n) (now (have .entry)) (now (have .exit)) r) ⌝ }
 {
     begin(table, unpacked, n, rest);
     let mut more = false;
@@ -308,7 +308,7 @@ fn sweep(table: &[u8], unpacked: &[u32], n: usize, have: &mut [bool], rest: &mut
 }
 
 fn clear(have: &mut [bool])
-    ensures { λ _. ⌜ Empty (now (have .exit)) ⌝ }
+    ensures { λ _. ⌜ NoneMarked (now (have .exit)) ⌝ }
 {
     let mut i: usize = 0;
     while i < have.len() {
@@ -319,7 +319,7 @@ fn clear(have: &mut [bool])
 
 // Which records have a finite value, if there is room for all: sweeps in place until nothing changes, or as many as records.
 pub fn finites(table: &[u8], unpacked: &[u32], n: usize, have: &mut [bool], rest: &mut [bool])
-    ensures { λ _. ⌜ (Nested (recordsAt (now (table .entry)) (now (unpacked .entry)) n) → n ≤ length (now (have .entry)) → n ≤ length (now (rest .entry)) → HasFinites (recordsAt (now (table .entry)) (now (unpacked .entry)) n) (now (have .exit))) ⌝ }
+    ensures { λ _. ⌜ (AfterParents (recordsAt (now (table .entry)) (now (unpacked .entry)) n) → n ≤ length (now (have .entry)) → n ≤ length (now (rest .entry)) → HasFinites (recordsAt (now (table .entry)) (now (unpacked .entry)) n) (now (have .exit))) ⌝ }
 {
     if have.len() < n {
         return;
@@ -347,7 +347,7 @@ pub fn is_endless(table: &[u8], unpacked: &[u32], have: &[bool], i: usize) -> bo
 
 // No record is a union or a reference, so that each has a finite value: the records of a struct's body stand after it.
 pub fn only_structs(table: &[u8], unpacked: &[u32], n: usize) -> bool
-    ensures { λ r. ⌜ (Nested (recordsAt (now (table .entry)) (now (unpacked .entry)) n) → r ≡ true → AllFinite (recordsAt (now (table .entry)) (now (unpacked .entry)) n)) ⌝ }
+    ensures { λ r. ⌜ (AfterParents (recordsAt (now (table .entry)) (now (unpacked .entry)) n) → r ≡ true → AllFinite (recordsAt (now (table .entry)) (now (unpacked .entry)) n)) ⌝ }
 {
     let mut i: usize = 0;
     while i < n {

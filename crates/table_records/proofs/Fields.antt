@@ -6,8 +6,8 @@ use Prim.Native.Nat.{ℕ, suc, _+_, _-_, _*_, _≤_, _<_}
 use native.Mathlib.Omega.{arith}
 use borrow.Author.Tests.{lt-ltb, le-ltb, lt-leb}
 use lib.Dec.{eqb}
-use lib.ListN.{length, getD, set, take, drop, length-set, length-take, length-drop, drop-of-length-le, List·getD-append}
-use lib.Seq.{take-all, take-nil, sets, sets-eq, length-sets, getD-set-other, getD-append-add}
+use lib.ListN.{length, getD, set, take, drop, length-set, length-take, List·getD-append}
+use lib.Seq.{sets, sets-eq, length-sets, getD-set-other, getD-append-add}
 use Rattle.classes.specs.Lists.{pick}
 use Rattle.numbers.specs.Limits.{none16, parameterLimit}
 use Rattle.numbers.specs.LittleEndian.{le16, leInt}
@@ -28,23 +28,6 @@ is-under p x = go (eqb x none16)
 -- the same, of the number that the code read
 pub under-number : (p x n : ℕ) → x ≡ n → not (eqb x none16) && eqb x p ≡ isUnder p (numberUp n)
 under-number p x n e = rw (← e) (sym (is-under p x))
-
--- ---- a part of the table
-
-module _ (s : List ℕ) (at n : ℕ) where
-  pub part-none : length s ≤ at → [] ≡ take n (drop at s)
-  part-none h = rw (drop-of-length-le s h) (sym (take-nil n))
-
-  pub part-rest : length s - at < n → take (length s - at) (drop at s) ≡ take n (drop at s)
-  part-rest h =
-      take-all (length s - at) (drop at s) (rw length-drop (omega arith)) ∙
-      sym (take-all n (drop at s) (rw length-drop (omega arith)))
-
-  pub part-whole : take (at + n - at) (drop at s) ≡ take n (drop at s)
-  part-whole = ap (λ (m : ℕ). take m (drop at s)) e
-    where
-      e : at + n - at ≡ n
-      e = omega arith
 
 -- ---- cells
 

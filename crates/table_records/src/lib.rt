@@ -3,7 +3,7 @@
 // limit, they count as 0.
 ghost use mathlib.Core.Path.{_≡_};
 ghost use Prim.Native.Nat.{_+_, _*_, _≤_, _<_};
-ghost use lib.ListN.{length, take, drop};
+ghost use lib.ListN.{length};
 ghost use Rattle.numbers.specs.Limits.{parameterLimit};
 ghost use Rattle.numbers.specs.LittleEndian.{le16, leInt};
 ghost use Rattle.reading_rules.specs.Schema.{isUnder};
@@ -59,19 +59,12 @@ fn cell(unpacked: &[u32], i: usize, k: u8) -> u32
     0
 }
 
-// A byte as a u32.
-fn wide8(b: u8) -> u32
-    ensures { λ r. ⌜ (r ≡ b) × (r < 256) ⌝ }
-{
-    b as u32
-}
-
 // The number in two bytes that are there.
 fn pair(table: &[u8], at: usize) -> u32
     requires { ⌜ at + 2 ≤ length (now table) ⌝ }
     ensures { λ r. ⌜ (r ≡ le16 (now (table .entry)) at) × (r < 65536) ⌝ }
 {
-    wide8(table[at]) + 256 * wide8(table[at + 1])
+    numbers::u8_as_u32(table[at]) + 256 * numbers::u8_as_u32(table[at + 1])
 }
 
 // The i32 in four bytes that are there, counted from the least.
@@ -102,7 +95,7 @@ pub fn unpack(table: &[u8], at: u32, unpacked: &mut [u32], i: usize)
     requires { ⌜ at + 24 ≤ length (now table) ⌝ }
     ensures { λ _. ⌜ (i < parameterLimit → headCells + recordCells * (i + 1) ≤ length (now (unpacked .entry)) → Unpacked (now (table .entry)) at (now (unpacked .entry)) i (now (unpacked .exit))) ⌝ }
 {
-    let from = numbers::wide(at);
+    let from = numbers::u32_as_usize(at);
     keep(unpacked, i, BYTES, at);
     keep(unpacked, i, KIND, pair(table, from + numbers::KIND_AT));
     keep(unpacked, i, PARENT, pair(table, from + numbers::PARENT_AT));
@@ -134,7 +127,7 @@ pub fn unpack(table: &[u8], at: u32, unpacked: &mut [u32], i: usize)
 pub fn link_at(unpacked: &[u32], i: usize) -> usize
     ensures { λ r. ⌜ r ≡ cellIn (now (unpacked .entry)) i 10 ⌝ }
 {
-    numbers::wide(cell(unpacked, i, LINK))
+    numbers::u32_as_usize(cell(unpacked, i, LINK))
 }
 
 pub fn set_link(unpacked: &mut [u32], i: usize, x: u32)
@@ -154,14 +147,14 @@ pub fn kind_at(table: &[u8], unpacked: &[u32], i: usize) -> u32
 pub fn parent_at(table: &[u8], unpacked: &[u32], i: usize) -> usize
     ensures { λ r. ⌜ r ≡ upNumber (recordIn (now (table .entry)) (now (unpacked .entry)) i .parent) ⌝ }
 {
-    numbers::wide(cell(unpacked, i, PARENT))
+    numbers::u32_as_usize(cell(unpacked, i, PARENT))
 }
 
 // The record stands in the body of p.
 pub fn is_under(table: &[u8], unpacked: &[u32], i: usize, p: usize) -> bool
     ensures { λ r. ⌜ r ≡ isUnder p (recordIn (now (table .entry)) (now (unpacked .entry)) i .parent) ⌝ }
 {
-    let up = numbers::wide(cell(unpacked, i, PARENT));
+    let up = numbers::u32_as_usize(cell(unpacked, i, PARENT));
     (up != numbers::NONE16) & (up == p)
 }
 
@@ -193,13 +186,13 @@ pub fn plugin_at(table: &[u8], unpacked: &[u32], i: usize) -> bool
 pub fn lo_count_at(table: &[u8], unpacked: &[u32], i: usize) -> usize
     ensures { λ r. ⌜ r ≡ recordIn (now (table .entry)) (now (unpacked .entry)) i .loCount ⌝ }
 {
-    numbers::wide(cell(unpacked, i, LO_COUNT))
+    numbers::u32_as_usize(cell(unpacked, i, LO_COUNT))
 }
 
 pub fn hi_count_at(table: &[u8], unpacked: &[u32], i: usize) -> usize
     ensures { λ r. ⌜ r ≡ recordIn (now (table .entry)) (now (unpacked .entry)) i .hiCount ⌝ }
 {
-    numbers::wide(cell(unpacked, i, HI_COUNT))
+    numbers::u32_as_usize(cell(unpacked, i, HI_COUNT))
 }
 
 pub fn least_at(table: &[u8], unpacked: &[u32], i: usize) -> u32
@@ -217,31 +210,14 @@ pub fn most_at(table: &[u8], unpacked: &[u32], i: usize) -> u32
 pub fn target_at(table: &[u8], unpacked: &[u32], i: usize) -> usize
     ensures { λ r. ⌜ r ≡ recordIn (now (table .entry)) (now (unpacked .entry)) i .target ⌝ }
 {
-    numbers::wide(cell(unpacked, i, TARGET))
-}
-
-// Up to n bytes from a place on.
-fn part<'a>(s: &'a [u8], at: usize, n: usize) -> &'a [u8]
-    ensures { λ r. ⌜ now r ≡ take n (drop at (now (s .entry))) ⌝ }
-{
-    if s.len() <= at {
-        return &s[..0];
-    }
-    if s.len() - at < n {
-        return &s[at..];
-    }
-    let end = at + n;
-    &s[at..end]
+    numbers::u32_as_usize(cell(unpacked, i, TARGET))
 }
 
 // The wire tag, or the name where untagged or top.
 pub fn label_at<'a>(table: &'a [u8], unpacked: &[u32], i: usize) -> &'a [u8]
     ensures { λ r. ⌜ now r ≡ recordIn (now (table .entry)) (now (unpacked .entry)) i .label ⌝ }
 {
-    let n = numbers::wide(cell(unpacked, i, LABEL_LENGTH));
-    part(
-        table,
-        numbers::wide(cell(unpacked, i, BYTES)) + numbers::RECORD_HEADER,
-        n,
-    )
+    let n = numbers::u32_as_usize(cell(unpacked, i, LABEL_LENGTH));
+    let from = numbers::u32_as_usize(cell(unpacked, i, BYTES)) + numbers::RECORD_HEADER;
+    classes::part(table, from, from + n)
 }

@@ -18,7 +18,7 @@ use Rattle.numbers.specs.Decimal.{numberOf, isNatural}
 use Rattle.numbers.specs.Range.{numberWhen, readCount, cutRange, onSides, lowOf, highOf, bothRead, readUpper, readCountRange, MaybeNumber, unread, number, Sides, uncut, sides, MaybeRange, noRange, range}
 use Rattle.definition_rules.specs.Scan.{itemsOf, textTokensOf, badPlaces, deepPlaces, Item}
 use Rattle.definition_rules.specs.Forms.{typeRun, RangeAllowed, HeadAllowed, MaybeRun, absent, given, Tag, ownName, tagless, explicit, Heading, heading, parameter, tops, Form, plain, compound, lastTop, moreTops, topLevel}
-use Rattle.reading_rules.specs.Record.{Up, top, under, Record, isTop, sameUp, recordAt, Before, Nested}
+use Rattle.reading_rules.specs.Record.{Up, top, under, Record, isTop, sameUp, recordAt, Before, AfterParents}
 use Rattle.definition_rules.specs.Declarations.{declare, treeDeclarations, parentOf, parseTokens, declarationsOf, Declaration, declaration, Noted, noted, inFields, groupOpened, inGroup, groupsClosed, Frame, frame, Outcome, stuckAt, complete, Spots}
 use Rattle.definition_rules.specs.Finite.{finites, isEndless}
 use Rattle.definition_rules.specs.Table.{upNumber, encode, decode, Maybe, none, just, Storable}
@@ -348,9 +348,9 @@ before-from σ k (r ∷ rs) d o (suc i) h =
     let z : suc k + i ≡ k + suc i = omega arith in
     subst (λ (j : ℕ). Before j (recordAt rs i .parent)) z (before-from _ (suc k) rs (desc-push k (kindIsCompound (r .kind)) _ (desc-extension k (r .extension) _ (desc-closed k (r .parent) σ d))) (both-true (standsIn (closedTo (r .parent) σ) r) _ o .1) i (omega arith))
 
-pub ordered-nested : (rs : List Record) → ordered [] 0 rs ≡ true → Nested rs
-unfolding Nested
-ordered-nested rs o i h =
+pub ordered-after-parents : (rs : List Record) → ordered [] 0 rs ≡ true → AfterParents rs
+unfolding AfterParents
+ordered-after-parents rs o i h =
     let z : 0 + i ≡ i = omega arith in
     subst (λ (j : ℕ). Before j (recordAt rs i .parent)) z (before-from [] 0 rs (unfold Desc in tt) o i h)
 

@@ -20,12 +20,6 @@ const LISTS: usize = table_records::HEADS;
 
 // ---- the lists
 
-fn wide(b: u8) -> usize
-    ensures { λ r. ⌜ (r ≡ b) × (r < 256) ⌝ }
-{
-    b as usize
-}
-
 // The number of the list for a label in the body of p, by p and the label's length and last bytes.
 fn key(p: usize, word: &[u8]) -> usize
     ensures { λ r. ⌜ r ≡ listKey p (now (word .entry)) ⌝ }
@@ -35,9 +29,13 @@ fn key(p: usize, word: &[u8]) -> usize
         return p % LISTS;
     }
     if n < 3 {
-        return (p % LISTS + n + wide(word[n - 1])) % LISTS;
+        return (p % LISTS + n + numbers::u8_as_usize(word[n - 1])) % LISTS;
     }
-    (p % LISTS + n % LISTS + wide(word[n - 1]) + 10 * wide(word[n - 2]) + 100 * wide(word[n - 3]))
+    (p % LISTS
+        + n % LISTS
+        + numbers::u8_as_usize(word[n - 1])
+        + 10 * numbers::u8_as_usize(word[n - 2])
+        + 100 * numbers::u8_as_usize(word[n - 3]))
         % LISTS
 }
 
@@ -102,7 +100,7 @@ fn is_tagged_as(table: &[u8], unpacked: &[u32], p: usize, word: &[u8], i: usize)
 pub fn find(table: &[u8], unpacked: &[u32], n: usize, p: usize, word: &[u8]) -> Found
     ensures { λ r. ⌜ foundOf r ≡ searched (now (table .entry)) (now (unpacked .entry)) n p (now (word .entry)) ⌝ }
 {
-    let mut at = numbers::wide(numbers::cell_at(unpacked, key(p, word)));
+    let mut at = numbers::u32_as_usize(numbers::cell_at(unpacked, key(p, word)));
     let mut left = n;
     while 0 < left {
         if at == 0 {

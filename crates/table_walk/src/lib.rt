@@ -13,12 +13,6 @@ pub enum Walk {
 // One past the flags that a record may have.
 const FLAGS_END: u16 = numbers::FLAGS_END as u16;
 
-fn wide(n: u16) -> usize
-    ensures { λ r. ⌜ (r ≡ n) × (r < 65536) ⌝ }
-{
-    n as usize
-}
-
 // The length of the whole record that begins at a place; 0 where none does.
 fn length_at(table: &[u8], at: usize) -> usize
     ensures { λ r. ⌜ (r ≡ lengthAt (now (table .entry)) at) × (r < 65536) ⌝ }
@@ -30,9 +24,10 @@ fn length_at(table: &[u8], at: usize) -> usize
     if left < numbers::RECORD_HEADER {
         return 0;
     }
-    let size = wide(numbers::u16_at(table, at));
+    let size = numbers::u16_as_usize(numbers::u16_at(table, at));
     if size
-        != numbers::RECORD_HEADER + wide(numbers::u16_at(table, at + numbers::LABEL_LENGTH_AT))
+        != numbers::RECORD_HEADER
+            + numbers::u16_as_usize(numbers::u16_at(table, at + numbers::LABEL_LENGTH_AT))
     {
         return 0;
     }

@@ -66,7 +66,7 @@ fn line(
     at: usize,
 ) -> usize {
     let kind = head.kind;
-    let room = text::size(head.room);
+    let room = numbers::u32_as_usize(head.room);
     let a = test_frames::first_of(frame, head);
     let b = test_frames::second_of(frame, head);
     match kind {
@@ -137,7 +137,7 @@ fn pass(input: &mut [u8], count: usize) -> bool {
 
 // Passes over a frame that is too long.
 fn pass_frame(input: &mut [u8], out: &mut [u8], s: State, length: usize) -> State {
-    let there = text::part(input, s.from, s.to).len();
+    let there = classes::part(input, s.from, s.to).len();
     if length <= there {
         return State {
             from: text::sum(s.from, length),
@@ -165,7 +165,7 @@ fn turn(
     out: &mut [u8],
     s: State,
 ) -> State {
-    let frame = text::part(input, s.from, s.to);
+    let frame = classes::part(input, s.from, s.to);
     match test_frames::next(frame) {
         Front::Part => refill(input, out, s),
         Front::Long(length) => pass_frame(input, out, s, length),
@@ -183,7 +183,7 @@ fn flushed(out: &[u8], s: State) -> State {
     if s.on && s.at < MANY {
         return s;
     }
-    let is_written = io::write_all(STDOUT_FILENO, text::part(out, 0, s.at));
+    let is_written = io::write_all(STDOUT_FILENO, classes::part(out, 0, s.at));
     State {
         from: s.from,
         to: s.to,

@@ -9,14 +9,15 @@ use native.Mathlib.Omega.{arith}
 use lib.ListN.{length, take, drop, drop-of-length-le}
 use lib.Seq.{take-all}
 use Rattle.test_frames.specs.Lent.{keptFrom}
-use Rattle.text.specs.Text.{partOf, Wrote, each, hexByte, spaced}
+use Rattle.classes.specs.Lists.{part}
+use Rattle.text.specs.Text.{Wrote, each, hexByte, spaced}
 use Rattle.test_frames.specs.Lines.{keptText, okText, refusedText, tableLine, rowsLine, refusedLine, bytesLine}
 
 module _ {o o₁ : List ℕ} {at r : ℕ} where
-  pub table-line : (n : ℕ) (lent part : List ℕ) (kept : Bool) → part ≡ partOf lent 0 n → kept ≡ keptFrom 0xA5 lent n
-      → Wrote (okText ++ spaced n ++ (32 ∷ []) ++ each hexByte part ++ keptText kept) o at o₁ r → Wrote (tableLine n lent) o at o₁ r
+  pub table-line : (n : ℕ) (lent taken : List ℕ) (kept : Bool) → taken ≡ part lent 0 n → kept ≡ keptFrom 0xA5 lent n
+      → Wrote (okText ++ spaced n ++ (32 ∷ []) ++ each hexByte taken ++ keptText kept) o at o₁ r → Wrote (tableLine n lent) o at o₁ r
   unfolding tableLine
-  table-line n lent part kept p k u = rw (p, sub-zero, k) at u
+  table-line n lent taken kept p k u = rw (p, sub-zero, k) at u
 
   pub refused-line : (before number place : ℕ) (lent : List ℕ) (kept : Bool) → kept ≡ keptFrom before lent 0
       → Wrote (refusedText number place ++ keptText kept) o at o₁ r → Wrote (refusedLine before number place lent) o at o₁ r

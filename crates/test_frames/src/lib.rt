@@ -7,7 +7,8 @@ ghost use lib.ListN.{length, replicate};
 ghost use lib.Seq.{sets};
 ghost use Rattle.test_frames.specs.Frame.{frameHead, lengthOf, frontBy};
 ghost use Rattle.test_frames.specs.Lent.{keptFrom, Words};
-ghost use Rattle.text.specs.Text.{partOf, Wrote, each, spaced};
+ghost use Rattle.classes.specs.Lists.{part};
+ghost use Rattle.text.specs.Text.{Wrote, each, spaced};
 ghost use Rattle.test_frames.specs.Lines.{keptText, refusedText, tableLine, rowsLine, refusedLine, yesLine, bytesLine};
 
 // The bytes of a frame's head.
@@ -53,15 +54,15 @@ fn head_of(s: &[u8]) -> Head
 pub fn length_of(h: Head) -> usize
     ensures { λ r. ⌜ r ≡ lengthOf h ⌝ }
 {
-    HEAD_BYTES + text::size(h.a) + text::size(h.b)
+    HEAD_BYTES + numbers::u32_as_usize(h.a) + numbers::u32_as_usize(h.b)
 }
 
 fn largest(h: Head) -> usize
     ensures { λ r. ⌜ r ≡ max (h .room) (max (h .a) (h .b)) ⌝ }
 {
     text::most(
-        text::size(h.room),
-        text::most(text::size(h.a), text::size(h.b)),
+        numbers::u32_as_usize(h.room),
+        text::most(numbers::u32_as_usize(h.a), numbers::u32_as_usize(h.b)),
     )
 }
 
@@ -84,10 +85,10 @@ pub fn next(s: &[u8]) -> Front
 
 // Moves the bytes from a place to a place to the front; answers how many they are.
 pub fn to_front(d: &mut [u8], from: usize, to: usize) -> usize
-    ensures { λ r. ⌜ r ≡ length (partOf (now (d .entry)) from to) ⌝ }
-    ensures { λ r. ⌜ now (d .exit) ≡ sets (now (d .entry)) 0 (partOf (now (d .entry)) from to) ⌝ }
+    ensures { λ r. ⌜ r ≡ length (part (now (d .entry)) from to) ⌝ }
+    ensures { λ r. ⌜ now (d .exit) ≡ sets (now (d .entry)) 0 (part (now (d .entry)) from to) ⌝ }
 {
-    let n = text::part(d, from, to).len();
+    let n = classes::part(d, from, to).len();
     let mut i = 0;
     while i < n {
         d[i] = d[from + i];
@@ -98,16 +99,16 @@ pub fn to_front(d: &mut [u8], from: usize, to: usize) -> usize
 
 // A frame's a bytes.
 pub fn first_of(s: &[u8], h: Head) -> &[u8]
-    ensures { λ r. ⌜ now r ≡ partOf (now (s .entry)) 13 (13 + h .a) ⌝ }
+    ensures { λ r. ⌜ now r ≡ part (now (s .entry)) 13 (13 + h .a) ⌝ }
 {
-    text::part(s, HEAD_BYTES, HEAD_BYTES + text::size(h.a))
+    classes::part(s, HEAD_BYTES, HEAD_BYTES + numbers::u32_as_usize(h.a))
 }
 
 // A frame's b bytes.
 pub fn second_of(s: &[u8], h: Head) -> &[u8]
-    ensures { λ r. ⌜ now r ≡ partOf (now (s .entry)) (13 + h .a) (lengthOf h) ⌝ }
+    ensures { λ r. ⌜ now r ≡ part (now (s .entry)) (13 + h .a) (lengthOf h) ⌝ }
 {
-    text::part(s, HEAD_BYTES + text::size(h.a), length_of(h))
+    classes::part(s, HEAD_BYTES + numbers::u32_as_usize(h.a), length_of(h))
 }
 
 // ---- what is lent
@@ -212,7 +213,7 @@ pub fn put_table(out: &mut [u8], at: usize, length: usize, lent: &[u8]) -> usize
     let o = text::put_text(out, at, b"ok");
     let o = text::put_number(out, o, length as u64);
     let o = text::put_byte(out, o, b' ');
-    let o = text::put_hex(out, o, text::part(lent, 0, length));
+    let o = text::put_hex(out, o, classes::part(lent, 0, length));
     put_kept(out, o, bytes_kept(lent, length))
 }
 

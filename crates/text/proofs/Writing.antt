@@ -9,8 +9,7 @@ use lib.ListN.{length, getD, take, set, length-append}
 use lib.Seq.{sets, length-sets, take-all, take-suc, set-out}
 use Rattle.io.specs.Digits.{glyph}
 use Rattle.text.specs.Text.{Wrote, each, hexByte}
-use Rattle.classes.proofs.Stores.{sets-append}
-use Rattle.text.proofs.Parts.{sets-out}
+use Rattle.classes.proofs.Stores.{sets-out, sets-append}
 
 pub nothing : (o : List ℕ) (at : ℕ) → Wrote [] o at o at
 nothing o at = record { bytes = refl; place = omega arith }

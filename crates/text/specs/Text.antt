@@ -1,16 +1,12 @@
--- Text that is written into a row of bytes at a place, and parts of a row.
+-- Text that is written into a row of bytes at a place.
 use mathlib.Core.Bool.{cond}
 use mathlib.Core.List.{List, [], _∷_, _++_}
 use mathlib.Core.Path.{_≡_}
-use Prim.Native.Nat.{ℕ, zero, suc, _+_, _-_, _/_, _%_, _^_, min, max}
+use Prim.Native.Nat.{ℕ, zero, suc, _+_, _/_, _%_, _^_, min, max}
 use lib.Dec.{ltb}
-use lib.ListN.{length, take, drop}
+use lib.ListN.{length}
 use lib.Seq.{sets}
 use Rattle.io.specs.Digits.{glyph, digits}
-
--- the bytes from a place to a place, as far as they are there
-abbrev pub partOf : List ℕ → ℕ → ℕ → List ℕ
-partOf s from to = take (to - from) (drop from s)
 
 -- what lies past the end is dropped; the next place is behind the text, or the end
 pub record Wrote (text before : List ℕ) (at : ℕ) (after : List ℕ) (next : ℕ) : Type 0 where

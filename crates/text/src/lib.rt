@@ -3,16 +3,9 @@ ghost use mathlib.Core.Path.{_≡_};
 ghost use mathlib.Core.List.{[], _∷_};
 ghost use Prim.Native.Nat.{_+_, _<_, _^_, _-_, min, max};
 ghost use Rattle.io.specs.Digits.{glyph};
-ghost use Rattle.text.specs.Text.{partOf, Wrote, each, hexByte, decimal, spaced};
+ghost use Rattle.text.specs.Text.{Wrote, each, hexByte, decimal, spaced};
 
-// ---- numbers and parts
-
-// A u32 as a size.
-pub fn size(n: u32) -> usize
-    ensures { λ r. ⌜ (r ≡ n) × (r < 2 ^ 32) ⌝ }
-{
-    n as usize
-}
+// ---- numbers
 
 // The larger one.
 pub fn most(a: usize, b: usize) -> usize
@@ -42,23 +35,6 @@ pub fn sum(a: usize, b: usize) -> usize
         return usize::MAX;
     }
     a + b
-}
-
-// The bytes from a place to a place, as far as they are there.
-pub fn part(s: &[u8], from: usize, to: usize) -> &[u8]
-    ensures { λ r. ⌜ now r ≡ partOf (now (s .entry)) from to ⌝ }
-{
-    let n = s.len();
-    if n < to {
-        if from <= n {
-            return &s[from..n];
-        }
-        return &s[0..0];
-    }
-    if from <= to {
-        return &s[from..to];
-    }
-    &s[0..0]
 }
 
 // ---- writing

@@ -15,14 +15,14 @@ loop-holds c = search needs
 row-number-requires : tie.Need-row-number-requires Inv-loop μ-loop
 row-number-requires c κs = search needs
 
-size-requires : tie.Need-size-requires Inv-loop μ-loop
-size-requires c κs = search needs
+u32-as-usize-requires : tie.Need-u32-as-usize-requires Inv-loop μ-loop
+u32-as-usize-requires c κs = search needs
 
 row-number-requires-2 : tie.Need-row-number-requires-2 Inv-loop μ-loop
 row-number-requires-2 c κs = search needs
 
-size-requires-2 : tie.Need-size-requires-2 Inv-loop μ-loop
-size-requires-2 c κs = search needs
+u32-as-usize-requires-2 : tie.Need-u32-as-usize-requires-2 Inv-loop μ-loop
+u32-as-usize-requires-2 c κs = search needs
 
 returns : tie.Need-returns Inv-loop μ-loop
 returns c = search needs
@@ -47,9 +47,9 @@ is-given-spec =
     μ-loop
     loop-holds
     row-number-requires
-    size-requires
+    u32-as-usize-requires
     row-number-requires-2
-    size-requires-2
+    u32-as-usize-requires-2
     returns
     add-row
     loop-less

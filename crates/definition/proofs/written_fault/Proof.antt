@@ -1,6 +1,6 @@
 use native.Mathlib.Omega.{arith}
 use mathlib.Core.Path.{sym, ap, subst, _∙_}
-use Rattle.reading_rules.specs.Record.{Nested}
+use Rattle.reading_rules.specs.Record.{AfterParents}
 use Rattle.definition_rules.specs.Compile.{firstFault}
 use Rattle.definition_cells.specs.Cells.{notedFrom}
 use Rattle.definition.specs.Answers.{checks7to10}
@@ -38,7 +38,7 @@ enum-told-2 : tie.Need-enum-told-2
 enum-told-2 c = search needs
 
 returns : tie.Need-returns
-returns c = λ rs d l w. c .record-fault .ensures (subst Nested (sym (links-records (c .before .before .before .before .before .before .before .before .before .before .before .before .before .before .args .table .now) _ _ _ (c .before .before .before .link .ensures (c .before .before .before .before .before .before .before .before .before .before .before .before .before .before .pre) (omega (arith, c .before .before .before .before .before .before .before .before .unpack .kept .1 .0, c .before .before .before .before .before .before .before .before .before .before .blank-records .ensures, c .before .before .before .before .before .before .before .before .before .before .before .before .before .before .pre))) ∙ unpacked-all (c .before .before .before .before .before .before .before .before .before .before .before .before .before .before .args .table .now) (c .before .before .before .before .before .before .before .before .unpack .last .1 .0) (c .before .before .before .before .before .before .before .before .before .before .before .before .before .before .args .n) rs d l _ _ (c .before .before .before .before .before .before .before .before .unpack .ensures (λ k a b. omega (arith, c .before .before .before .before .before .before .before .before .before .before .blank-records .ensures))) (c .before .before .before .before .before .enum-told .given .1))) w) ∙ ap (λ x. firstFault (checks7to10 x (notedFrom (c .before .before .before .before .before .before .before .before .before .before .before .before .before .before .args .text .now) (c .before .before .before .before .before .before .before .before .before .before .before .before .before .before .args .cells .now) (c .before .before .before .before .before .before .before .before .before .before .before .before .before .before .args .n) 0))) (links-records (c .before .before .before .before .before .before .before .before .before .before .before .before .before .before .args .table .now) _ _ _ (c .before .before .before .link .ensures (c .before .before .before .before .before .before .before .before .before .before .before .before .before .before .pre) (omega (arith, c .before .before .before .before .before .before .before .before .unpack .kept .1 .0, c .before .before .before .before .before .before .before .before .before .before .blank-records .ensures, c .before .before .before .before .before .before .before .before .before .before .before .before .before .before .pre))) ∙ unpacked-all (c .before .before .before .before .before .before .before .before .before .before .before .before .before .before .args .table .now) (c .before .before .before .before .before .before .before .before .unpack .last .1 .0) (c .before .before .before .before .before .before .before .before .before .before .before .before .before .before .args .n) rs d l _ _ (c .before .before .before .before .before .before .before .before .unpack .ensures (λ k a b. omega (arith, c .before .before .before .before .before .before .before .before .before .before .blank-records .ensures))) (c .before .before .before .before .before .enum-told .given .1))
+returns c = λ rs d l w. c .record-fault .ensures (subst AfterParents (sym (links-records (c .before .before .before .before .before .before .before .before .before .before .before .before .before .before .args .table .now) _ _ _ (c .before .before .before .link .ensures (c .before .before .before .before .before .before .before .before .before .before .before .before .before .before .pre) (omega (arith, c .before .before .before .before .before .before .before .before .unpack .kept .1 .0, c .before .before .before .before .before .before .before .before .before .before .blank-records .ensures, c .before .before .before .before .before .before .before .before .before .before .before .before .before .before .pre))) ∙ unpacked-all (c .before .before .before .before .before .before .before .before .before .before .before .before .before .before .args .table .now) (c .before .before .before .before .before .before .before .before .unpack .last .1 .0) (c .before .before .before .before .before .before .before .before .before .before .before .before .before .before .args .n) rs d l _ _ (c .before .before .before .before .before .before .before .before .unpack .ensures (λ k a b. omega (arith, c .before .before .before .before .before .before .before .before .before .before .blank-records .ensures))) (c .before .before .before .before .before .enum-told .given .1))) w) ∙ ap (λ x. firstFault (checks7to10 x (notedFrom (c .before .before .before .before .before .before .before .before .before .before .before .before .before .before .args .text .now) (c .before .before .before .before .before .before .before .before .before .before .before .before .before .before .args .cells .now) (c .before .before .before .before .before .before .before .before .before .before .before .before .before .before .args .n) 0))) (links-records (c .before .before .before .before .before .before .before .before .before .before .before .before .before .before .args .table .now) _ _ _ (c .before .before .before .link .ensures (c .before .before .before .before .before .before .before .before .before .before .before .before .before .before .pre) (omega (arith, c .before .before .before .before .before .before .before .before .unpack .kept .1 .0, c .before .before .before .before .before .before .before .before .before .before .blank-records .ensures, c .before .before .before .before .before .before .before .before .before .before .before .before .before .before .pre))) ∙ unpacked-all (c .before .before .before .before .before .before .before .before .before .before .before .before .before .before .args .table .now) (c .before .before .before .before .before .before .before .before .unpack .last .1 .0) (c .before .before .before .before .before .before .before .before .before .before .before .before .before .before .args .n) rs d l _ _ (c .before .before .before .before .before .before .before .before .unpack .ensures (λ k a b. omega (arith, c .before .before .before .before .before .before .before .before .before .before .blank-records .ensures))) (c .before .before .before .before .before .enum-told .given .1))
 
 returns-2 : tie.Need-returns-2
 returns-2 c = λ rs d l w. unpacked-some (c .before .before .before .before .before .before .before .before .before .args .table .now) (c .before .before .before .unpack .last .1 .0) (c .before .before .before .before .before .before .before .before .before .args .n) rs d l _ (c .before .before .before .before .before .before .before .before .before .pre) (c .before .before .before .unpack .ensures (λ k a b. omega (arith, c .before .before .before .before .before .blank-records .ensures))) (c .enum-told2 .given .1)

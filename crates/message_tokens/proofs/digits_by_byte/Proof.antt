@@ -28,11 +28,11 @@ returns c = tt
 mul-sum : tie.Need-mul-sum Inv-loop μ-loop
 mul-sum c = search needs
 
-sub-wide : tie.Need-sub-wide Inv-loop μ-loop
-sub-wide c = digit-floor _ _ (c .before .before .is-digit .ensures) (c .before .if1 .taken)
+sub-u8-as-u64 : tie.Need-sub-u8-as-u64 Inv-loop μ-loop
+sub-u8-as-u64 c = digit-floor _ _ (c .before .before .is-digit .ensures) (c .before .if1 .taken)
 
-wide-requires : tie.Need-wide-requires Inv-loop μ-loop
-wide-requires c κs = search needs
+u8-as-u64-requires : tie.Need-u8-as-u64-requires Inv-loop μ-loop
+u8-as-u64-requires c κs = search needs
 
 add-sum : tie.Need-add-sum Inv-loop μ-loop
 add-sum c = search needs
@@ -44,7 +44,7 @@ loop-less : tie.Need-loop-less Inv-loop μ-loop
 loop-less c = search needs
 
 loop-again : tie.Need-loop-again Inv-loop μ-loop
-loop-again c = summed-more _ _ _ _ _ (c .before .before .before .before .before .before .loop .inv) (c .before .before .before .before .before .loop-test .taken) (sym (c .before .before .before .is-digit .ensures) ∙ c .before .before .if1 .taken) (rw (c .wide .ensures .0))
+loop-again c = summed-more _ _ _ _ _ (c .before .before .before .before .before .before .loop .inv) (c .before .before .before .before .before .loop-test .taken) (sym (c .before .before .before .is-digit .ensures) ∙ c .before .before .if1 .taken) (rw (c .u8-as-u64 .ensures .0))
 
 digits-before-requires : tie.Need-digits-before-requires Inv-loop μ-loop
 digits-before-requires c κs = c .before .before .before .before .loop .inv .within
@@ -69,8 +69,8 @@ digits-by-byte-spec =
     is-digit-requires
     returns
     mul-sum
-    sub-wide
-    wide-requires
+    sub-u8-as-u64
+    u8-as-u64-requires
     add-sum
     add-i
     loop-less

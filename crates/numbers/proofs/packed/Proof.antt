@@ -3,11 +3,11 @@ use borrow.Author.Needs.{needs}
 use Rattle.numbers.proofs.packed.Statement.{statement}
 use Rattle.numbers.proofs.packed.Tie as tie
 
-wide64-requires : tie.Need-wide64-requires
-wide64-requires c κs = search needs
+u32-as-u64-requires : tie.Need-u32-as-u64-requires
+u32-as-u64-requires c κs = search needs
 
 returns : tie.Need-returns
-returns c = rw (c .wide64 .ensures .0) (one-digit _ (c .before .if1 .taken))
+returns c = rw (c .u32-as-u64 .ensures .0) (one-digit _ (c .before .if1 .taken))
 
 returns-2 : tie.Need-returns-2
 returns-2 c = packed-none _ (c .if2 .taken)
@@ -28,7 +28,7 @@ pub packed-spec : {M : Type 1} → statement M
 packed-spec =
     tie.close
     (tie.spec
-    wide64-requires
+    u32-as-u64-requires
     returns
     returns-2
     six-digits-requires

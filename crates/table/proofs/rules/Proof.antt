@@ -1,7 +1,7 @@
 use mathlib.Core.Path.{sym, _∙_}
 use borrow.Author.Tests.{not-true, not-false}
 use Rattle.table_rules.specs.RecordRules.{recordRules}
-use Rattle.table_rules.proofs.TextRules.{ordered-nested}
+use Rattle.table_rules.proofs.TextRules.{ordered-after-parents}
 use Rattle.table_records.specs.Stored.{recordsAt}
 use Rattle.table.proofs.Laws.{some-few, rules-none}
 use borrow.Author.Needs.{needs}
@@ -37,7 +37,7 @@ checks-fine-requires c κs = search needs
 
 returns-5 : tie.Need-returns-5
 unfolding recordRules
-returns-5 c = rw (some-few (c .before .before .before .before .before .before .before .before .before .before .args .table .now) (c .before .before .before .before .before .before .before .before .before .before .args .unpacked .now) (c .before .before .before .before .before .before .before .before .before .before .args .n) (c .before .before .before .before .before .before .before .if1 .left) (c .before .before .before .before .before .before .before .before .before .before .pre .0) .0, some-few (c .before .before .before .before .before .before .before .before .before .before .args .table .now) (c .before .before .before .before .before .before .before .before .before .before .args .unpacked .now) (c .before .before .before .before .before .before .before .before .before .before .args .n) (c .before .before .before .before .before .before .before .if1 .left) (c .before .before .before .before .before .before .before .before .before .before .pre .0) .1, sym (c .before .before .before .before .before .before .ordered .ensures) ∙ not-false _ (c .before .before .before .before .before .if2 .left), sym (c .before .before .before .before .every-fine .ensures) ∙ not-false _ (c .before .before .before .if3 .left), sym (c .before .before .all-new .ensures) ∙ not-false _ (c .before .if4 .left)) (c .checks-fine .ensures (ordered-nested (recordsAt (c .before .before .before .before .before .before .before .before .before .before .args .table .now) (c .before .before .before .before .before .before .before .before .before .before .args .unpacked .now) (c .before .before .before .before .before .before .before .before .before .before .args .n)) (sym (c .before .before .before .before .before .before .ordered .ensures) ∙ not-false _ (c .before .before .before .before .before .if2 .left))))
+returns-5 c = rw (some-few (c .before .before .before .before .before .before .before .before .before .before .args .table .now) (c .before .before .before .before .before .before .before .before .before .before .args .unpacked .now) (c .before .before .before .before .before .before .before .before .before .before .args .n) (c .before .before .before .before .before .before .before .if1 .left) (c .before .before .before .before .before .before .before .before .before .before .pre .0) .0, some-few (c .before .before .before .before .before .before .before .before .before .before .args .table .now) (c .before .before .before .before .before .before .before .before .before .before .args .unpacked .now) (c .before .before .before .before .before .before .before .before .before .before .args .n) (c .before .before .before .before .before .before .before .if1 .left) (c .before .before .before .before .before .before .before .before .before .before .pre .0) .1, sym (c .before .before .before .before .before .before .ordered .ensures) ∙ not-false _ (c .before .before .before .before .before .if2 .left), sym (c .before .before .before .before .every-fine .ensures) ∙ not-false _ (c .before .before .before .if3 .left), sym (c .before .before .all-new .ensures) ∙ not-false _ (c .before .if4 .left)) (c .checks-fine .ensures (ordered-after-parents (recordsAt (c .before .before .before .before .before .before .before .before .before .before .args .table .now) (c .before .before .before .before .before .before .before .before .before .before .args .unpacked .now) (c .before .before .before .before .before .before .before .before .before .before .args .n)) (sym (c .before .before .before .before .before .before .ordered .ensures) ∙ not-false _ (c .before .before .before .before .before .if2 .left))))
 
 pub rules-spec : {M : Type 1} → statement M
 rules-spec =

@@ -3,7 +3,7 @@ use mathlib.Core.Path.{_≡_, refl}
 use Prim.Native.Nat.{_-_, _≤_}
 use native.Mathlib.Omega.{arith}
 use lib.ListN.{length}
-use Rattle.reading_rules.specs.Record.{Nested}
+use Rattle.reading_rules.specs.Record.{AfterParents}
 use Rattle.table_records.specs.Stored.{recordsAt}
 use Rattle.table_records.proofs.Laws.{length-records}
 use Rattle.table_checks.proofs.Sweeping.{Going, going-start, going-more, going-still, going-end}
@@ -11,7 +11,7 @@ use Rattle.table_checks.proofs.finites.Statement.{statement}
 use Rattle.table_checks.proofs.finites.Tie as tie
 
 abbrev Inv-loop : tie.InvT-loop
-Inv-loop table unpacked n have₀ rest₀ k₀ have rest k = (Nested (recordsAt table unpacked n) → Going (recordsAt table unpacked n) k have) × (k ≤ n) × (length have ≡ length have₀) × (length rest ≡ length rest₀)
+Inv-loop table unpacked n have₀ rest₀ k₀ have rest k = (AfterParents (recordsAt table unpacked n) → Going (recordsAt table unpacked n) k have) × (k ≤ n) × (length have ≡ length have₀) × (length rest ≡ length rest₀)
 
 abbrev μ-loop : tie.MeasureT-loop
 μ-loop table unpacked n have₀ rest₀ k₀ have rest k = n - k

@@ -3,14 +3,14 @@ use mathlib.Core.Path.{_≡_, refl}
 use Prim.Native.Nat.{_≤_}
 use native.Mathlib.Omega.{arith}
 use lib.ListN.{length}
-use Rattle.reading_rules.specs.Record.{Nested}
+use Rattle.reading_rules.specs.Record.{AfterParents}
 use Rattle.table_records.specs.Stored.{recordsAt}
 use Rattle.table_checks.proofs.Sweeping.{Part, part-start, part-more, part-end}
 use Rattle.table_checks.proofs.sweep.Statement.{statement}
 use Rattle.table_checks.proofs.sweep.Tie as tie
 
 abbrev Inv-loop : tie.InvT-loop
-Inv-loop table unpacked n have₀ rest₀ more₀ i₀ have rest more i = ((w : Nested (recordsAt table unpacked n)) → Part table unpacked n w have₀ i have rest more) × (i ≤ n) × (length have ≡ length have₀) × (length rest ≡ length rest₀)
+Inv-loop table unpacked n have₀ rest₀ more₀ i₀ have rest more i = ((w : AfterParents (recordsAt table unpacked n)) → Part table unpacked n w have₀ i have rest more) × (i ≤ n) × (length have ≡ length have₀) × (length rest ≡ length rest₀)
 
 abbrev μ-loop : tie.MeasureT-loop
 μ-loop table unpacked n have₀ rest₀ more₀ i₀ have rest more i = i

@@ -8,12 +8,12 @@ use Rattle.table_records.proofs.is_under.Tie as tie
 cell-requires : tie.Need-cell-requires
 cell-requires c κs = search needs
 
-wide-requires : tie.Need-wide-requires
-wide-requires c κs = search needs
+u32-as-usize-requires : tie.Need-u32-as-usize-requires
+u32-as-usize-requires c κs = search needs
 
 returns : tie.Need-returns
 unfolding recordIn
-returns c = under-number _ _ _ (c .wide .ensures .0 ∙ c .before .cell .ensures)
+returns c = under-number _ _ _ (c .u32-as-usize .ensures .0 ∙ c .before .cell .ensures)
 
 pub is-under-spec : {M : Type 1} → statement M
-is-under-spec = tie.close (tie.spec cell-requires wide-requires returns)
+is-under-spec = tie.close (tie.spec cell-requires u32-as-usize-requires returns)

@@ -7,12 +7,12 @@ use Rattle.table_records.proofs.lo_count_at.Tie as tie
 cell-requires : tie.Need-cell-requires
 cell-requires c κs = search needs
 
-wide-requires : tie.Need-wide-requires
-wide-requires c κs = search needs
+u32-as-usize-requires : tie.Need-u32-as-usize-requires
+u32-as-usize-requires c κs = search needs
 
 returns : tie.Need-returns
 unfolding recordIn
-returns c = c .wide .ensures .0 ∙ c .before .cell .ensures
+returns c = c .u32-as-usize .ensures .0 ∙ c .before .cell .ensures
 
 pub lo-count-at-spec : {M : Type 1} → statement M
-lo-count-at-spec = tie.close (tie.spec cell-requires wide-requires returns)
+lo-count-at-spec = tie.close (tie.spec cell-requires u32-as-usize-requires returns)

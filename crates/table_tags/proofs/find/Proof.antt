@@ -21,11 +21,11 @@ key-requires c κs = search needs
 cell-at-requires : tie.Need-cell-at-requires Inv-loop μ-loop
 cell-at-requires c κs = search needs
 
-wide-requires : tie.Need-wide-requires Inv-loop μ-loop
-wide-requires c κs = search needs
+u32-as-usize-requires : tie.Need-u32-as-usize-requires Inv-loop μ-loop
+u32-as-usize-requires c κs = search needs
 
 loop-holds : tie.Need-loop-holds Inv-loop μ-loop
-loop-holds c = sym (ap (searchFrom (now (c .before .before .before .before .before .before .args .table)) (now (c .before .before .before .before .before .before .args .unpacked)) (c .before .before .before .before .before .before .args .n) (c .before .before .before .before .before .before .args .p) (now (c .before .before .before .before .before .before .args .word)) (c .before .before .before .before .before .before .args .n)) (c .wide .ensures .0 ∙ (c .before .cell-at .ensures ∙ ap (λ k. getD (now (c .before .before .before .before .before .before .args .unpacked)) k 0) (c .before .before .key .ensures))))
+loop-holds c = sym (ap (searchFrom (now (c .before .before .before .before .before .before .args .table)) (now (c .before .before .before .before .before .before .args .unpacked)) (c .before .before .before .before .before .before .args .n) (c .before .before .before .before .before .before .args .p) (now (c .before .before .before .before .before .before .args .word)) (c .before .before .before .before .before .before .args .n)) (c .u32-as-usize .ensures .0 ∙ (c .before .cell-at .ensures ∙ ap (λ k. getD (now (c .before .before .before .before .before .before .args .unpacked)) k 0) (c .before .before .key .ensures))))
 
 returns : tie.Need-returns Inv-loop μ-loop
 returns c = sym (c .before .before .loop .inv ∙ (ap (searchFrom (now (c .before .before .before .before .before .before .before .before .before .args .table)) (now (c .before .before .before .before .before .before .before .before .before .args .unpacked)) (c .before .before .before .before .before .before .before .before .before .args .n) (c .before .before .before .before .before .before .before .before .before .args .p) (now (c .before .before .before .before .before .before .before .before .before .args .word)) (c .before .before .loop .left)) (c .if1 .taken) ∙ search-none (now (c .before .before .before .before .before .before .before .before .before .args .table)) (now (c .before .before .before .before .before .before .before .before .before .args .unpacked)) (c .before .before .before .before .before .before .before .before .before .args .n) (c .before .before .before .before .before .before .before .before .before .args .p) (now (c .before .before .before .before .before .before .before .before .before .args .word)) (c .before .before .loop .left)))
@@ -71,7 +71,7 @@ find-spec =
     μ-loop
     key-requires
     cell-at-requires
-    wide-requires
+    u32-as-usize-requires
     loop-holds
     returns
     returns-2

@@ -12,44 +12,44 @@ returns c = key-none (c .before .before .args .p) (now (c .before .before .args 
 add-result : tie.Need-add-result
 add-result c = search needs
 
-sub-wide : tie.Need-sub-wide
-sub-wide c = search needs
+sub-u8-as-usize : tie.Need-sub-u8-as-usize
+sub-u8-as-usize c = search needs
 
-shared-slice-read-wide : tie.Need-shared-slice-read-wide
-shared-slice-read-wide c = search needs
+shared-slice-read-u8-as-usize : tie.Need-shared-slice-read-u8-as-usize
+shared-slice-read-u8-as-usize c = search needs
 
-wide-requires : tie.Need-wide-requires
-wide-requires c κs = search needs
+u8-as-usize-requires : tie.Need-u8-as-usize-requires
+u8-as-usize-requires c κs = search needs
 
 add-result-2 : tie.Need-add-result-2
 add-result-2 c = search needs
 
 returns-2 : tie.Need-returns-2
-returns-2 c = rw (c .wide .ensures .0) (key-few (c .before .before .before .before .before .args .p) (now (c .before .before .before .before .before .args .word)) (c .before .before .before .if1 .left) (c .before .before .if2 .taken))
+returns-2 c = rw (c .u8-as-usize .ensures .0) (key-few (c .before .before .before .before .before .args .p) (now (c .before .before .before .before .before .args .word)) (c .before .before .before .if1 .left) (c .before .before .if2 .taken))
 
 add-result-3 : tie.Need-add-result-3
 add-result-3 c = search needs
 
-sub-wide-2 : tie.Need-sub-wide-2
-sub-wide-2 c = search needs
+sub-u8-as-usize-2 : tie.Need-sub-u8-as-usize-2
+sub-u8-as-usize-2 c = search needs
 
-shared-slice-read-wide-2 : tie.Need-shared-slice-read-wide-2
-shared-slice-read-wide-2 c = search needs
+shared-slice-read-u8-as-usize-2 : tie.Need-shared-slice-read-u8-as-usize-2
+shared-slice-read-u8-as-usize-2 c = search needs
 
-wide-requires-2 : tie.Need-wide-requires-2
-wide-requires-2 c κs = search needs
+u8-as-usize-requires-2 : tie.Need-u8-as-usize-requires-2
+u8-as-usize-requires-2 c κs = search needs
 
 add-result-4 : tie.Need-add-result-4
 add-result-4 c = search needs
 
-sub-wide-3 : tie.Need-sub-wide-3
-sub-wide-3 c = search needs
+sub-u8-as-usize-3 : tie.Need-sub-u8-as-usize-3
+sub-u8-as-usize-3 c = search needs
 
-shared-slice-read-wide-3 : tie.Need-shared-slice-read-wide-3
-shared-slice-read-wide-3 c = search needs
+shared-slice-read-u8-as-usize-3 : tie.Need-shared-slice-read-u8-as-usize-3
+shared-slice-read-u8-as-usize-3 c = search needs
 
-wide-requires-3 : tie.Need-wide-requires-3
-wide-requires-3 c κs = search needs
+u8-as-usize-requires-3 : tie.Need-u8-as-usize-requires-3
+u8-as-usize-requires-3 c κs = search needs
 
 mul-result : tie.Need-mul-result
 mul-result c = search needs
@@ -57,11 +57,11 @@ mul-result c = search needs
 add-result-5 : tie.Need-add-result-5
 add-result-5 c = search needs
 
-shared-slice-read-wide-4 : tie.Need-shared-slice-read-wide-4
-shared-slice-read-wide-4 c = search needs
+shared-slice-read-u8-as-usize-4 : tie.Need-shared-slice-read-u8-as-usize-4
+shared-slice-read-u8-as-usize-4 c = search needs
 
-wide-requires-4 : tie.Need-wide-requires-4
-wide-requires-4 c κs = search needs
+u8-as-usize-requires-4 : tie.Need-u8-as-usize-requires-4
+u8-as-usize-requires-4 c κs = search needs
 
 mul-result-2 : tie.Need-mul-result-2
 mul-result-2 c = search needs
@@ -70,7 +70,7 @@ add-result-6 : tie.Need-add-result-6
 add-result-6 c = search needs
 
 returns-3 : tie.Need-returns-3
-returns-3 c = rw (c .before .before .before .before .wide2 .ensures .0, c .before .before .wide3 .ensures .0, c .wide4 .ensures .0) (key-many (c .before .before .before .before .before .before .before .before .before .args .p) (now (c .before .before .before .before .before .before .before .before .before .args .word)) (c .before .before .before .before .before .before .before .if1 .left) (c .before .before .before .before .before .before .if2 .left))
+returns-3 c = rw (c .before .before .before .before .u8-as-usize2 .ensures .0, c .before .before .u8-as-usize3 .ensures .0, c .u8-as-usize4 .ensures .0) (key-many (c .before .before .before .before .before .before .before .before .before .args .p) (now (c .before .before .before .before .before .before .before .before .before .args .word)) (c .before .before .before .before .before .before .before .if1 .left) (c .before .before .before .before .before .before .if2 .left))
 
 pub key-spec : {M : Type 1} → statement M
 key-spec =
@@ -78,23 +78,23 @@ key-spec =
     (tie.spec
     returns
     add-result
-    sub-wide
-    shared-slice-read-wide
-    wide-requires
+    sub-u8-as-usize
+    shared-slice-read-u8-as-usize
+    u8-as-usize-requires
     add-result-2
     returns-2
     add-result-3
-    sub-wide-2
-    shared-slice-read-wide-2
-    wide-requires-2
+    sub-u8-as-usize-2
+    shared-slice-read-u8-as-usize-2
+    u8-as-usize-requires-2
     add-result-4
-    sub-wide-3
-    shared-slice-read-wide-3
-    wide-requires-3
+    sub-u8-as-usize-3
+    shared-slice-read-u8-as-usize-3
+    u8-as-usize-requires-3
     mul-result
     add-result-5
-    shared-slice-read-wide-4
-    wide-requires-4
+    shared-slice-read-u8-as-usize-4
+    u8-as-usize-requires-4
     mul-result-2
     add-result-6
     returns-3)

@@ -1,5 +1,5 @@
 use native.Mathlib.Omega.{arith}
-use Rattle.text.proofs.Parts.{part-most}
+use Rattle.classes.proofs.Rows.{part-most}
 use borrow.Author.Needs.{needs}
 use Rattle.test_cases.proofs.refill.Statement.{statement}
 use Rattle.test_cases.proofs.refill.Tie as tie

@@ -4,14 +4,14 @@ use borrow.Author.Needs.{needs}
 use native.Mathlib.Omega.{arith}
 use lib.ListN.{length, take, length-set}
 use lib.Seq.{sets, take-all}
-use Rattle.text.specs.Text.{partOf}
-use Rattle.text.proofs.Parts.{part-within}
+use Rattle.classes.specs.Lists.{part}
+use Rattle.classes.proofs.Rows.{part-within}
 use Rattle.test_frames.proofs.Moves.{moved-more}
 use Rattle.test_frames.proofs.to_front.Statement.{statement}
 use Rattle.test_frames.proofs.to_front.Tie as tie
 
 abbrev Inv-loop : tie.InvT-loop
-Inv-loop d₀ from to n i₀ d i = (d ≡ sets d₀ 0 (take i (partOf d₀ from to))) × (i ≤ n) × (n ≡ length (partOf d₀ from to)) × (length d ≡ length d₀)
+Inv-loop d₀ from to n i₀ d i = (d ≡ sets d₀ 0 (take i (part d₀ from to))) × (i ≤ n) × (n ≡ length (part d₀ from to)) × (length d ≡ length d₀)
 
 abbrev μ-loop : tie.MeasureT-loop
 μ-loop d₀ from to n i₀ d i = n - i
@@ -31,4 +31,4 @@ to-front-spec =
     (λ c. search needs)
     (λ c. (rw (c .before .before .loop .inv .0) (moved-more (c .before .before .before .before .before .before .args .d .now) (c .before .before .before .before .before .before .args .from) (c .before .before .before .before .before .before .args .to) (c .before .before .loop .i) (omega arith)), omega arith, c .before .before .loop .inv .2, simp length-set (c .before .before .loop .inv .3)))
     (λ c. search needs)
-    (λ c. (c .before .loop .inv .2, c .before .loop .inv .0 ∙ ap (sets _ 0) (take-all (c .before .loop .i) (partOf (c .before .before .before .before .before .args .d .now) (c .before .before .before .before .before .args .from) (c .before .before .before .before .before .args .to)) (omega arith)))))
+    (λ c. (c .before .loop .inv .2, c .before .loop .inv .0 ∙ ap (sets _ 0) (take-all (c .before .loop .i) (part (c .before .before .before .before .before .args .d .now) (c .before .before .before .before .before .args .from) (c .before .before .before .before .before .args .to)) (omega arith)))))

@@ -17,8 +17,8 @@ sub-row c = search needs
 edge-requires : tie.Need-edge-requires Inv-loop μ-loop
 edge-requires c κs = search needs
 
-size-requires : tie.Need-size-requires Inv-loop μ-loop
-size-requires c κs = search needs
+u32-as-usize-requires : tie.Need-u32-as-usize-requires Inv-loop μ-loop
+u32-as-usize-requires c κs = search needs
 
 returns : tie.Need-returns Inv-loop μ-loop
 returns c = search needs
@@ -41,7 +41,7 @@ last-row-spec =
     loop-holds
     sub-row
     edge-requires
-    size-requires
+    u32-as-usize-requires
     returns
     loop-less
     loop-again
