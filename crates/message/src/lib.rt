@@ -25,9 +25,10 @@ pub enum Verdict {
     Refused(u32, usize),
 }
 
+// The empty part, at the message's start.
 fn empty_part<'a>(message: &'a [u8]) -> &'a [u8]
-    ensures { λ r. ⌜ now r ≡ [] ⌝ }
     ensures { λ r. ⌜ r .ptr ≡ further ((message .entry) .ptr) 0 ⌝ }
+    ensures { λ r. ⌜ now r ≡ [] ⌝ }
 {
     &message[0..0]
 }

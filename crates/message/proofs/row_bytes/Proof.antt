@@ -11,7 +11,7 @@ empty-part-requires : tie.Need-empty-part-requires
 empty-part-requires c κs = search needs
 
 returns : tie.Need-returns
-returns c = let x = bytes-lost _ _ _ (c .before .if1 .taken) in (c .empty-part .ensures .0 ∙ x .0, c .empty-part .ensures .1 ∙ ap (further (c .before .before .before .before .args .message .ptr)) (x .1))
+returns c = let x = bytes-lost _ _ _ (c .before .if1 .taken) in (c .empty-part .ensures .1 ∙ x .0, c .empty-part .ensures .0 ∙ ap (further (c .before .before .before .before .args .message .ptr)) (x .1))
 
 mul-u32-as-usize : tie.Need-mul-u32-as-usize
 mul-u32-as-usize c = search needs
@@ -47,13 +47,13 @@ empty-part-requires-2 : tie.Need-empty-part-requires-2
 empty-part-requires-2 c κs = search needs
 
 returns-2 : tie.Need-returns-2
-returns-2 c = let x = bytes-back _ _ _ (c .before .before .before .before .before .before .if1 .left) (rw (c .before .before .u32-as-usize2 .ensures .0, c .before .before .before .before .u32-as-usize .ensures .0) at (c .before .if2 .taken)) in (c .empty-part2 .ensures .0 ∙ x .0, c .empty-part2 .ensures .1 ∙ ap (further (c .before .before .before .before .before .before .before .before .before .args .message .ptr)) (x .1))
+returns-2 c = let x = bytes-back _ _ _ (c .before .before .before .before .before .before .if1 .left) (rw (c .before .before .u32-as-usize2 .ensures .0, c .before .before .before .before .u32-as-usize .ensures .0) at (c .before .if2 .taken)) in (c .empty-part2 .ensures .1 ∙ x .0, c .empty-part2 .ensures .0 ∙ ap (further (c .before .before .before .before .before .before .before .before .before .args .message .ptr)) (x .1))
 
 empty-part-requires-3 : tie.Need-empty-part-requires-3
 empty-part-requires-3 c κs = search needs
 
 returns-3 : tie.Need-returns-3
-returns-3 c = let x = bytes-over _ _ _ (c .before .before .before .before .before .before .before .if1 .left) (rw (c .before .before .before .u32-as-usize2 .ensures .0, c .before .before .before .before .before .u32-as-usize .ensures .0) at (c .before .before .if2 .left)) (rw (c .before .before .before .u32-as-usize2 .ensures .0) at (c .before .if3 .taken)) in (c .empty-part3 .ensures .0 ∙ x .0, c .empty-part3 .ensures .1 ∙ ap (further (c .before .before .before .before .before .before .before .before .before .before .args .message .ptr)) (x .1))
+returns-3 c = let x = bytes-over _ _ _ (c .before .before .before .before .before .before .before .if1 .left) (rw (c .before .before .before .u32-as-usize2 .ensures .0, c .before .before .before .before .before .u32-as-usize .ensures .0) at (c .before .before .if2 .left)) (rw (c .before .before .before .u32-as-usize2 .ensures .0) at (c .before .if3 .taken)) in (c .empty-part3 .ensures .1 ∙ x .0, c .empty-part3 .ensures .0 ∙ ap (further (c .before .before .before .before .before .before .before .before .before .before .args .message .ptr)) (x .1))
 
 part-result-start : tie.Need-part-result-start
 part-result-start c = search needs
