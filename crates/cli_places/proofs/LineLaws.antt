@@ -8,7 +8,7 @@ use native.Mathlib.Numerals.{add-one}
 use native.Mathlib.Omega.{arith}
 use borrow.Author.Tests.{eq-eqb, ne-eqb}
 use lib.Dec.{T, eqb, eqb→eq}
-use lib.ListN.{length, getD}
+use lib.ListN.{getD}
 use Rattle.classes.specs.Bytes.{isBlank}
 use Rattle.cli_places.specs.Lines.{breakOf, breaksBefore, lineStart, blanksOff}
 

@@ -1,6 +1,5 @@
 -- Refusals as they are read, typed by hand.
 use mathlib.Core.Path.{_≡_, refl}
-use mathlib.Core.List.{List}
 use Rattle.classes.specs.Bytes.{isBlank}
 use Rattle.classes.specs.Lists.{runOf}
 use Rattle.text.specs.Text.{each, decimal, placesFrom}

@@ -1,23 +1,21 @@
 -- The checks in their order: a law for each way that the compiler goes.
 use mathlib.Core.Path.{_≡_, refl, ap, sym, _∙_}
-use mathlib.Core.Bool.{Bool, true, false, not, _&&_}
+use mathlib.Core.Bool.{Bool}
 use mathlib.Core.List.{List, [], _∷_, _++_}
-use Prim.Native.Nat.{ℕ, zero, suc, _+_, _-_, _*_, _≤_, _<_}
+use Prim.Native.Nat.{ℕ, _-_, _≤_, _<_}
 use native.Mathlib.Omega.{arith}
-use lib.Dec.{eqb, ltb}
-use lib.ListN.{length, getD, take, drop, length-append}
+use lib.ListN.{length, take, drop, length-append}
 use lib.Seq.{sets, take-at}
 use borrow.Author.Tests.{lt-ltb, le-ltb}
 use Rattle.classes.specs.Lists.{pick, part}
-use Rattle.numbers.specs.Limits.{parameterLimit, textLimit}
+use Rattle.numbers.specs.Limits.{parameterLimit}
 use Rattle.reading_rules.specs.Record.{Record, Before}
-use Rattle.definition_rules.specs.Words.{kindIsCompound}
 use Rattle.definition_rules.specs.Declarations.{Noted, declarationsOf}
-use Rattle.definition_rules.specs.Records.{recordsOf, topNames}
+use Rattle.definition_rules.specs.Records.{topNames}
 use Rattle.definition_rules.specs.Table.{encode, numberUp, just, decode}
 use Rattle.definition_rules.specs.Finite.{finites, isEndless}
 use Rattle.definition_rules.specs.Faults.{spotsWhere, recordSpots, rule7Broken, tagRepeated, rootNoStruct, dangling, repeatedNames, faults5, faults6, faults7, faults8, faults9, faults10}
-use Rattle.definition_rules.specs.Compile.{Check, check, Finding, clean, fault, leastOf, findingOf, firstFault, Verdict, refused, table, verdictOf, CompileAnswer, compiled, refusal, answerWithRoom, lentAfter}
+use Rattle.definition_rules.specs.Compile.{Check, check, Finding, clean, fault, leastOf, findingOf, firstFault, Verdict, refused, table, verdictOf, compiled, refusal, answerWithRoom, lentAfter}
 use Rattle.definition_cells.specs.declared.Place.{Place}
 use Rattle.definition_cells.specs.declared.Place.the-variants.{Nowhere, At}
 use Rattle.definition_cells.specs.Cells.{cellAt, notedFrom}
@@ -32,7 +30,7 @@ use Rattle.table_checks.specs.Sweeps.{HasFinites}
 use Rattle.definition_faults.specs.RecordFaults.{recordFault}
 use Rattle.definition_faults.proofs.FaultLaws.{spots-from}
 use Rattle.definition_writer.specs.Written.{WroteRecords, recordsWritten}
-use Rattle.definition_writer.proofs.Widths.{Fit, labels-short}
+use Rattle.definition_writer.proofs.Widths.{labels-short}
 use Rattle.definition_writer.proofs.Parents.{parents-fit}
 use Rattle.definition_writer.proofs.ReadBack.{Held, held}
 use Rattle.definition_writer.proofs.WriteLaws.{copied}

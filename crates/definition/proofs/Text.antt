@@ -1,31 +1,28 @@
 -- The checks of a text in their order, and what its answer promises.
 use mathlib.Core.Path.{_≡_, refl, ap, sym, _∙_, subst}
-use mathlib.Core.Bool.{Bool, true, false}
 use mathlib.Core.List.{List, [], _∷_, _++_}
-use Prim.Native.Nat.{ℕ, zero, _≤_, _<_}
+use Prim.Native.Nat.{ℕ, _≤_, _<_}
 use native.Mathlib.Omega.{arith}
-use lib.Dec.{ltb}
-use lib.ListN.{length, drop, drop-of-length-le}
+use lib.ListN.{length, drop-of-length-le}
 use borrow.Author.Tests.{lt-ltb, le-ltb}
 use Rattle.numbers.specs.Limits.{textLimit, parameterLimit}
 use Rattle.reading_rules.specs.Record.{Record, Before}
 use Rattle.definition_rules.specs.Table.{numberUp}
 use Rattle.definition_rules.specs.Scan.{Item, itemsOf, textTokensOf, placeIf}
-use Rattle.definition_rules.specs.Declarations.{Spots, Noted, Outcome, stuckAt, complete, parseTokens, declarationsOf}
+use Rattle.definition_rules.specs.Declarations.{Noted, Outcome, stuckAt, complete, declarationsOf}
 use Rattle.definition_rules.specs.Records.{recordsOf, topNames}
 use Rattle.definition_rules.specs.Finite.{finites, isEndless}
-use Rattle.definition_rules.specs.Faults.{spotsWhere, recordSpots, nameSpots, repeatedNames, nameBroken, referenceBroken, tagBroken, rangeBroken, countBroken, voidMany, countOnAlternative, kindsOf, rule7Broken, tagRepeated, rootNoStruct, dangling, faults4, faults5, faults6, faults7, faults8, faults9, faults10}
-use Rattle.definition_rules.specs.Compile.{Check, check, Finding, clean, fault, leastOf, firstFault, tokenPlace, tokenPlaces, faults1, faults2, faults3, notedOf, outcomeOf, recordsOfText, checksOf, checksAfter, checksFrom, checks, Verdict, refused, table, verdictOf, verdict, CompileAnswer, refusal, answerWithRoom, compileAnswer, lentAfter, tableAfter}
+use Rattle.definition_rules.specs.Faults.{spotsWhere, nameSpots, nameBroken, referenceBroken, tagBroken, rangeBroken, countBroken, voidMany, countOnAlternative, kindsOf, rule7Broken, tagRepeated, rootNoStruct, dangling, faults4, faults5, faults6, faults7, faults8, faults9, faults10}
+use Rattle.definition_rules.specs.Compile.{Check, check, Finding, fault, leastOf, firstFault, tokenPlace, tokenPlaces, faults1, faults2, faults3, notedOf, outcomeOf, recordsOfText, checksOf, checksAfter, checksFrom, checks, Verdict, refused, verdictOf, verdict, CompileAnswer, refusal, answerWithRoom, compileAnswer, lentAfter, tableAfter}
 use Rattle.definition_rules.specs.Stuck.{StuckPromise}
 use Rattle.definition_cutting.proofs.Stuck.{stuck-promise}
 use Rattle.table_rules.specs.Endless.{EndlessPromise}
 use Rattle.table_rules.proofs.Ten.{endless-promise}
-use Rattle.definition_cells.specs.declared.Place.{Place}
 use Rattle.definition_cells.specs.declared.Place.the-variants.{Nowhere, At}
 use Rattle.definition_cells.specs.Cells.{cellAt, notedFrom}
 use Rattle.definition_cells.specs.Places.{leastPlace}
 use Rattle.definition_writer.proofs.Parents.{parents-before}
-use Rattle.definition_forms.specs.Placed.{placedBy, placed}
+use Rattle.definition_forms.specs.Placed.{placedBy}
 use Rattle.definition_forms.specs.declared.Formed.{Formed}
 use Rattle.definition_forms.specs.declared.Formed.the-variants.{Stuck, Over, Complete}
 use Rattle.definition_forms.specs.Formed.{StuckIn, OverIn, CompleteIn, FormedAs}

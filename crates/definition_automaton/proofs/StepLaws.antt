@@ -1,18 +1,16 @@
 -- A token does what its act says: the decisions by number are the automaton's.
-use mathlib.Core.Path.{_≡_, refl, sym, ap, subst, _∙_}
-use mathlib.Core.Bool.{Bool, true, false, not, _&&_, _||_}
+use mathlib.Core.Path.{_≡_, refl, sym, subst}
+use mathlib.Core.Bool.{Bool, true, false, not, _&&_}
 use mathlib.Core.List.{List, [], _∷_}
-use Prim.Native.Nat.{ℕ, zero, suc, _+_, _≤_, _<_}
+use Prim.Native.Nat.{ℕ, _≤_, _<_}
 use native.Mathlib.Omega.{arith}
 use lib.Dec.{eqb, leb, ltb}
-use lib.ListN.{getD}
-use borrow.Author.Tests.{eqb-true, eqb-false, eq-eqb, ne-eqb, le-leb, lt-leb, lt-ltb, le-ltb}
+use borrow.Author.Tests.{eqb-true, ne-eqb, le-leb, lt-leb}
 use Rattle.classes.specs.Lists.{pick, sameBytes}
 use Rattle.definition_rules.specs.Words.{kwAs, kwPlugin, takesRange, isCompound, isReference}
-use Rattle.definition_rules.specs.Scan.{TextToken, run, mark}
-use Rattle.definition_rules.specs.Forms.{MaybeRun, absent, given, Tag, ownName, tagless, explicit, Heading, heading, typeRun}
-use Rattle.definition_rules.specs.Declarations.{Declaration, declaration, Spots, Noted, noted, BodyMode, inFields, groupOpened, inGroup, groupsClosed, Frame, frame, afterName, afterCard, afterTag, afterPlugin, Phase, atStart, dueSemicolon, afterType, dueRange, dueRangeEnd, dueName, inHeading, dueCard, dueTag, dueCardEnd, Action, stop, move, note, allow, withCard, withTag, withPlugin, takesField, takesClose, takesGroupEnd, isInBody, startRun, startMark, headingEnd, headingRun, headingMark, step, fieldDone, parentOf}
-use Rattle.definition_rules.specs.Declarations.{isUnderExtension}
+use Rattle.definition_rules.specs.Scan.{run, mark}
+use Rattle.definition_rules.specs.Forms.{typeRun}
+use Rattle.definition_rules.specs.Declarations.{BodyMode, inFields, groupOpened, inGroup, groupsClosed, Frame, frame, afterCard, afterPlugin, atStart, dueSemicolon, afterType, dueRange, inHeading, dueCard, dueTag, dueCardEnd, Action, stop, move, note, allow, withCard, withTag, withPlugin, takesField, takesClose, takesGroupEnd, isInBody, startRun, startMark, headingEnd, headingRun, headingMark, step, fieldDone}
 use Rattle.definition_automaton.specs.Acts.{endAct, pluginAct, asAct, nameAct, typeAct, closingAct, bodyAct, startAct, runAct, markAct, typedAct, tagAct, actOf, nextModes, nextMode}
 use Rattle.definition_automaton.specs.Noting.{pendingBy, notes}
 use Rattle.definition_automaton.specs.declared.Span.{Span}

@@ -1,13 +1,11 @@
 -- The state and the declaration at hand as the automaton of the definitions sees them.
-use mathlib.Core.Path.{_≡_, refl}
-use mathlib.Core.Bool.{Bool, true, false}
 use mathlib.Core.List.{List, [], _∷_}
 use Prim.Native.Nat.{ℕ, zero, suc}
 use lib.Dec.{eqb}
 use lib.ListN.{getD}
 use Rattle.classes.specs.Lists.{pick, part}
 use Rattle.definition_rules.specs.Forms.{MaybeRun, absent, given, Tag, ownName, tagless, explicit, Heading, heading}
-use Rattle.definition_rules.specs.Declarations.{Declaration, declaration, Spots, Noted, noted, BodyMode, inFields, groupOpened, inGroup, groupsClosed, Frame, frame, afterName, afterCard, afterTag, afterPlugin, Phase, atStart, dueSemicolon, afterType, dueRange, dueRangeEnd, dueName, inHeading, dueCard, dueTag, dueCardEnd, Action, stop, move, note, fieldDone, parentOf}
+use Rattle.definition_rules.specs.Declarations.{declaration, Spots, Noted, noted, BodyMode, inFields, groupOpened, inGroup, groupsClosed, Frame, frame, afterName, afterCard, afterTag, afterPlugin, Phase, atStart, dueSemicolon, afterType, dueRange, dueRangeEnd, dueName, inHeading, dueCard, dueTag, dueCardEnd, Action, stop, move, note, fieldDone, parentOf}
 use Rattle.definition_rules.specs.Declarations.{isUnderExtension}
 use Rattle.definition_automaton.specs.Acts.{nextMode}
 use Rattle.definition_automaton.specs.Noting.{pendingBy, notes}

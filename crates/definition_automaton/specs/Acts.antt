@@ -1,5 +1,4 @@
 -- What a token does, as the code decides it. k is the token's number, kind that of the heading's type.
-use mathlib.Core.Bool.{Bool, _&&_}
 use mathlib.Core.List.{List, [], _∷_}
 use Prim.Native.Nat.{ℕ}
 use lib.Dec.{eqb, leb, ltb}

@@ -1,14 +1,13 @@
 -- Numbers, runs and declarations as they are kept. Assumes nothing.
-use mathlib.Core.Path.{_≡_, refl, sym, _∙_}
+use mathlib.Core.Path.{_≡_, sym, _∙_}
 use mathlib.Core.List.{List, [], _∷_}
-use Prim.Native.Nat.{ℕ, zero, suc, _+_, _-_, _*_, _/_, _<_, _≤_}
+use Prim.Native.Nat.{ℕ, suc, _+_, _-_, _*_, _/_, _<_, _≤_}
 use native.Mathlib.Numerals.{add-one}
 use native.Mathlib.Omega.{arith}
-use lib.ListN.{length, getD, List·getD-eq-default}
+use lib.ListN.{length, List·getD-eq-default}
 use Rattle.classes.proofs.Rows.{part-back}
 use Rattle.classes.specs.Lists.{part}
 use Rattle.definition_cells.specs.Cells.{cellAt, runAt, notedAt, notedFrom}
-use Rattle.definition_rules.specs.Declarations.{Noted}
 
 -- ---- one number
 

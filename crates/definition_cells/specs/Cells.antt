@@ -1,13 +1,11 @@
 -- The declarations of a definition as the compiler keeps them: a row of numbers, cellWidth for each declaration.
 use mathlib.Core.List.{List, [], _∷_}
-use mathlib.Core.Bool.{Bool}
 use Prim.Native.Nat.{ℕ, zero, suc, _+_, _*_}
 use lib.Dec.{eqb}
 use lib.ListN.{getD}
 use Rattle.classes.specs.Lists.{pick, part}
-use Rattle.reading_rules.specs.Record.{Up}
-use Rattle.definition_rules.specs.Forms.{MaybeRun, absent, given, Tag, ownName, tagless, explicit, Heading, heading}
-use Rattle.definition_rules.specs.Declarations.{Declaration, declaration, Spots, Noted, noted}
+use Rattle.definition_rules.specs.Forms.{MaybeRun, absent, given, Tag, ownName, tagless, explicit, heading}
+use Rattle.definition_rules.specs.Declarations.{declaration, Noted, noted}
 use Rattle.definition_rules.specs.Table.{numberUp}
 
 -- how many numbers a declaration has

@@ -14,7 +14,7 @@ use Rattle.reading_rules.specs.Record.{top, under, sameUp}
 use Rattle.definition_rules.specs.Words.{kindOfRun, isReference, nameForm, tagForm}
 use Rattle.definition_rules.specs.Scan.{placeIf}
 use Rattle.definition_rules.specs.Forms.{MaybeRun, absent, given}
-use Rattle.definition_rules.specs.Declarations.{Declaration, declaration, Spots, Noted, noted, declarationsOf}
+use Rattle.definition_rules.specs.Declarations.{Declaration, Spots, Noted, noted, declarationsOf}
 use Rattle.definition_rules.specs.Records.{topNames, recordFor, recordsFor, recordsOf}
 use Rattle.definition_rules.specs.Table.{numberUp}
 use Rattle.definition_rules.specs.Faults.{spotsWhere, recordSpots, nameBroken, referenceBroken, tagBroken, tagBrokenIn, rangeBroken, countBroken, countFine, withinKind, kindOfDeclaration, kindsOf, isUnionAt, isAlternative, isGiven, countOnAlternative, voidMany, sameKey, isNewKey, nameKey, repeatedNames, dangling, faults5, faults6}

@@ -2,23 +2,21 @@
 use mathlib.Core.Path.{_≡_, refl, ap, sym, _∙_}
 use mathlib.Core.Bool.{Bool, true, false}
 use mathlib.Core.List.{List, [], _∷_}
-use mathlib.Core.Logic.{_↔_}
 use Prim.Native.Nat.{ℕ, _≤_}
 use native.Mathlib.Omega.{arith}
 use lib.Dec.{ltb}
 use lib.ListN.{length, getD}
 use Rattle.classes.specs.Lists.{pick}
 use Rattle.reading_rules.specs.Record.{Record}
-use Rattle.definition_rules.specs.Scan.{Item, itemsOf, textTokensOf, placesOf}
-use Rattle.definition_rules.specs.Cut.{Cut}
+use Rattle.definition_rules.specs.Scan.{Item, itemsOf, textTokensOf}
 use Rattle.definition_rules.specs.Forms.{StuckBy}
-use Rattle.definition_rules.specs.Declarations.{Noted, Outcome, stuckAt, complete, parseTokens}
+use Rattle.definition_rules.specs.Declarations.{Noted, Outcome, stuckAt, complete}
 use Rattle.definition_rules.specs.Table.{encode}
-use Rattle.definition_rules.specs.Compile.{Check, check, Finding, clean, fault, leastOf, findingOf, firstFault, tokenPlace, tokenPlaces, faults1, faults2, faults3, outcomeOf, recordsOfText, checksOf, checksAfter, checksFrom, checks, Verdict, refused, table, verdictOf, verdict, CompileAnswer, compiled, refusal, answerWithRoom, compileAnswer}
+use Rattle.definition_rules.specs.Compile.{Check, check, Finding, clean, fault, leastOf, findingOf, firstFault, tokenPlace, tokenPlaces, faults1, faults2, faults3, outcomeOf, recordsOfText, checksOf, checksAfter, checksFrom, checks, verdictOf, verdict, compiled, refusal, answerWithRoom, compileAnswer}
 use Rattle.definition_rules.specs.Stuck.{FirstStuck, StuckPromise}
 use Rattle.definition_rules.proofs.FirstFault.{pass}
 use Rattle.definition_rules.proofs.Theorems.{stuck-iff}
-use Rattle.definition_scanner.specs.Live.{live, liveFrom}
+use Rattle.definition_scanner.specs.Live.{live}
 use Rattle.definition_scanner.proofs.LiveLaws.{tokens-live, places-live}
 use Rattle.definition_cutting.proofs.UniqueCut.{one-cut, only-cut}
 

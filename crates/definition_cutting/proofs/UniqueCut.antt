@@ -5,19 +5,17 @@ use mathlib.Core.List.{List, [], _∷_, _++_}
 use Prim.Native.Nat.{ℕ, zero, suc, _+_, _≤_, _<_}
 use native.Mathlib.Omega.{arith}
 use lib.Dec.{eqb}
-use lib.ListN.{length, take, drop, length-append, length-drop, take-append-drop}
-use lib.Seq.{length-take-le}
-use borrow.Author.Tests.{eqb-true, eqb-false, eq-eqb, ne-eqb, not-true, not-false}
+use lib.ListN.{length, take, drop, length-drop, take-append-drop}
+use borrow.Author.Tests.{eqb-true, eqb-false, not-true}
 use Rattle.classes.specs.Lists.{pick, every, runOf, All}
 use Rattle.classes.specs.Bytes.{isRunByte, isBlank, isMark}
-use Rattle.classes.proofs.Rows.{run-within}
 use Rattle.definition_rules.specs.Words.{ByteClass, inRun, classOf}
 use Rattle.definition_rules.specs.Words as words
-use Rattle.definition_rules.specs.Scan.{run, mark, Item, gap, item, bad, outside, lineComment, opening, comment, star, startsWith, scan, itemsOf}
+use Rattle.definition_rules.specs.Scan.{run, mark, Item, gap, item, bad, outside, lineComment, opening, comment, startsWith, scan, itemsOf}
 use mathlib.Core.Logic.{_⊎_, inl, inr}
 use Rattle.definition_rules.proofs.ScanLaws.{at-blank, at-single, at-other, at-slash, at-longest-run, StartsNoRun, class-run}
 use Rattle.definition_scanner.specs.Live.{live, liveFrom}
-use Rattle.definition_scanner.proofs.Steps.{not-run, class-blank, class-single, class-other, class-slash, comment-step, comment-stop}
+use Rattle.definition_scanner.proofs.Steps.{not-run, class-other, class-slash, comment-step, comment-stop}
 use Rattle.definition_rules.specs.Cut.{StopsRun, NoLf, NoClose, Stray, Cut, ends, blank, line, lastLine, block, endless, longest, single, other}
 
 -- ---- the scan of each part

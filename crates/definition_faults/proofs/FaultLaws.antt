@@ -1,20 +1,15 @@
 -- A parameter's fault by the refusal's number, and the faults of all as the definitions list them.
-use mathlib.Core.Path.{_≡_, refl, ap, sym, _∙_}
-use mathlib.Core.Bool.{Bool, true, false}
-use mathlib.Core.List.{List, [], _∷_}
+use mathlib.Core.Path.{_≡_, refl, ap, _∙_}
+use mathlib.Core.Bool.{Bool}
+use mathlib.Core.List.{List}
 use Prim.Native.Nat.{ℕ, zero, suc}
-use native.Mathlib.Omega.{arith}
-use lib.Dec.{eqb}
-use lib.ListN.{getD}
-use borrow.Author.Tests.{eq-eqb, ne-eqb}
+use borrow.Author.Tests.{ne-eqb}
 use Rattle.classes.specs.Lists.{pick}
 use Rattle.reading_rules.specs.Record.{Record}
-use Rattle.definition_rules.specs.Declarations.{Spots, Noted, noted}
-use Rattle.definition_rules.specs.Scan.{placeIf}
+use Rattle.definition_rules.specs.Declarations.{Spots}
 use Rattle.definition_rules.specs.Faults.{recordSpots, rule7Broken, tagRepeated, rootNoStruct}
 use Rattle.definition_rules.specs.Finite.{isEndless}
 use Rattle.definition_cells.specs.declared.Place.{Place}
-use Rattle.definition_cells.specs.declared.Place.the-variants.{Nowhere, At}
 use Rattle.definition_cells.specs.Cells.{cellAt, notedAt, notedFrom}
 use Rattle.definition_cells.specs.Places.{atIf, lesser, leastPlace, leastFrom}
 use Rattle.definition_cells.proofs.PlaceLaws.{least-if}

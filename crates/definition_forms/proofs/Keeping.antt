@@ -1,23 +1,19 @@
 -- The declarations in the row: one more is noted, the first 256 are kept, the 257th name's place is.
-use mathlib.Core.Path.{_≡_, refl, sym, ap, _∙_}
-use mathlib.Core.Bool.{Bool, true, false, _&&_}
+use mathlib.Core.Path.{_≡_, refl, ap, _∙_}
 use mathlib.Core.List.{List, [], _∷_, _++_}
-use Prim.Native.Nat.{ℕ, zero, suc, _+_, _-_, _*_, _≤_, _<_}
+use Prim.Native.Nat.{ℕ, zero, suc, _+_, _*_, _≤_, _<_}
 use native.Mathlib.Nat.{add-zero, zero-add}
-use native.Mathlib.Numerals.{add-one}
 use native.Mathlib.Omega.{arith}
-use lib.Dec.{eqb, ltb}
+use lib.Dec.{eqb}
 use lib.ListN.{length, getD, set, drop, length-append, length-set}
-use lib.Seq.{sets, getD-set-same, getD-set-other, length-sets, drop-append-le}
-use Rattle.numbers.specs.Limits.{none16}
-use Rattle.classes.specs.Lists.{pick, All, part}
-use Rattle.reading_rules.specs.Record.{Up, top, under}
+use lib.Seq.{sets, getD-set-same, getD-set-other, drop-append-le}
+use Rattle.classes.specs.Lists.{All}
 use Rattle.definition_rules.specs.Declarations.{Declaration, declaration, Spots, Noted, noted}
 use Rattle.definition_rules.specs.Table.{numberUp}
 use Rattle.definition_rules.specs.Faults.{nameSpots}
-use Rattle.definition_cells.specs.Cells.{cellAt, runAt, maybeRunAt, tagAt, notedAt, notedFrom}
+use Rattle.definition_cells.specs.Cells.{runAt, maybeRunAt, tagAt, notedAt, notedFrom}
 use Rattle.definition_scanner.proofs.LiveLaws.{AtLeast}
-use Rattle.definition_automaton.specs.Noting.{runCells, restCells, cellsOf}
+use Rattle.definition_automaton.specs.Noting.{cellsOf}
 use Rattle.definition_automaton.specs.declared.Pending.{Pending}
 use Rattle.definition_automaton.proofs.Views.{spotsIn, headingIn}
 use Rattle.definition_rules.proofs.Spots.{names-length}

@@ -1,47 +1,42 @@
 -- The reading of the forms, token by token: what holds before each token, and what follows at the end.
 use mathlib.Core.Path.{_≡_, refl, sym, ap, subst, _∙_}
-use mathlib.Core.Bool.{Bool, true, false, not, _&&_, _||_}
+use mathlib.Core.Bool.{Bool, true, false, _&&_}
 use mathlib.Core.List.{List, [], _∷_, _++_, append-assoc, append-nil}
-use Prim.Native.Nat.{ℕ, zero, suc, _+_, _-_, _*_, _≤_, _<_}
+use Prim.Native.Nat.{ℕ, zero, suc, _*_, _≤_, _<_}
 use native.Mathlib.Numerals.{add-one}
 use native.Mathlib.Omega.{arith}
 use lib.Dec.{eqb, leb, ltb}
 use lib.ListN.{length, drop}
 use lib.Seq.{sets, length-sets}
-use borrow.Author.Tests.{eqb-true, eqb-false, eq-eqb, ne-eqb, lt-ltb, le-ltb, leb-false, ltb-true, ltb-false}
+use borrow.Author.Tests.{eqb-true, eqb-false, ne-eqb, lt-ltb, leb-false, ltb-true, ltb-false}
 use Rattle.classes.proofs.Segment.{mark-small}
 use Rattle.classes.proofs.Rows.{both-nil}
-use Rattle.numbers.specs.Limits.{parameterLimit, depthLimit}
 use Rattle.classes.specs.Lists.{pick, part}
 use Rattle.classes.specs.Bytes.{isMark}
 use Rattle.definition_rules.specs.Scan.{TextToken, run, mark, Item, item, bad, itemsOf, badPlaces, deepPlaces, placeIf, isDeepBrace, bracesAfter}
-use Rattle.definition_rules.specs.Declarations.{Declaration, declaration, Noted, noted, Frame, frame, Phase, atStart, dueSemicolon, Action, stop, move, note, step, Outcome, stuckAt, complete, mapOutcome, endIf, atEnd, parentOf}
-use Rattle.definition_rules.specs.Declarations.{isUnderExtension}
-use Rattle.definition_rules.specs.Table.{numberUp}
-use Rattle.definition_rules.specs.Faults.{nameSpots, faults4}
-use Rattle.definition_rules.specs.Compile.{leastOf, tokenPlace, tokenPlaces, faults2, outcomeOf}
+use Rattle.definition_rules.specs.Declarations.{Noted, Frame, Phase, stop, move, note, step, Outcome, stuckAt, complete, mapOutcome, endIf, atEnd}
+use Rattle.definition_rules.specs.Faults.{nameSpots}
+use Rattle.definition_rules.specs.Compile.{tokenPlace, faults2, outcomeOf}
 use Rattle.definition_cells.specs.Cells.{notedFrom}
 use Rattle.definition_scanner.specs.Live.{liveFrom}
 use Rattle.definition_scanner.specs.First.{faultsFrom}
 use Rattle.definition_scanner.proofs.FaultLaws.{all-faults, least-same}
 use Rattle.definition_automaton.specs.Acts.{runKind, actOf, nextMode}
-use Rattle.definition_automaton.specs.States.{state, started, contextOf, parentNumber, extensionFlag, overOf, moreOf, afterOf}
+use Rattle.definition_automaton.specs.States.{started, contextOf, parentNumber, extensionFlag, overOf, moreOf, afterOf}
 use Rattle.definition_automaton.specs.Noting.{span, none, pendingBy, cellsOf, notes, noteCells}
 use Rattle.definition_automaton.specs.declared.State.{State}
 use Rattle.definition_automaton.specs.declared.Span.{Span}
 use Rattle.definition_automaton.specs.declared.Pending.{Pending}
-use Rattle.definition_automaton.proofs.Views.{framesFrom, framesOf, runIn, spotsIn, headingIn, phaseIn, contextIn, framesAfter, notedIn, actionIn}
+use Rattle.definition_automaton.proofs.Views.{framesFrom, framesOf, runIn, spotsIn, phaseIn, contextIn, framesAfter, notedIn, actionIn}
 use Rattle.definition_automaton.proofs.StepLaws.{KindFacts, mark-step, run-step}
-use Rattle.definition_forms.specs.Placed.{placedBy, placed}
 use Rattle.definition_forms.specs.Formed.{StuckIn, OverIn, CompleteIn, FormedAs}
 use Rattle.definition_forms.specs.Sees.{Told, ended, broken, marked, ran, Sees, finishOf}
 use Rattle.definition_forms.specs.declared.Seen.{Seen}
 use Rattle.definition_forms.specs.declared.Formed.{Formed}
-use Rattle.definition_forms.specs.declared.Formed.the-variants.{Stuck, Over, Complete}
 use Rattle.definition_forms.proofs.PlacedLaws.{places-drop, names-placed, length-placed}
 use Rattle.definition_forms.proofs.Placing.{parsePlaced, placedOutcome, outcome-is, stuck-back, complete-back}
-use Rattle.definition_forms.proofs.Keeping.{noted-more, Past, Kept, kept-first, kept-over, kept-past}
-use Rattle.definition_forms.proofs.Moving.{Sized, context-is, extension-is, Below, below-more, parent-is, below-stay, below-after, After, after-is, Braced, act-braced, opens, types, closes, after-deep, depth-is}
+use Rattle.definition_forms.proofs.Keeping.{noted-more, Kept, kept-first, kept-over, kept-past}
+use Rattle.definition_forms.proofs.Moving.{Sized, context-is, extension-is, Below, parent-is, below-stay, below-after, After, after-is, Braced, act-braced, opens, types, closes, after-deep, depth-is}
 use Rattle.definition_forms.proofs.KindLaws.{kind-facts, mark-some, none-kind}
 use Rattle.definition_rules.proofs.ScanLaws.{place-none}
 

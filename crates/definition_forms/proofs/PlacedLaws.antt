@@ -5,11 +5,11 @@ use mathlib.Core.List.{List, [], _∷_, _++_}
 use Prim.Native.Nat.{ℕ, zero, suc}
 use lib.ListN.{length, drop}
 use Rattle.reading_rules.specs.Record.{Record}
-use Rattle.definition_rules.specs.Scan.{Item, itemsOf, placeIf}
+use Rattle.definition_rules.specs.Scan.{Item, placeIf}
 use Rattle.definition_rules.specs.Declarations.{Declaration, Spots, Noted, noted, declarationsOf}
 use Rattle.definition_rules.specs.Faults.{spotsWhere, recordSpots, nameSpots, Key, isNewKey, nameKey, repeatedNames}
 use Rattle.definition_rules.specs.Compile.{tokenPlace, tokenPlaces}
-use Rattle.definition_forms.specs.Placed.{placedSpots, placedNoted, placedBy, placed}
+use Rattle.definition_forms.specs.Placed.{placedSpots, placedNoted, placedBy}
 
 -- a projection of the spots, which a renaming passes
 abbrev pub Natural : (Spots → ℕ) → Type 0

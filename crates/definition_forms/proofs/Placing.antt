@@ -1,8 +1,8 @@
 -- The automaton over items, with places for numbers of tokens: the same outcome, placed.
 use mathlib.Core.Path.{_≡_, refl, ap, sym, _∙_}
 use mathlib.Core.Bool.{Bool, true, false, not, _&&_}
-use mathlib.Core.List.{List, [], _∷_, _++_}
-use Prim.Native.Nat.{ℕ, zero, suc, _+_}
+use mathlib.Core.List.{List, [], _∷_}
+use Prim.Native.Nat.{ℕ, suc, _+_}
 use native.Mathlib.Nat.{add-zero, zero-add}
 use native.Mathlib.Omega.{arith}
 use lib.Dec.{eqb}
@@ -10,11 +10,11 @@ use lib.ListN.{length, getD}
 use Rattle.classes.specs.Lists.{pick, sameBytes}
 use Rattle.definition_rules.specs.Words.{kwAs, kwPlugin, takesRange, isCompound, isReference}
 use Rattle.definition_rules.specs.Scan.{TextToken, run, mark, Item, gap, item, bad, itemsOf, textTokensOf, placesOf}
-use Rattle.definition_rules.specs.Forms.{MaybeRun, absent, given, ownName, tagless, explicit, Heading, heading, typeRun}
-use Rattle.definition_rules.specs.Declarations.{Declaration, declaration, Spots, Noted, noted, BodyMode, inFields, groupOpened, inGroup, groupsClosed, Frame, frame, Stage, afterName, afterCard, afterTag, afterPlugin, Phase, atStart, dueSemicolon, afterType, dueRange, dueRangeEnd, dueName, inHeading, dueCard, dueTag, dueCardEnd, Action, stop, move, note, allow, withCard, withTag, withPlugin, takesField, takesClose, takesGroupEnd, isInBody, startRun, startMark, headingEnd, headingRun, headingMark, step, fieldDone, parentOf, isUnderExtension, Outcome, stuckAt, complete, mapOutcome, endIf, atEnd, parseForms, parseTokens}
+use Rattle.definition_rules.specs.Forms.{Heading, typeRun}
+use Rattle.definition_rules.specs.Declarations.{Spots, Noted, Frame, frame, Stage, afterName, afterCard, afterTag, afterPlugin, Phase, atStart, dueSemicolon, afterType, dueRange, dueRangeEnd, dueName, inHeading, dueCard, dueTag, dueCardEnd, Action, stop, move, note, allow, takesField, takesClose, takesGroupEnd, isInBody, startRun, startMark, headingEnd, headingRun, headingMark, step, Outcome, stuckAt, complete, mapOutcome, endIf, atEnd, parseForms}
 use Rattle.definition_rules.specs.Compile.{tokenPlace, outcomeOf}
 use Rattle.definition_scanner.specs.Live.{live, liveFrom}
-use Rattle.definition_forms.specs.Placed.{placedSpots, placedNoted, placedBy, placed}
+use Rattle.definition_forms.specs.Placed.{placedSpots, placedNoted, placedBy}
 
 unfoldable pub parsePlaced : ℕ → List Frame → ℕ → Phase → List Item → Outcome (List Noted)
 parsePlaced end σ k p [] = atEnd σ k end p

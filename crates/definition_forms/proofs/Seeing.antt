@@ -1,7 +1,7 @@
 -- What the cursor's answer says of the token that stands next.
-use mathlib.Core.Path.{_≡_, refl, sym, ap, _∙_}
-use mathlib.Core.List.{List, [], _∷_}
-use Prim.Native.Nat.{ℕ, suc, _+_, _≤_, _<_}
+use mathlib.Core.Path.{_≡_, refl, ap, _∙_}
+use mathlib.Core.List.{List}
+use Prim.Native.Nat.{ℕ, _+_, _<_}
 use native.Mathlib.Omega.{arith}
 use lib.ListN.{length}
 use Rattle.classes.specs.Lists.{part}
@@ -10,7 +10,7 @@ use Rattle.definition_scanner.specs.declared.Cursor.{Cursor}
 use Rattle.definition_scanner.specs.declared.Lexeme.{Lexeme}
 use Rattle.definition_scanner.specs.declared.Lexeme.the-variants.{Run, Mark, Bad, End}
 use Rattle.definition_automaton.specs.Acts.{runKind}
-use Rattle.definition_forms.specs.Sees.{Told, ended, broken, marked, ran, Sees}
+use Rattle.definition_forms.specs.Sees.{ended, broken, marked, ran, Sees}
 use Rattle.definition_forms.specs.declared.Seen.{Seen}
 
 abbrev seen : ℕ → ℕ → ℕ → Seen

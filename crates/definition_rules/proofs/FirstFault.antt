@@ -2,14 +2,13 @@
 use mathlib.Core.Path.{_≡_, refl, ap, sym, _∙_}
 use mathlib.Core.Bool.{Bool, true, false}
 use mathlib.Core.List.{List, [], _∷_, _++_}
-use Prim.Native.Nat.{ℕ, zero, suc, _+_, min, _≤_, _<_}
+use Prim.Native.Nat.{ℕ, min, _≤_}
 use native.Mathlib.Omega.{arith}
-use lib.Dec.{eqb, leb}
+use lib.Dec.{leb}
 use borrow.Author.Tests.{leb-true, leb-false}
-use Rattle.reading_rules.specs.Record.{Record}
 use Rattle.definition_rules.specs.Table.{encode}
-use mathlib.Core.Logic.{_⊎_, inl, inr}
-use Rattle.definition_rules.specs.Compile.{Check, check, IsPlace, Least, Empty, AllEmpty, FirstFaultIs, Finding, clean, fault, leastOf, findingOf, firstFault, checks, Verdict, refused, table, verdictOf, verdict, recordsOfText}
+use mathlib.Core.Logic.{inl, inr}
+use Rattle.definition_rules.specs.Compile.{Check, check, IsPlace, Least, Empty, AllEmpty, FirstFaultIs, Finding, clean, fault, leastOf, findingOf, firstFault, checks, refused, table, verdictOf, verdict, recordsOfText}
 
 min-case : {X : Type 0} (p q : ℕ) → (min p q ≡ p → X) → (min p q ≡ q → X) → X
 min-case {X} p q f g = by (leb p q) refl

@@ -1,17 +1,16 @@
 -- T2, one way: what a tree prints to is read as the tree's declarations.
 use mathlib.Core.Path.{_≡_, refl, ap, sym, _∙_}
-use mathlib.Core.Bool.{Bool, true, false, not, _&&_, _||_}
-use mathlib.Core.List.{List, [], _∷_, _++_}
-use Prim.Native.Nat.{ℕ, zero, suc, _+_, _≤_, _<_}
+use mathlib.Core.Bool.{Bool, true, false}
+use mathlib.Core.List.{List, [], _∷_}
+use Prim.Native.Nat.{ℕ, suc, _+_}
 use native.Mathlib.Omega.{arith}
-use lib.Dec.{leb, eqb}
 use borrow.Author.Tests.{ne-eqb}
 use Rattle.classes.specs.Lists.{sameBytes, pick}
-use Rattle.definition_rules.specs.Words.{kwAs, kwPlugin, takesRange, isCompound, isReference}
+use Rattle.definition_rules.specs.Words.{isCompound}
 use Rattle.definition_rules.specs.Scan.{TextToken, run, mark}
 use Rattle.definition_rules.specs.Forms.{MaybeRun, absent, given, Tag, ownName, tagless, explicit, Heading, heading, typeRun, putRange, putCard, putTag, putPlugin, putHead, FormSort, parameter, fields, groups, tops, Form, plain, compound, noField, field, noGroup, group, lastTop, moreTops, printForm, Level, topLevel, fieldLevel, RangeAllowed, HeadAllowed, Allowed, Fits}
 use Rattle.reading_rules.specs.Record.{Up, top, under}
-use Rattle.definition_rules.specs.Declarations.{Declaration, declaration, countForm, declare, treeDeclarations, Spots, spotsOf, cardSpot, tagSpot, Noted, noted, BodyMode, inFields, groupOpened, inGroup, groupsClosed, Frame, frame, Stage, afterName, afterCard, afterTag, afterPlugin, Phase, atStart, dueSemicolon, afterType, dueRange, dueRangeEnd, dueName, inHeading, dueCard, dueTag, dueCardEnd, Action, stop, move, note, allow, withCard, withTag, withPlugin, takesField, takesClose, takesGroupEnd, isExtension, afterField, fieldDone, parentOf, isUnderExtension, isInBody, startRun, startMark, headingEnd, headingRun, headingMark, step, Outcome, stuckAt, complete, mapOutcome, endIf, atEnd, parseForms, parseTokens, declarationsOf}
+use Rattle.definition_rules.specs.Declarations.{Declaration, declaration, countForm, declare, treeDeclarations, Spots, spotsOf, cardSpot, tagSpot, Noted, noted, BodyMode, inFields, groupOpened, inGroup, groupsClosed, Frame, frame, Stage, afterName, afterCard, afterTag, afterPlugin, Phase, atStart, dueSemicolon, afterType, inHeading, stop, move, note, allow, withCard, withTag, withPlugin, takesField, takesClose, takesGroupEnd, isExtension, afterField, fieldDone, parentOf, isUnderExtension, isInBody, startRun, startMark, headingEnd, headingRun, headingMark, step, Outcome, stuckAt, complete, mapOutcome, endIf, atEnd, parseForms, parseTokens, declarationsOf}
 
 -- ---- steps
 

@@ -1,8 +1,8 @@
 -- T2: two trees that print to the same tokens are one.
-use mathlib.Core.Path.{_≡_, refl, ap, sym, _∙_}
+use mathlib.Core.Path.{_≡_, refl, ap, sym}
 use mathlib.Core.Bool.{Bool, true, false}
 use mathlib.Core.List.{List, [], _∷_}
-use Prim.Native.Nat.{ℕ, zero, suc}
+use Prim.Native.Nat.{ℕ}
 use native.Mathlib.Omega.{arith}
 use Rattle.definition_rules.specs.Words.{kwAs, kwPlugin}
 use Rattle.definition_rules.specs.Scan.{TextToken, run, mark}

@@ -1,15 +1,14 @@
 -- The scan, a law for each path that code takes: where a token, a gap or a bad byte stands first.
-use mathlib.Core.Path.{_≡_, refl, ap, sym, _∙_}
+use mathlib.Core.Path.{_≡_, refl, ap, _∙_}
 use mathlib.Core.Bool.{Bool, true, false}
 use mathlib.Core.List.{List, [], _∷_, _++_}
-use Prim.Native.Nat.{ℕ, zero, suc, _+_}
+use Prim.Native.Nat.{ℕ, suc, _+_}
 use native.Mathlib.Omega.{arith}
-use lib.Dec.{eqb}
 use lib.ListN.{length}
 use Rattle.classes.specs.Lists.{pick, All}
 use Rattle.classes.specs.Bytes.{isRunByte}
 use Rattle.definition_rules.specs.Words.{ByteClass, inRun, blank, single, slash, other, classOf}
-use Rattle.definition_rules.specs.Scan.{TextToken, run, mark, Item, gap, item, bad, outside, lineComment, opening, comment, star, joinRun, startsWith, scan, placeIf}
+use Rattle.definition_rules.specs.Scan.{run, mark, Item, gap, item, bad, outside, lineComment, opening, joinRun, startsWith, scan, placeIf}
 
 pub at-blank : (b p : ℕ) (s : List ℕ) → classOf b ≡ blank → scan outside p (b ∷ s) ≡ gap ∷ scan outside (suc p) s
 unfolding scan

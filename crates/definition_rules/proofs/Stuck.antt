@@ -1,17 +1,17 @@
 -- T3. The place of number 3: the first token with which no completion exists, or the end.
 use mathlib.Core.Path.{_≡_, refl, ap, subst, sym, _∙_}
-use mathlib.Core.Bool.{Bool, true, false, not, _&&_, _||_}
+use mathlib.Core.Bool.{Bool, true, false}
 use mathlib.Core.List.{List, [], _∷_, _++_, append-assoc}
-use Prim.Native.Nat.{ℕ, zero, suc, _+_, _≤_, _<_}
+use Prim.Native.Nat.{ℕ, suc, _+_, _<_}
 use native.Mathlib.Omega.{arith}
-use lib.Dec.{leb, eqb}
+use lib.Dec.{eqb}
 use lib.ListN.{length}
 use borrow.Author.Tests.{ne-eqb}
 use Rattle.classes.specs.Lists.{sameBytes, pick}
-use Rattle.definition_rules.specs.Words.{kwInt, numberIf, numberIn, kindOfRun, takesRange, isCompound, isReference}
+use Rattle.definition_rules.specs.Words.{kwInt, numberIf, numberIn, kindOfRun, isCompound, isReference}
 use Rattle.definition_rules.specs.Scan.{TextToken, run, mark}
-use Rattle.definition_rules.specs.Forms.{MaybeRun, absent, given, Tag, ownName, tagless, explicit, Heading, heading, typeRun, Fits, Viable, StuckBy, token, ending-due}
-use Rattle.definition_rules.specs.Declarations.{Declaration, declaration, Spots, spotsOf, cardSpot, tagSpot, Noted, noted, BodyMode, inFields, groupOpened, inGroup, groupsClosed, Frame, frame, Stage, afterName, afterCard, afterTag, afterPlugin, Phase, atStart, dueSemicolon, afterType, dueRange, dueRangeEnd, dueName, inHeading, dueCard, dueTag, dueCardEnd, Action, stop, move, note, allow, withCard, withTag, withPlugin, takesField, takesClose, takesGroupEnd, isExtension, afterField, fieldDone, parentOf, isUnderExtension, isInBody, startRun, startMark, headingEnd, headingRun, headingMark, step, Outcome, stuckAt, complete, mapOutcome, endIf, atEnd, parseForms, parseTokens}
+use Rattle.definition_rules.specs.Forms.{MaybeRun, absent, given, ownName, tagless, Heading, heading, typeRun, Fits, Viable, StuckBy, token, ending-due}
+use Rattle.definition_rules.specs.Declarations.{declaration, Spots, spotsOf, cardSpot, Noted, noted, inFields, groupOpened, inGroup, groupsClosed, Frame, frame, Stage, afterName, afterCard, afterTag, afterPlugin, Phase, atStart, dueSemicolon, afterType, dueRange, dueRangeEnd, dueName, inHeading, dueCard, dueTag, dueCardEnd, Action, stop, move, note, allow, withCard, withTag, takesField, takesClose, takesGroupEnd, isExtension, afterField, fieldDone, parentOf, isUnderExtension, startRun, startMark, headingEnd, headingMark, step, Outcome, stuckAt, complete, mapOutcome, endIf, atEnd, parseForms, parseTokens}
 use mathlib.Core.Logic.{_⊎_, inl, inr}
 use Rattle.definition_rules.proofs.FormComplete.{parse-move, parse-note, parse-stop, fits-complete}
 use Rattle.definition_rules.proofs.FormSound.{stuck-complete, complete-fits}
@@ -213,9 +213,6 @@ halt-at ps r t more e = r .goes (t ∷ more) ∙ (ap (mapOutcome (r .before)) (p
 -- ps read so far, ts still to read
 stuck-number : {i j : ℕ} → _≡_ {A = Outcome (List Noted)} (stuckAt i) (stuckAt j) → i ≡ j
 stuck-number e = cc
-
-next-reached : (ps : List TextToken) (t : TextToken) → Viable (ps ++ (t ∷ [])) → Start (ps ++ (t ∷ []))
-next-reached ps t v = viable-reached (ps ++ (t ∷ [])) v (λ r. r)
 
 pub data Fate (ps : List TextToken) (ts : List TextToken) : Type 0 where
   stops : (qs : List TextToken) (t : TextToken) (more : List TextToken) (r : Start qs) → ps ++ ts ≡ qs ++ (t ∷ more) → step (r .stack) (r .count) (0 + length qs) (r .phase) t ≡ stop → Fate ps ts

@@ -1,21 +1,20 @@
 -- What the definitions mean, in the papers' words. Each statement names its proof.
 use mathlib.Core.Path.{_≡_, refl, ap, sym, _∙_}
-use mathlib.Core.Bool.{Bool, true, false}
-use mathlib.Core.List.{List, [], _∷_, _++_}
+use mathlib.Core.Bool.{Bool, false}
+use mathlib.Core.List.{List, [], _++_}
 use mathlib.Core.Logic.{_↔_}
-use Prim.Native.Nat.{ℕ, zero, suc, _≤_, _<_}
-use native.Mathlib.Omega.{arith}
+use Prim.Native.Nat.{ℕ, _≤_, _<_}
 use lib.Dec.{ltb}
 use lib.ListN.{length, drop}
-use borrow.Author.Tests.{ltb-true, ltb-false, lt-ltb, le-ltb}
+use borrow.Author.Tests.{lt-ltb, le-ltb}
 use Rattle.classes.specs.Bytes.{Byte}
 use Rattle.classes.specs.Lists.{pick, All}
 use Rattle.definition_rules.specs.Scan.{TextToken}
 use Rattle.definition_rules.specs.Forms.{tops, Form, printForm, Fits, StuckBy}
 use Rattle.reading_rules.specs.Record.{Record}
 use Rattle.definition_rules.specs.Declarations.{Noted, complete, stuckAt, parseTokens, declarationsOf, treeDeclarations}
-use Rattle.definition_rules.specs.Table.{Maybe, just, encode, decode, Storable}
-use Rattle.definition_rules.specs.Compile.{checks, Verdict, refused, table, verdict, CompileAnswer, compiled, refusal, answerWithRoom, compileAnswer, lentAfter, tableAfter, FirstFaultIs}
+use Rattle.definition_rules.specs.Table.{just, encode, decode, Storable}
+use Rattle.definition_rules.specs.Compile.{checks, refused, table, verdict, compiled, refusal, answerWithRoom, compileAnswer, lentAfter, tableAfter, FirstFaultIs}
 use Rattle.definition_rules.proofs.TableLaws.{decode-encode, encode-decode}
 use Rattle.definition_rules.proofs.FirstFault.{refused-found, found-refused}
 use Rattle.definition_rules.proofs.FormComplete.{fits-complete}

@@ -1,10 +1,9 @@
 -- The checks in their order, the answer, and the lent table after.
 use mathlib.Core.Path.{_≡_}
-use mathlib.Core.Bool.{Bool, true, false}
 use mathlib.Core.List.{List, [], _∷_, _++_}
 use mathlib.Core.Logic.{_⊎_}
-use Prim.Native.Nat.{ℕ, zero, suc, _+_, _≤_, min}
-use lib.Dec.{leb, ltb, eqb}
+use Prim.Native.Nat.{ℕ, _≤_, min}
+use lib.Dec.{ltb}
 use lib.ListN.{length, drop, getD}
 use Rattle.numbers.specs.Limits.{textLimit, parameterLimit}
 use Rattle.classes.specs.Lists.{pick}

@@ -1,15 +1,13 @@
 -- The declarations: the flat list of parameters in order of names, read off the tokens by an automaton
 -- with a stack, and told by a tree.
-use mathlib.Core.Path.{_≡_}
-use mathlib.Core.Bool.{Bool, true, false, not, _&&_, _||_}
-use mathlib.Core.List.{List, [], _∷_, _++_}
-use Prim.Native.Nat.{ℕ, zero, suc, _+_}
-use lib.Dec.{leb, eqb}
-use lib.ListN.{length}
+use mathlib.Core.Bool.{Bool, true, false, not, _&&_}
+use mathlib.Core.List.{List, [], _∷_}
+use Prim.Native.Nat.{ℕ, suc, _+_}
+use lib.Dec.{eqb}
 use Rattle.classes.specs.Lists.{sameBytes, pick}
 use Rattle.definition_rules.specs.Words.{kwAs, kwPlugin, takesRange, isCompound, isReference}
 use Rattle.definition_rules.specs.Scan.{TextToken, run, mark}
-use Rattle.definition_rules.specs.Forms.{MaybeRun, absent, given, Tag, ownName, tagless, explicit, Heading, heading, typeRun, FormSort, parameter, fields, groups, tops, Form, plain, compound, noField, field, noGroup, group, lastTop, moreTops}
+use Rattle.definition_rules.specs.Forms.{MaybeRun, absent, given, Tag, ownName, tagless, explicit, Heading, heading, typeRun, FormSort, tops, Form, plain, compound, noField, field, noGroup, group, lastTop, moreTops}
 use Rattle.reading_rules.specs.Record.{Up, top, under}
 
 -- parent, directly in an extension, heading

@@ -12,7 +12,7 @@ use Rattle.classes.specs.Lists.{pick, sameBytes}
 use Rattle.reading_rules.specs.Record.{Record, Up, top, under, recordAt, isTop, sameUp}
 use Rattle.definition_rules.specs.Words.{kindOfRun, isReference, nameForm, tagForm, hasDot}
 use Rattle.definition_rules.specs.Scan.{placeIf}
-use Rattle.definition_rules.specs.Forms.{MaybeRun, absent, given, Tag, ownName, tagless, explicit, Heading, heading}
+use Rattle.definition_rules.specs.Forms.{MaybeRun, absent, given, Tag, ownName, tagless, explicit, heading}
 use Rattle.definition_rules.specs.Declarations.{Declaration, declaration, Spots, Noted, noted, declarationsOf}
 use Rattle.definition_rules.specs.Records.{kindLeast, kindMost, limitsOf, countRangeOf, topNames, findTop, orNone}
 use Rattle.definition_rules.specs.Finite.{finites, isEndless}

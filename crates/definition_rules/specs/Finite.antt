@@ -3,11 +3,11 @@ use mathlib.Core.Path.{_≡_}
 use mathlib.Core.Bool.{Bool, true, false, not, _&&_, _||_}
 use mathlib.Core.List.{List, [], _∷_}
 use Prim.Native.Nat.{ℕ, zero, suc}
-use lib.Dec.{leb, eqb}
+use lib.Dec.{eqb}
 use lib.ListN.{length, getD, replicate}
 use Rattle.classes.specs.Lists.{pick}
 use Rattle.definition_rules.specs.Words.{kindIsCompound}
-use Rattle.reading_rules.specs.Record.{Record, Up, top, under, recordAt}
+use Rattle.reading_rules.specs.Record.{Record}
 use Rattle.reading_rules.specs.Schema.{isUnder}
 
 -- "It can do without a field whose lo is 0, a field directly in an extension or a plugin field"

@@ -1,14 +1,14 @@
 -- "One record for each parameter, in order of names in the text and numbered from 0": a declaration's record.
 use mathlib.Core.Bool.{Bool, true, false}
 use mathlib.Core.List.{List, [], _∷_}
-use Prim.Native.Nat.{ℕ, zero, suc, _+_}
+use Prim.Native.Nat.{ℕ, suc, _+_}
 use lib.Dec.{eqb}
 use Rattle.numbers.specs.Limits.{none16, bias, intMost, lengthLimit}
 use Rattle.numbers.specs.Range.{MaybeNumber, unread, number, MaybeRange, range, lowOf, highOf, readIntRange, readCountRange}
 use Rattle.classes.specs.Lists.{pick, sameBytes}
-use Rattle.reading_rules.specs.Record.{Record, Up, top, under}
+use Rattle.reading_rules.specs.Record.{Record, top, under}
 use Rattle.definition_rules.specs.Words.{kindOfRun, kindTakesRange}
-use Rattle.definition_rules.specs.Forms.{MaybeRun, absent, given, Tag, ownName, tagless, explicit, Heading, heading}
+use Rattle.definition_rules.specs.Forms.{MaybeRun, absent, given, Tag, ownName, tagless, explicit, heading}
 use Rattle.definition_rules.specs.Declarations.{Declaration, declaration}
 
 -- "Ints: .. also the default. Lengths: .. also the defaults." "lo and hi are 0 for kinds without a range"

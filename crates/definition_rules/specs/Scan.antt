@@ -1,11 +1,11 @@
 -- The definition's text as items: tokens with their places, bad bytes, gaps.
-use mathlib.Core.Bool.{Bool, true, false, not, _&&_, _||_}
-use mathlib.Core.List.{List, [], _∷_, _++_}
-use Prim.Native.Nat.{ℕ, zero, suc, _+_, _-_}
-use lib.Dec.{leb, ltb, eqb}
+use mathlib.Core.Bool.{Bool, true, false, _&&_}
+use mathlib.Core.List.{List, [], _∷_}
+use Prim.Native.Nat.{ℕ, suc, _-_}
+use lib.Dec.{leb, eqb}
 use Rattle.numbers.specs.Limits.{depthLimit}
 use Rattle.classes.specs.Lists.{pick}
-use Rattle.definition_rules.specs.Words.{ByteClass, inRun, blank, single, slash, other, classOf}
+use Rattle.definition_rules.specs.Words.{inRun, blank, single, slash, other, classOf}
 
 -- "A run is the longest row of letters, digits, .. Other tokens are the single bytes `< > [ ] { } ; ?`."
 pub data TextToken : Type 0 where

@@ -1,7 +1,7 @@
 -- Runs: the class of a byte, keywords, the forms of names and tags.
 use mathlib.Core.Bool.{Bool, true, false, not, _&&_, _||_}
 use mathlib.Core.List.{List, [], _∷_}
-use Prim.Native.Nat.{ℕ, zero, suc}
+use Prim.Native.Nat.{ℕ, suc}
 use lib.Dec.{leb, ltb, eqb}
 use lib.ListN.{length}
 use Rattle.classes.specs.Lists.{every, some, notEmpty, sameBytes}

@@ -2,20 +2,18 @@
 use mathlib.Core.Path.{_≡_, refl, ap, sym, _∙_}
 use mathlib.Core.Bool.{Bool, true, false, _&&_}
 use mathlib.Core.List.{List, [], _∷_, _++_}
-use Prim.Native.Nat.{ℕ, zero, suc, _+_, _-_, _≤_, _<_, min}
+use Prim.Native.Nat.{ℕ, suc, _-_, _≤_, min}
 use native.Mathlib.Omega.{arith}
 use lib.Dec.{eqb, leb}
-use lib.ListN.{length}
 use borrow.Author.Tests.{leb-false}
 use Rattle.numbers.specs.Limits.{depthLimit}
 use Rattle.classes.specs.Lists.{pick, All}
-use Rattle.definition_rules.specs.Scan.{Item, item, bad, mark, badPlaces, deepPlaces, placeIf, isDeepBrace, bracesAfter, itemsOf}
+use Rattle.definition_rules.specs.Scan.{badPlaces, deepPlaces, placeIf, isDeepBrace, bracesAfter, itemsOf}
 use Rattle.definition_rules.specs.Compile.{leastOf, faults2}
 use Rattle.definition_scanner.specs.Live.{liveFrom}
 use Rattle.definition_scanner.specs.Lexed.{RunAt, MarkAt, BadAt}
 use Rattle.definition_scanner.specs.First.{faultsFrom}
 use Rattle.definition_cells.specs.Places.{leastPlace}
-use Rattle.definition_cells.specs.declared.Place.{Place}
 use Rattle.definition_cells.specs.declared.Place.the-variants.{Nowhere, At}
 use Rattle.definition_scanner.proofs.LiveLaws.{bad-live, deep-live, live-ahead, AtLeast, ahead-bad, ahead-deep}
 

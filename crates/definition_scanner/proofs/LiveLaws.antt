@@ -1,14 +1,14 @@
 -- What the items keep when the gaps go, and that places only rise.
-use mathlib.Core.Path.{_≡_, refl, ap, sym, _∙_}
+use mathlib.Core.Path.{_≡_, refl, ap}
 use mathlib.Core.Bool.{Bool, true, false}
-use mathlib.Core.List.{List, [], _∷_, _++_}
-use Prim.Native.Nat.{ℕ, zero, suc, _+_, _≤_, _<_}
+use mathlib.Core.List.{List, [], _∷_}
+use Prim.Native.Nat.{ℕ, suc, _≤_}
 use native.Mathlib.Omega.{arith}
 use lib.Dec.{eqb}
-use lib.ListN.{length, drop}
+use lib.ListN.{drop}
 use Rattle.classes.specs.Lists.{pick, All}
 use Rattle.definition_rules.specs.Words.{ByteClass, inRun, blank, single, slash, other, classOf}
-use Rattle.definition_rules.specs.Scan.{TextToken, run, mark, Item, gap, item, bad, ScanState, outside, lineComment, opening, comment, star, joinRun, startsWith, scan, badPlaces, isDeepBrace, bracesAfter, placeIf, deepPlaces, textTokensOf, placesOf}
+use Rattle.definition_rules.specs.Scan.{run, mark, Item, gap, item, bad, ScanState, outside, lineComment, opening, comment, star, joinRun, startsWith, scan, badPlaces, isDeepBrace, bracesAfter, placeIf, deepPlaces, textTokensOf, placesOf}
 use Rattle.definition_rules.proofs.ScanLaws.{at-blank, at-single, at-other, at-slash, at-run}
 use Rattle.definition_scanner.specs.Live.{live, liveFrom, Ahead}
 

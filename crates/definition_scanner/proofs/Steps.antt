@@ -1,26 +1,26 @@
 -- The scan at a place of a text, a law for each path of the cursor.
-use mathlib.Core.Path.{_≡_, refl, ap, sym, subst, _∙_}
+use mathlib.Core.Path.{_≡_, refl, ap, sym, _∙_}
 use mathlib.Core.Bool.{Bool, true, false, _&&_}
 use mathlib.Core.List.{List, [], _∷_, _++_}
-use Prim.Native.Nat.{ℕ, zero, suc, _+_, _-_, _≤_, _<_}
+use Prim.Native.Nat.{ℕ, suc, _+_, _-_, _≤_, _<_}
 use native.Mathlib.Numerals.{add-one}
 use native.Mathlib.Omega.{arith}
 use lib.Dec.{eqb}
-use lib.ListN.{length, getD, take, drop, length-drop, length-take, drop-of-length-le, take-append-drop}
-use lib.Seq.{drop-cons, drop-drop, take-all, length-take-le}
+use lib.ListN.{length, getD, take, drop, length-drop, drop-of-length-le, take-append-drop}
+use lib.Seq.{drop-cons, drop-drop, length-take-le}
 use borrow.Author.Tests.{eq-eqb, ne-eqb}
 use Rattle.classes.specs.Lists.{pick, runOf, All, part}
 use Rattle.classes.specs.Bytes.{isRunByte, isBlank, isMark}
 use Rattle.classes.proofs.Rows.{run-within}
-use Rattle.definition_rules.specs.Words.{ByteClass, inRun, blank, single, slash, other, classOf}
-use Rattle.definition_rules.specs.Scan.{run, mark, Item, gap, item, bad, outside, lineComment, opening, comment, star, startsWith, scan}
+use Rattle.definition_rules.specs.Words.{inRun, blank, single, slash, other, classOf}
+use Rattle.definition_rules.specs.Scan.{run, gap, item, bad, outside, lineComment, opening, comment, star, startsWith, scan}
 use Rattle.definition_rules.proofs.ScanLaws.{at-blank, at-single, at-other, at-slash, at-longest-run, StartsNoRun, class-run}
 use Rattle.definition_scanner.specs.Live.{live, liveFrom, Ahead}
 use Rattle.definition_scanner.specs.Lexed.{LineEnded, CommentEnded, RunAt, MarkAt, BadAt, Lexed, Passed, LexTurned}
 use Rattle.definition_scanner.specs.declared.Lexeme.{Lexeme}
 use Rattle.definition_scanner.specs.declared.Lexeme.the-variants.{Run, Mark, Bad, End}
 use Rattle.definition_scanner.specs.declared.Turn.{Turn}
-use Rattle.definition_scanner.specs.declared.Turn.the-variants.{On, Out}
+use Rattle.definition_scanner.specs.declared.Turn.the-variants.{Out}
 use Rattle.definition_scanner.proofs.LiveLaws.{live-ahead}
 
 -- ---- what a byte begins

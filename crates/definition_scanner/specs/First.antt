@@ -1,9 +1,9 @@
 -- The place of refusal 2, and what the search for it promises of a token.
 use mathlib.Core.Path.{_≡_}
-use mathlib.Core.List.{List, [], _∷_, _++_}
+use mathlib.Core.List.{List, _++_}
 use Prim.Native.Nat.{ℕ, _≤_, _<_}
 use lib.ListN.{length}
-use Rattle.definition_rules.specs.Scan.{Item, badPlaces, deepPlaces}
+use Rattle.definition_rules.specs.Scan.{badPlaces, deepPlaces}
 use Rattle.definition_scanner.specs.Live.{liveFrom}
 use Rattle.definition_cells.specs.Places.{leastPlace}
 use Rattle.definition_scanner.specs.declared.Step.{Step}

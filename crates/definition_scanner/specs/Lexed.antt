@@ -1,13 +1,13 @@
 -- What the cursor promises of a token: it is the first of the items from where it stood, and where the next ones begin.
 use mathlib.Core.Path.{_≡_}
 use mathlib.Core.List.{List, [], _∷_}
-use Prim.Native.Nat.{ℕ, suc, _+_, _≤_, _<_}
+use Prim.Native.Nat.{ℕ, suc, _≤_, _<_}
 use lib.ListN.{length, drop}
 use mathlib.Core.Bool.{true}
 use Rattle.classes.specs.Lists.{part}
 use Rattle.classes.specs.Bytes.{isMark}
 use Rattle.definition_rules.specs.Scan.{Item, item, bad, run, mark, outside, lineComment, comment, scan}
-use Rattle.definition_scanner.specs.Live.{live, liveFrom, Ahead}
+use Rattle.definition_scanner.specs.Live.{liveFrom, Ahead}
 use Rattle.definition_scanner.specs.declared.Lexeme.{Lexeme}
 use Rattle.definition_scanner.specs.declared.Lexeme.the-variants.{Run, Mark, Bad, End}
 use Rattle.definition_scanner.specs.declared.Turn.{Turn}

@@ -1,17 +1,17 @@
 -- Steps of the questions about a run, said of plain lists.
-use Prim.Native.Nat.{ℕ, suc, _+_, _≤_, _<_}
-use mathlib.Core.Bool.{Bool, true, false, not, _&&_, _||_}
+use Prim.Native.Nat.{ℕ, _+_, _≤_, _<_}
+use mathlib.Core.Bool.{Bool, true, false}
 use mathlib.Core.List.{List, [], _∷_}
-use mathlib.Core.Path.{_≡_, refl, sym, ap, _∙_}
+use mathlib.Core.Path.{_≡_, refl, sym}
 use native.Mathlib.Numerals.{add-one}
 use native.Mathlib.Omega.{arith}
 use borrow.Author.Tests.{eq-eqb, ne-eqb, eqb-true, eqb-false, le-leb, lt-leb}
 use lib.Dec.{eqb}
 use lib.ListN.{length, getD, drop, drop-of-length-le}
 use lib.Seq.{drop-cons}
-use Rattle.classes.specs.Lists.{every, some, notEmpty, sameBytes, pick}
+use Rattle.classes.specs.Lists.{some, notEmpty, sameBytes, pick}
 use Rattle.classes.specs.Bytes.{isLetter}
-use Rattle.definition_rules.specs.Words.{startsWithLetter, hasDot, kindTakesRange}
+use Rattle.definition_rules.specs.Words.{startsWithLetter, kindTakesRange}
 use Rattle.definition_rules.specs.Records.{kindLeast, kindMost}
 
 -- ---- a byte that some byte of a row is

@@ -1,5 +1,5 @@
 -- The declarations that a row of tokens tells stand after those whose bodies they are in, and so do their records. Assumes nothing.
-use mathlib.Core.Path.{_≡_, refl, ap, subst, sym, _∙_}
+use mathlib.Core.Path.{_≡_, refl, subst, sym, _∙_}
 use mathlib.Core.Bool.{Bool, true, false}
 use mathlib.Core.List.{List, [], _∷_}
 use Prim.Native.Nat.{ℕ, zero, suc, _+_, _<_, _≤_}
@@ -10,10 +10,10 @@ use lib.ListN.{length}
 use borrow.Author.Tests.{eqb-true}
 use Rattle.classes.specs.Lists.{pick}
 use Rattle.numbers.specs.Limits.{none16}
-use Rattle.reading_rules.specs.Record.{Record, Up, top, under, recordAt, Before, AfterParents}
+use Rattle.reading_rules.specs.Record.{Up, top, under, recordAt, Before, AfterParents}
 use Rattle.definition_rules.specs.Scan.{TextToken}
 use Rattle.definition_rules.specs.Forms.{MaybeRun, FormSort, tops, Form, plain, compound, noField, field, noGroup, group, lastTop, moreTops}
-use Rattle.definition_rules.specs.Declarations.{Declaration, declaration, Noted, noted, countForm, declare, treeDeclarations, complete, parseTokens, declarationsOf}
+use Rattle.definition_rules.specs.Declarations.{Declaration, declaration, Noted, countForm, declare, treeDeclarations, complete, parseTokens, declarationsOf}
 use Rattle.definition_rules.specs.Records.{recordFor, recordsFor, recordsOf, topNames}
 use Rattle.definition_rules.specs.Table.{numberUp}
 use Rattle.definition_rules.proofs.FormSound.{complete-fits}

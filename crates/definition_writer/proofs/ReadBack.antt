@@ -16,7 +16,7 @@ use Rattle.definition_rules.specs.Records.{topNames, recordsFor, recordsOf}
 use Rattle.definition_cells.specs.Cells.{notedAt, notedFrom}
 use Rattle.definition_rules.specs.Table.{upNumber, bit, flagsNumber, encodeRecord, encode, just, decode}
 use Rattle.definition_rules.proofs.TableLaws.{decode-encode}
-use Rattle.definition_writer.specs.Written.{recordsWritten, low16, cutBytes, encodeCut, WroteRecords}
+use Rattle.definition_writer.specs.Written.{recordsWritten, cutBytes, encodeCut, WroteRecords}
 use Rattle.definition_writer.proofs.WriteLaws.{sets-front, encode-length}
 use Rattle.definition_writer.proofs.Widths.{Fit, Narrow, all-narrow, all-storable}
 

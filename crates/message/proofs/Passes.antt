@@ -1,44 +1,38 @@
 -- The two passes, the room, and a row's bytes, said of plain lists.
-use mathlib.Core.Path.{_≡_, refl, sym, ap, subst, _∙_}
-use mathlib.Core.Bool.{Bool, true, false, _&&_}
+use mathlib.Core.Path.{_≡_, refl, sym, ap, _∙_}
+use mathlib.Core.Bool.{true, false}
 use mathlib.Core.List.{List, [], _∷_, _++_}
-use Prim.Native.Nat.{ℕ, zero, suc, _+_, _-_, _*_, _/_, _%_, _≤_, _<_}
+use Prim.Native.Nat.{ℕ, _+_, _-_, _*_, _/_, _%_, _≤_, _<_}
 use native.Mathlib.Nat.{zero-add, div-add-mod', mod-lt}
 use native.Mathlib.Omega.{arith}
-use lib.Dec.{leb}
-use lib.ListN.{length, take, drop, getD}
-use lib.Seq.{sets, sets-eq, length-sets}
+use lib.ListN.{length, take, drop}
+use lib.Seq.{sets, sets-eq}
 use borrow.Author.Tests.{le-leb, lt-leb}
 use Rattle.numbers.specs.Limits.{messageLimit, openLimit, rowWidth, noRow, parameterLimit}
-use Rattle.reading_rules.specs.Schema.{schemaOf, Found, nowhere, found}
-use Rattle.reading_rules.specs.Reading.{Tree, body}
+use Rattle.reading_rules.specs.Schema.{schemaOf}
 use Rattle.table_records.specs.Stored.{recordsAt}
 use Rattle.message_rules.specs.RowBytes.{rowFrom, rowTo, rowLies, rowBytes, rowStart}
 use Rattle.message_rules.specs.Scan.{cut, scanFault, tokensOf}
-use Rattle.message_rules.specs.Scan.{Lexeme as Lex}
-use Rattle.reading_rules.specs.Parse.{Result, refused, bodyAt, parse}
+use Rattle.reading_rules.specs.Parse.{bodyAt, parse}
 use Rattle.reading_rules.specs.Parse as parser
-use Rattle.message_rules.specs.Rows.{Row, rowCount, rowsOf, messageRows, cells}
-use Rattle.message_rules.specs.Verdict.{RoomFree, fault, rows, outcome, placeOfLeft, afterScan, roomFree, MessageAnswer, accepted, refusal, withRoom, written}
-use Rattle.message_rules.proofs.RowLaws.{message-counted, cells-counted, rows-counted}
-use Rattle.message_tokens.specs.Cursor.{cutAt, lexemesAt}
+use Rattle.message_rules.specs.Rows.{Row, rowsOf, messageRows, cells}
+use Rattle.message_rules.specs.Verdict.{RoomFree, fault, rows, outcome, placeOfLeft, afterScan, roomFree, accepted, refusal, withRoom, written}
+use Rattle.message_rules.proofs.RowLaws.{message-counted, cells-counted}
+use Rattle.message_tokens.specs.Cursor.{lexemesAt}
 use Rattle.message_tokens.specs.Scanned.{faultOf}
 use Rattle.message_tokens.specs.declared.Scanned.{Scanned}
 use Rattle.message_tokens.specs.declared.Scanned.the-variants.{Clean, Fault}
 use Rattle.message_tokens.proofs.CutAt.{cut-start}
-use Rattle.message_unknown.specs.Along.{Stopped}
 use Rattle.message_unknown.proofs.AlongLaws.{place-left}
 use Rattle.message_rows.proofs.Stores.{rows-append}
 use Rattle.table_tags.specs.Lists.{Linked}
 use Rattle.message_lookup.specs.Questions.{schemaAt}
 use Rattle.message_lookup.proofs.Laws.{schema-is}
-use Rattle.message_frame.specs.declared.Frame.{Frame}
 use Rattle.message_frame.specs.declared.Got.{Got}
 use Rattle.message_frame.specs.declared.Got.the-variants as got
-use Rattle.message_frame.specs.Ends.{Room, Ended, Ends}
-use Rattle.message.specs.Reads.{answerOfRead, rootFrame, reading, Rows, RowsCounted, Fills}
-use Rattle.message.specs.declared.Verdict.{Verdict}
-use Rattle.message.specs.declared.Verdict.the-variants.{Accepted, Refused}
+use Rattle.message_frame.specs.Ends.{Room, Ends}
+use Rattle.message.specs.Reads.{rootFrame, reading, Rows, RowsCounted, Fills}
+use Rattle.message.specs.declared.Verdict.the-variants.{Refused}
 
 -- ---- a row's bytes
 row-there : (len row : ℕ) → row < len / 4 → 4 * row + 4 ≤ len
@@ -68,9 +62,6 @@ module _ (m lent : List ℕ) (row : ℕ) where
 
   pub bytes-there : row < length lent / 4 → rowFrom lent row ≤ rowTo lent row → rowTo lent row ≤ length m → (take (rowTo lent row - rowFrom lent row) (drop (rowFrom lent row) m) ≡ rowBytes m lent row) × (rowFrom lent row ≡ rowStart m lent row)
   bytes-there h e f = lying (rw (le-leb (4 * row + 4) (length lent) (row-there (length lent) row h), le-leb (rowFrom lent row) (rowTo lent row) e, le-leb (rowTo lent row) (length m) f) refl)
-
-  pub bytes-within : row < length lent / 4 → 4 * row + 4 ≤ length lent
-  bytes-within h = row-there (length lent) row h
 
 -- ---- the passes
 pub root-room : (n len : ℕ) → len ≤ messageLimit → n ≤ parameterLimit → Room rootFrame len n

@@ -1,26 +1,16 @@
 -- Number 20, and what the reader's answer promises.
-use mathlib.Core.Path.{_≡_, refl, ap, sym, _∙_, subst}
-use mathlib.Core.Bool.{Bool, true, false}
-use mathlib.Core.List.{List, [], _∷_}
-use Prim.Native.Nat.{ℕ, _^_, _≤_, _<_}
-use native.Mathlib.Omega.{arith}
-use lib.Dec.{leb}
+use mathlib.Core.Path.{_≡_, ap, sym, _∙_, subst}
+use mathlib.Core.Bool.{true, false}
+use mathlib.Core.List.{List}
+use Prim.Native.Nat.{ℕ, _^_, _<_}
 use lib.ListN.{length, getD}
-use borrow.Author.Tests.{leb-true}
-use Rattle.classes.specs.Bytes.{IsBytes}
 use Rattle.numbers.specs.Limits.{parameterLimit}
-use Rattle.reading_rules.specs.Record.{Record}
-use Rattle.reading_rules.proofs.CountLaws.{clash-bool, and-both}
-use Rattle.definition_rules.specs.Table.{Maybe, none, just, decode}
-use Rattle.table_rules.specs.RecordRules.{recordRules, tableRules}
-use Rattle.table_rules.proofs.Theorems.{bytes-records}
-use Rattle.message_rules.specs.Verdict.{MessageAnswer, accepted, refusal, RoomFree, withRoom, written, roomFree, orEmpty, recordsIn, readWith, rowsWith, readAnswer, rowsAfter}
+use Rattle.table_rules.specs.RecordRules.{tableRules}
+use Rattle.message_rules.specs.Verdict.{MessageAnswer, refusal, withRoom, written, roomFree, orEmpty, recordsIn, readWith, rowsWith, readAnswer, rowsAfter}
 use Rattle.message_rules.specs.Promise.{ReadPromise}
 use Rattle.message_rules.proofs.Compiled.{read-promise}
 use Rattle.table_records.specs.Stored.{recordsAt}
-use Rattle.table_walk.specs.declared.Walk.{Walk}
-use Rattle.table_walk.specs.declared.Walk.the-variants.{Count, Bad}
-use Rattle.table_walk.specs.Walked.{RecordsCounted, Uncounted, Walked}
+use Rattle.table_walk.specs.Walked.{RecordsCounted}
 
 -- ---- 20
 

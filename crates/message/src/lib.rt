@@ -1,15 +1,14 @@
 // A message read by a compiled table, and a row's bytes.
 ghost use mathlib.Core.Path.{_≡_};
-ghost use mathlib.Core.List.{List, []};
+ghost use mathlib.Core.List.{[]};
 ghost use Prim.Native.Nat.{_≤_, _<_};
 ghost use lib.ListN.{length};
-ghost use lib.Seq.{sets};
 ghost use Rattle.numbers.specs.Limits.{messageLimit, parameterLimit};
 ghost use Rattle.table_records.specs.Stored.{recordsAt};
 ghost use Rattle.table_tags.specs.Lists.{Linked};
 ghost use Rattle.table_walk.specs.Walked.{Enough};
 ghost use Rattle.message_rules.specs.RowBytes.{rowBytes, rowStart, further};
-ghost use Rattle.message_rules.specs.Rows.{Row, cells};
+ghost use Rattle.message_rules.specs.Rows.{Row};
 ghost use Rattle.message_rules.specs.Verdict.{roomFree, withRoom, written, readAnswer, rowsAfter};
 ghost use Rattle.message_rules.specs.Promise.{ReadPromise};
 ghost use Rattle.message.specs.Reads.{answerOfRead, rootFrame, reading, RowsCounted, Fills};

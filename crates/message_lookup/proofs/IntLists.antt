@@ -8,19 +8,18 @@ use lib.Dec.{eqb, leb}
 use borrow.Author.Tests.{le-leb, leb-true, lt-ltb, eqb-true}
 use Rattle.numbers.specs.Limits.{bias, noLimit}
 use Rattle.numbers.specs.Decimal.{numberOf, isNatural, isInt}
-use Rattle.numbers.specs.Packed.{Packed, packedLimit, PackedBound}
+use Rattle.numbers.specs.Packed.{PackedBound}
 use Rattle.numbers.proofs.Digits.{int-plain, within-number, natural-first}
 use Rattle.reading_rules.specs.Token.{word}
 use Rattle.reading_rules.specs.Record.{Record}
 use Rattle.reading_rules.specs.Schema.{Schema, schemaOf, kindOf, simple}
-use Rattle.reading_rules.specs.Value.{formThenRange, valueNumber}
+use Rattle.reading_rules.specs.Value.{valueNumber}
 use Rattle.reading_rules.specs.Parse.{mayGrow}
 use Rattle.reading_rules.proofs.CountLaws.{clash-bool, and-both}
 use Rattle.table_records.specs.Stored.{recordIn}
-use Rattle.message_lookup.specs.Questions.{withFind, schemaAt, nth, intLies}
+use Rattle.message_lookup.specs.Questions.{withFind, schemaAt, intLies}
 use Rattle.message_lookup.specs.IntList.{IntsOf}
-use Rattle.message_lookup.specs.declared.Ints.{Ints}
-use Rattle.message_lookup.proofs.Steps.{here, kind-simple}
+use Rattle.message_lookup.proofs.Steps.{here}
 use Rattle.message_lookup.proofs.Judging.{form-and-range, value-int}
 
 natural-int : (r : Record) (w : List ℕ) → r .kind ≡ 3 → isNatural w ≡ true → r .least ≤ bias + numberOf w → bias + numberOf w ≤ r .most → 0 ≡ valueNumber r (word w)

@@ -8,7 +8,7 @@ use borrow.Author.Tests.{ne-eqb}
 use lib.Dec.{eqb}
 use lib.ListN.{drop}
 use Rattle.reading_rules.specs.Record.{Record, blank}
-use Rattle.reading_rules.specs.Schema.{Kind, void, simple, struct, union, reference, Found, nowhere, found, schemaOf, first, numbersWhere, isTaggedAs, isVoid, kindOf, coreOf}
+use Rattle.reading_rules.specs.Schema.{Kind, void, simple, struct, union, reference, Found, nowhere, found, first, numbersWhere, isVoid, kindOf, coreOf}
 use Rattle.reading_rules.proofs.CountLaws.{clash-bool}
 use Rattle.table_records.specs.Stored.{recordIn, recordsFrom, recordsAt}
 use Rattle.table_records.proofs.Laws.{record-at, record-past, records-left, records-more, records-end, records-all}

@@ -7,7 +7,7 @@ ghost use lib.ListN.{length, set};
 ghost use Rattle.classes.specs.Bytes.{between};
 ghost use Rattle.numbers.specs.Limits.{bias};
 ghost use Rattle.reading_rules.specs.Value.{isBool, formThenRange};
-ghost use Rattle.reading_rules.specs.Schema.{isVoid, isUntaggedOf, isTaggedOf, isTaggedAs, first};
+ghost use Rattle.reading_rules.specs.Schema.{isVoid, isUntaggedOf, isTaggedOf, first};
 ghost use Rattle.reading_rules.specs.Parse.{mayGrow};
 ghost use Rattle.table_records.specs.Stored.{recordIn, recordsAt};
 ghost use Rattle.table_tags.specs.Lists.{foundOf};

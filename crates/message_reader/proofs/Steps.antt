@@ -12,7 +12,7 @@ use Rattle.numbers.specs.Limits.{rowWidth}
 use Rattle.reading_rules.specs.Token.{Token, word, equals, comma, opening, closing}
 use Rattle.reading_rules.specs.Schema.{Schema}
 use Rattle.reading_rules.specs.Schema as schema
-use Rattle.reading_rules.specs.Reading.{TreeSort, value, list, body, items, Tree, braced, last, more, listed, stopped, itemized, noItem, voidItem, listItem}
+use Rattle.reading_rules.specs.Reading.{TreeSort, value, list, body, Tree, braced, last, more, listed, stopped, itemized, noItem, voidItem, listItem}
 use Rattle.message_rules.specs.Scan.{lexeme, tokensOf}
 use Rattle.message_rules.specs.Scan.{Lexeme as Lex}
 use Rattle.reading_rules.specs.Parse.{Result, refused, got, then, need, shut, structAt, unionAt, noneAt, simpleAt, byKind, valueAt, mayGrow, afterValue, listAt, wholeList, itemsAt, listThen, listsAt, bodyAt}

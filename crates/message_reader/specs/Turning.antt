@@ -10,7 +10,7 @@ use Rattle.message_rules.specs.Rows.{cells}
 use Rattle.reading_rules.specs.Token.{Token}
 use Rattle.reading_rules.specs.Schema.{Schema}
 use Rattle.reading_rules.specs.Schema as schema
-use Rattle.reading_rules.specs.Reading.{TreeSort, value, list, body, items, Tree}
+use Rattle.reading_rules.specs.Reading.{TreeSort, value, body, items, Tree}
 use Rattle.reading_rules.specs.Parse.{Result, valueAt, wholeValue, listAt, wholeList, itemsAt, listsAt, bodyAt}
 use Rattle.message_tokens.specs.Cursor.{lexemesAt}
 use Rattle.message_unknown.specs.Along.{tokensAt, Stopped}

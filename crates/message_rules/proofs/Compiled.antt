@@ -1,24 +1,22 @@
 -- Demand 3: the reader's answer keeps its promise, for every table, message and room.
 use mathlib.Core.Path.{_≡_, refl, ap, sym, _∙_}
 use mathlib.Core.Bool.{Bool, true, false}
-use mathlib.Core.List.{List, [], _∷_, _++_}
+use mathlib.Core.List.{List, _++_}
 use mathlib.Core.Logic.{_↔_}
-use Prim.Native.Nat.{ℕ, zero, suc, _+_, _*_, _≤_, _<_}
+use Prim.Native.Nat.{ℕ, _*_, _≤_, _<_}
 use native.Mathlib.Omega.{arith}
 use lib.ListN.{length, drop}
 use Rattle.classes.specs.Bytes.{IsBytes}
-use Rattle.numbers.specs.Limits.{parameterLimit, messageLimit, openLimit, rowWidth}
+use Rattle.numbers.specs.Limits.{parameterLimit, rowWidth}
 use Rattle.reading_rules.specs.Record.{Record}
-use Rattle.reading_rules.specs.Schema.{Found, nowhere, found}
+use Rattle.reading_rules.specs.Schema.{nowhere, found}
 use Rattle.reading_rules.specs.Reading.{Tree, body}
-use Rattle.reading_rules.proofs.CountLaws.{clash-bool}
 use Rattle.reading_rules.proofs.Rules.{ReadingRules}
-use Rattle.definition_rules.specs.Table.{Maybe, none, just, decode}
-use Rattle.table_rules.specs.RecordRules.{recordRules, tableRules}
+use Rattle.table_rules.specs.RecordRules.{tableRules}
 use Rattle.table_rules.specs.Compilable.{Compilable}
 use Rattle.table_rules.proofs.Theorems.{rules-iff, no-text-iff, bytes-records}
 use Rattle.table_rules.proofs.Facts.{rules-formed, reading-rules}
-use Rattle.message_rules.specs.Scan.{Lexeme, Spelled, cut, scanFault}
+use Rattle.message_rules.specs.Scan.{Lexeme, Spelled}
 use Rattle.message_rules.specs.Rows.{Row, messageRows, cells}
 use Rattle.message_rules.specs.Verdict.{LawfulReading, Within, MessageAnswer, accepted, refusal, orEmpty, recordsIn, readWith, rowsWith, readAnswer, rowsAfter}
 use Rattle.message_rules.specs.Promise.{Reading, ReadPromise}

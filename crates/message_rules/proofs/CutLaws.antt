@@ -1,10 +1,10 @@
 -- The cut from any place on, as code that goes on byte by byte meets it.
 use mathlib.Core.Path.{_≡_, refl, sym, _∙_}
 use mathlib.Core.List.{List}
-use Prim.Native.Nat.{ℕ, zero, _-_, _≤_, _<_}
-use lib.ListN.{length, length-append}
+use Prim.Native.Nat.{ℕ, _≤_}
+use lib.ListN.{length}
 use Rattle.reading_rules.specs.Schema.{Found, nowhere, found}
-use Rattle.message_rules.specs.Scan.{CutResult, cutFrom, cut, Faulty}
+use Rattle.message_rules.specs.Scan.{cutFrom}
 use Rattle.message_rules.proofs.Spelling.{spelled-cut, cut-spelled, faulty-cut, cut-faulty}
 
 -- any fuel that is not less than the bytes gives the same cut

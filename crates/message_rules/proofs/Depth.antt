@@ -1,15 +1,15 @@
 -- Braces at most so many deep: of a tree's leaves, and of the tree.
-use mathlib.Core.Path.{_≡_, refl, ap, sym, _∙_}
-use mathlib.Core.Bool.{Bool, true, false, not, _&&_, _||_}
+use mathlib.Core.Path.{_≡_}
+use mathlib.Core.Bool.{true, not}
 use mathlib.Core.List.{List, [], _∷_, _++_}
-use Prim.Native.Nat.{ℕ, zero, suc, _+_, _-_, _≤_, _<_, max}
+use Prim.Native.Nat.{ℕ, zero, suc, _+_, _-_, _≤_, _<_}
 use native.Mathlib.Omega.{arith}
-use lib.Dec.{eqb, leb, ltb}
-use borrow.Author.Tests.{leb-false, not-true, eqb-true, lt-leb}
+use lib.Dec.{leb}
+use borrow.Author.Tests.{leb-false, not-true, eqb-true}
 use Rattle.reading_rules.specs.Token.{Token, word, string, equals, comma, opening, closing, isText}
 use Rattle.reading_rules.specs.Schema.{Schema, WellFormed}
 use Rattle.reading_rules.proofs.CountLaws.{clash-bool, and-both}
-use Rattle.reading_rules.specs.Reading.{TreeSort, unknownValue, unknownList, value, list, body, items, Tree, unknownWord, unknownString, unknownBraces, unknownPair, unknownLast, unknownMore, leaf, braced, chosenVoid, chosen, chosenInt, last, more, listed, stopped, itemized, noItem, voidItem, listItem, unknownItem, unknownListItem, leavesThen, balancedFrom, count, fieldsOf, InRange, Full, For, Law}
+use Rattle.reading_rules.specs.Reading.{TreeSort, Tree, unknownWord, unknownString, unknownBraces, unknownPair, unknownLast, unknownMore, leaf, braced, chosenVoid, chosen, chosenInt, last, more, listed, stopped, itemized, noItem, voidItem, listItem, unknownItem, unknownListItem, leavesThen, balancedFrom, For, Law}
 use Rattle.message_rules.specs.Scan.{openAfter, isOpening, shallow}
 use Rattle.reading_rules.proofs.Complete.{deep}
 

@@ -1,23 +1,23 @@
 -- The fuel's number never shows: where no brace stands too deep, every refusal is one of 01's.
-use mathlib.Core.Path.{_≡_, refl, ap, sym, _∙_}
-use mathlib.Core.Bool.{Bool, true, false, not, _&&_, _||_}
-use mathlib.Core.List.{List, [], _∷_, _++_}
+use mathlib.Core.Path.{_≡_, refl, ap}
+use mathlib.Core.Bool.{Bool, true, false, not}
+use mathlib.Core.List.{List, [], _∷_}
 use Prim.Native.Nat.{ℕ, zero, suc, _+_, _≤_, _<_}
 use native.Mathlib.Omega.{arith}
-use lib.Dec.{eqb, leb, ltb}
+use lib.Dec.{eqb, leb}
 use lib.ListN.{length}
 use borrow.Author.Tests.{not-true, leb-true}
 use Rattle.classes.specs.Bytes.{between}
 use Rattle.numbers.specs.Decimal.{isIntLike}
 use Rattle.reading_rules.specs.Token.{Token, word, string, equals, comma, opening, closing}
 use Rattle.reading_rules.specs.Schema.{Kind, void, simple, struct, union, reference, isVoid, Found, nowhere, found, Schema, WellFormed}
-use Rattle.reading_rules.specs.Count.{Once, has, allIn}
+use Rattle.reading_rules.specs.Count.{Once, has}
 use Rattle.reading_rules.proofs.CountLaws.{and-both, hasnt-in, once-more, once-nil}
-use Rattle.reading_rules.specs.Reading.{TreeSort, unknownValue, unknownList, value, list, body, items, Tree, unknownWord, unknownString, unknownBraces, unknownPair, unknownLast, unknownMore, leaf, braced, chosenVoid, chosen, chosenInt, last, more, listed, stopped, itemized, noItem, voidItem, listItem, unknownItem, unknownListItem, leavesThen, balancedFrom, count, fieldsOf, InRange, Full, For, Law}
-use Rattle.reading_rules.specs.Parse.{Result, refused, got, then, need, whether, onEquals, afterToken, pairWith, bracesAt, unknownAt, afterUnknown, unknownsAt, judged, simpleAt, shut, structAt, alternative, bareFor, choose, unionAt, noneAt, byKind, valueAt, mayGrow, listEnds, afterValue, listAt, wholeList, requiredOf, endNumber, bodyEnds, unknownAfter, itemAt, itemsAt, listThen, listsAt, wholeValue, bodyAt}
-use Rattle.reading_rules.proofs.Sound.{unknown-sound, unknowns-sound, BodySound, ValueSound, value-sound, whole-sound, body-sound}
-use Rattle.reading_rules.proofs.Complete.{leaves-width, value-wide, list-wide, unknown-wide, unknowns-wide}
-use Rattle.message_rules.proofs.Depth.{Shallow, shallow-word, shallow-string, shallow-equals, shallow-comma, shallow-opening, shallow-closing, tree-shallow}
+use Rattle.reading_rules.specs.Reading.{unknownValue, unknownList, value, list, body, items, Tree, unknownItem}
+use Rattle.reading_rules.specs.Parse.{Result, refused, got, then, need, whether, onEquals, afterToken, pairWith, bracesAt, unknownAt, afterUnknown, unknownsAt, judged, simpleAt, shut, structAt, alternative, bareFor, choose, unionAt, noneAt, byKind, valueAt, listEnds, afterValue, listAt, wholeList, endNumber, bodyEnds, unknownAfter, itemAt, itemsAt, listThen, listsAt, wholeValue, bodyAt}
+use Rattle.reading_rules.proofs.Sound.{unknown-sound, unknowns-sound, ValueSound, value-sound, whole-sound, body-sound}
+use Rattle.reading_rules.proofs.Complete.{leaves-width, list-wide}
+use Rattle.message_rules.proofs.Depth.{Shallow, shallow-word, shallow-equals, shallow-comma, shallow-opening, tree-shallow}
 
 -- an answer that is no fuel's: what was read, or one of the numbers 23 to 28
 pub data Fine {A : Type 0} : Result A → Type 0 where

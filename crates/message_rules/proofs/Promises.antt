@@ -1,28 +1,27 @@
 -- What the answers of the reader mean, in the paper's terms: over lawful readings, their rows, and the limits. Nothing here mentions the parser.
 use mathlib.Core.Path.{_≡_, refl, ap, sym, _∙_}
-use mathlib.Core.Bool.{Bool, true, false, not, _&&_, _||_}
+use mathlib.Core.Bool.{Bool, true, false, not, _&&_}
 use mathlib.Core.List.{List, [], _∷_, _++_}
-use Prim.Native.Nat.{ℕ, zero, suc, _+_, _-_, _*_, _≤_, _<_}
+use Prim.Native.Nat.{ℕ, suc, _*_, _≤_, _<_}
 use native.Mathlib.Omega.{arith}
-use lib.Dec.{eqb, leb, ltb}
+use lib.Dec.{leb}
 use lib.ListN.{length, drop}
 use borrow.Author.Tests.{leb-true, leb-false, le-leb, lt-leb}
 use Rattle.numbers.specs.Limits.{messageLimit, openLimit, rowWidth}
 use Rattle.reading_rules.specs.Token.{Token}
 use Rattle.reading_rules.specs.Record.{Record}
-use Rattle.reading_rules.specs.Schema.{Schema, schemaOf, Found, nowhere, found, WellFormed}
-use Rattle.reading_rules.proofs.CountLaws.{clash-bool, and-both}
+use Rattle.reading_rules.specs.Schema.{schemaOf, Found, nowhere, found}
+use Rattle.reading_rules.proofs.CountLaws.{clash-bool}
 use Rattle.reading_rules.proofs.Rules.{ReadingRules, well-formed}
-use Rattle.reading_rules.specs.Reading.{TreeSort, body, Tree, Lawful, leaves}
-use Rattle.message_rules.specs.Scan.{Lexeme, Spelled, CutResult, cut, tokensOf, openAfter, isOpening, tooDeep, shallow, either, scanFault}
+use Rattle.reading_rules.specs.Reading.{body, Tree}
+use Rattle.message_rules.specs.Scan.{Lexeme, Spelled, cut, tokensOf, openAfter, isOpening, tooDeep, shallow, either, scanFault}
 use Rattle.message_rules.specs.Rows.{Row, messageRows, cells}
 use Rattle.reading_rules.specs.Parse.{Result, refused, got, parse}
-use Rattle.message_rules.specs.Verdict.{LawfulReading, Within, RoomFree, fault, rows, placeOfLeft, outcome, afterScan, roomFree, MessageAnswer, accepted, refusal, withRoom, written, readWith, rowsWith}
+use Rattle.message_rules.specs.Verdict.{LawfulReading, Within, RoomFree, fault, rows, placeOfLeft, outcome, afterScan, roomFree, accepted, refusal, withRoom, written, readWith, rowsWith}
 use Rattle.reading_rules.proofs.Readings.{parse-sound, parse-complete, unique}
-use Rattle.reading_rules.proofs.Complete.{deep}
 use Rattle.message_rules.proofs.Depth.{tree-shallow}
 use Rattle.message_rules.proofs.Spelling.{spelled-cut, message-spelled, spelled-once}
-use Rattle.message_rules.proofs.Fuel.{Fine, fine-number, body-fine}
+use Rattle.message_rules.proofs.Fuel.{fine-number, body-fine}
 
 -- no brace too deep among the lexemes: so among their tokens
 pub flat-tokens : (n : ℕ) (ls : List Lexeme) → tooDeep n ls ≡ nowhere → shallow openLimit n (tokensOf ls) ≡ true

@@ -1,14 +1,13 @@
 -- Laws of the rows: how many, and that parents stand before their children.
-use mathlib.Core.Path.{_≡_, refl, ap, sym, _∙_}
+use mathlib.Core.Path.{_≡_, refl, ap, _∙_}
 use mathlib.Core.List.{List, [], _∷_, _++_}
-use Prim.Native.Nat.{ℕ, zero, suc, _+_, _-_, _*_, _≤_, _<_}
+use Prim.Native.Nat.{ℕ, suc, _+_, _*_, _<_}
 use native.Mathlib.Omega.{arith}
 use lib.ListN.{length, length-append}
-use Rattle.numbers.specs.Limits.{noRow, rowWidth}
-use Rattle.reading_rules.specs.Token.{Token}
-use Rattle.reading_rules.specs.Reading.{TreeSort, unknownValue, unknownList, value, list, body, items, Tree, unknownWord, unknownString, unknownBraces, unknownPair, unknownLast, unknownMore, leaf, braced, chosenVoid, chosen, chosenInt, last, more, listed, stopped, itemized, noItem, voidItem, listItem, unknownItem, unknownListItem, leavesThen, balancedFrom, count, fieldsOf, InRange, Full, For, Law}
+use Rattle.numbers.specs.Limits.{rowWidth}
+use Rattle.reading_rules.specs.Reading.{TreeSort, body, Tree, unknownWord, unknownString, unknownBraces, unknownPair, unknownLast, unknownMore, leaf, braced, chosenVoid, chosen, chosenInt, last, more, listed, stopped, itemized, noItem, voidItem, listItem, unknownItem, unknownListItem}
 use Rattle.message_rules.specs.Scan.{Lexeme}
-use Rattle.message_rules.specs.Rows.{Row, rowCount, lexemeAt, rowOver, rowsOf, messageRows, cells, ParentsFirst}
+use Rattle.message_rules.specs.Rows.{Row, rowCount, rowOver, rowsOf, messageRows, cells, ParentsFirst}
 use Rattle.reading_rules.specs.Reading.{width}
 
 -- a tree has as many rows as are counted

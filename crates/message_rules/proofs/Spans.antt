@@ -1,16 +1,15 @@
 -- The spans of the rows lie in the message, and those under a value lie in the value's span.
-use mathlib.Core.Path.{_≡_, refl, ap, sym, _∙_}
+use mathlib.Core.Path.{_≡_, refl, ap}
 use mathlib.Core.List.{List, [], _∷_, _++_}
-use Prim.Native.Nat.{ℕ, zero, suc, _+_, _-_, _*_, _≤_, _<_}
+use Prim.Native.Nat.{ℕ, zero, suc, _+_, _-_, _≤_, _<_}
 use native.Mathlib.Omega.{arith}
-use lib.ListN.{length, length-append, getD}
-use Rattle.numbers.specs.Limits.{noRow}
+use lib.ListN.{length, length-append}
 use Rattle.reading_rules.specs.Token.{Token, word, string, equals, comma, opening, closing}
-use Rattle.reading_rules.specs.Reading.{TreeSort, unknownValue, unknownList, value, list, body, items, Tree, unknownWord, unknownString, unknownBraces, unknownPair, unknownLast, unknownMore, leaf, braced, chosenVoid, chosen, chosenInt, last, more, listed, stopped, itemized, noItem, voidItem, listItem, unknownItem, unknownListItem, leavesThen, balancedFrom, count, fieldsOf, InRange, Full, For, Law}
-use Rattle.message_rules.specs.Scan.{Lexeme, lexeme, spelledThen, spelledLength, Spelled, tokensOf}
+use Rattle.reading_rules.specs.Reading.{TreeSort, body, Tree, unknownWord, unknownString, unknownBraces, unknownPair, unknownLast, unknownMore, leaf, braced, chosenVoid, chosen, chosenInt, last, more, listed, stopped, itemized, noItem, voidItem, listItem, unknownItem, unknownListItem, leavesThen}
+use Rattle.message_rules.specs.Scan.{Lexeme, spelledThen, spelledLength, Spelled, tokensOf}
 use Rattle.message_rules.specs.Rows.{Row, rowCount, lexemeAt, rowOver, rowsOf, messageRows, Inside}
 use Rattle.reading_rules.specs.Reading.{width}
-use Rattle.reading_rules.proofs.Complete.{leaves-width, value-wide, list-wide}
+use Rattle.reading_rules.proofs.Complete.{leaves-width}
 
 -- tokens stand one after the other, from the place at up to end
 unfoldable pub Ordered : ℕ → List Lexeme → ℕ → Type 0
@@ -132,11 +131,3 @@ message-inside message ls t h all =
       rows-inside ls 0 end o 0 (length message) t 0 1 0 0
           (record { there = omega arith; above = λ j x y. omega arith; below = λ j x y. omega (arith, ordered-at 0 end ls o j (omega arith) .2) }),
     )
-
--- the rows under a struct's or a union's value lie in its span: those of the tokens i to i + n - 1, all of which are there
-pub part-inside : {z : TreeSort} (message : List ℕ) (ls : List Lexeme) → Spelled 0 message ls → (t : Tree z) (i n p up a m : ℕ) → i ≤ a → a + width t ≤ i + n → i + n ≤ length ls → 1 ≤ n → Inside (lexemeAt ls i .start) (lexemeAt ls (i + n - 1) .end) (rowsOf ls t a m p up)
-part-inside message ls h t i n p up a m x y there pos =
-    let o = spelled-ordered 0 message ls h in
-    let end = 0 + length message in
-    rows-inside ls 0 end o (lexemeAt ls i .start) (lexemeAt ls (i + n - 1) .end) t a m p up
-    (record { there = omega arith; above = λ j u v. ordered-up 0 end ls o i j (omega arith) (omega arith) .0; below = λ j u v. ordered-up 0 end ls o j (i + n - 1) (omega arith) (omega arith) .1 })

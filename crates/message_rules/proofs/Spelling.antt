@@ -1,10 +1,10 @@
 -- The cut is the one way to spell the message as blanks and tokens, each word the longest row.
 use mathlib.Core.Path.{_≡_, refl, ap, sym, _∙_}
-use mathlib.Core.Bool.{Bool, true, false, not, _&&_, _||_}
-use mathlib.Core.List.{List, [], _∷_, _++_, append-assoc}
-use Prim.Native.Nat.{ℕ, zero, suc, _+_, _-_, _≤_, _<_}
+use mathlib.Core.Bool.{Bool, true, false, not}
+use mathlib.Core.List.{List, [], _∷_, _++_}
+use Prim.Native.Nat.{ℕ, zero, suc, _+_, _≤_, _<_}
 use native.Mathlib.Omega.{arith}
-use lib.Dec.{eqb, leb, ltb}
+use lib.Dec.{eqb, leb}
 use lib.ListN.{length, take, drop, getD, length-append, length-drop, take-append-drop, List·getD-eq-default}
 use lib.Seq.{drop-length, take-append-seam, drop-append-seam, getD-append-seam, length-take-le, split-at}
 use borrow.Author.Tests.{leb-true, leb-false, eqb-true, ne-eqb, not-true}
@@ -12,7 +12,7 @@ use Rattle.classes.proofs.Rows.{run-take, run-within}
 use Rattle.classes.specs.Bytes.{between, isBlank, isWordByte, isStringByte, isQuote}
 use Rattle.classes.specs.Lists.{every, runOf}
 use Rattle.reading_rules.specs.Token.{Token, word, string, equals, comma, opening, closing, isToken}
-use Rattle.reading_rules.specs.Schema.{Found, nowhere, found}
+use Rattle.reading_rules.specs.Schema.{nowhere, found}
 use Rattle.reading_rules.proofs.CountLaws.{clash-bool, and-both}
 use Rattle.message_rules.specs.Scan.{Lexeme, CutResult, clean, badAt, putFirst, lexeme, Begins, plain, quoted, nothing, mark, beginsOf, cutToken, cutRest, cutFrom, cut, spelledThen, spelledLength, noWordByte, endsThere, Spelled, noneBegun, beginsNone, Faulty}
 use Rattle.table_rules.proofs.Words.{word-token}

@@ -2,8 +2,8 @@
 use mathlib.Core.Path.{_≡_, refl}
 use mathlib.Core.Bool.{Bool, true, false, _&&_}
 use mathlib.Core.List.{List, [], _∷_, _++_}
-use Prim.Native.Nat.{ℕ, zero, suc, _+_, _*_}
-use Prim.Native.Char.{Char, code}
+use Prim.Native.Nat.{ℕ, zero, suc, _*_}
+use Prim.Native.Char.{code}
 use Prim.Native.String.{String, [] as noMore, _∷_ as _then_}
 use lib.Dec.{eqb}
 use lib.ListN.{length, take, drop, replicate}

@@ -1,26 +1,23 @@
 -- The theorems on messages, by the sentence that each renders. T9, T11 to T14 and T17 are `read-promise` (Compiled).
 use mathlib.Core.Path.{_≡_, refl, ap, sym, _∙_}
-use mathlib.Core.Bool.{Bool, true, false, _&&_}
-use mathlib.Core.List.{List, [], _∷_}
+use mathlib.Core.List.{List, []}
 use mathlib.Core.Logic.{_↔_}
-use Prim.Native.Nat.{ℕ, zero, suc, _+_, _-_, _*_, _≤_, _<_}
+use Prim.Native.Nat.{ℕ, _+_, _-_, _*_, _≤_, _<_}
 use native.Mathlib.Omega.{arith}
-use lib.Dec.{leb}
 use lib.ListN.{length, take, drop, getD}
-use borrow.Author.Tests.{leb-true, leb-false, le-leb, lt-leb}
+use borrow.Author.Tests.{le-leb, lt-leb}
 use Rattle.classes.specs.Bytes.{IsBytes}
-use Rattle.numbers.specs.Limits.{parameterLimit, messageLimit, openLimit, rowWidth, noRow}
+use Rattle.numbers.specs.Limits.{messageLimit, openLimit, rowWidth}
 use Rattle.reading_rules.specs.Schema.{Found, nowhere, found, schemaOf}
 use Rattle.reading_rules.specs.Token.{Token}
 use Rattle.reading_rules.specs.Reading.{Tree, body, leaves}
-use Rattle.reading_rules.proofs.CountLaws.{clash-bool, and-both}
 use Rattle.table_rules.specs.Compilable.{Compilable}
 use Rattle.table_rules.proofs.Theorems.{rules-iff}
-use Rattle.message_rules.specs.Scan.{Lexeme, Spelled, Faulty, Cutting, whole, broken, CutResult, cut, tokensOf, scanFault, TokenFault}
+use Rattle.message_rules.specs.Scan.{Lexeme, Spelled, Cutting, whole, broken, CutResult, cut, tokensOf, scanFault, TokenFault}
 use Rattle.message_rules.specs.Rows.{messageRows, rowsOf, RowsStand}
 use Rattle.message_rules.specs.RowBytes.{rowBytes}
 use Rattle.reading_rules.specs.Parse.{refused, parse}
-use Rattle.message_rules.specs.Verdict.{LawfulReading, placeOfLeft, refusal, recordsIn, readWith, readAnswer}
+use Rattle.message_rules.specs.Verdict.{placeOfLeft, refusal, recordsIn, readWith, readAnswer}
 use Rattle.message_rules.proofs.Spelling.{message-spelled, spelled-once, message-bad, message-faulty, bad-unspelled}
 use Rattle.message_rules.proofs.RowLaws.{parents-first}
 use Rattle.message_rules.proofs.Spans.{message-inside}

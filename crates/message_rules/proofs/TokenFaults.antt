@@ -2,15 +2,14 @@
 use mathlib.Core.Path.{_≡_, refl, ap, sym, subst, _∙_}
 use mathlib.Core.Bool.{Bool, true, false, not, _&&_}
 use mathlib.Core.List.{List, [], _∷_, _++_}
-use mathlib.Core.Logic.{_↔_, _⊎_, inl, inr}
-use Prim.Native.Nat.{ℕ, zero, suc}
+use mathlib.Core.Logic.{_↔_, inl, inr}
+use Prim.Native.Nat.{ℕ}
 use native.Mathlib.Omega.{arith}
 use lib.Dec.{leb}
 use Rattle.numbers.specs.Limits.{openLimit}
-use Rattle.reading_rules.specs.Token.{Token}
 use Rattle.reading_rules.specs.Schema.{Found, nowhere, found}
 use Rattle.reading_rules.proofs.CountLaws.{clash-bool}
-use Rattle.message_rules.specs.Scan.{Lexeme, Spelled, Faulty, CutResult, cut, tokensOf, openAfter, isOpening, tooDeep, shallow, TokensAre, TokenFault, badByte, deepBrace, either, scanFault}
+use Rattle.message_rules.specs.Scan.{Lexeme, cut, tokensOf, openAfter, isOpening, tooDeep, shallow, TokensAre, TokenFault, badByte, deepBrace, either, scanFault}
 use Rattle.message_rules.proofs.Promises.{flat-tokens, flat-lexemes}
 use Rattle.message_rules.proofs.Spelling.{message-spelled, spelled-once, message-bad, message-faulty, bad-unspelled}
 

@@ -4,7 +4,7 @@ use mathlib.Core.List.{List, _++_}
 use mathlib.Core.Logic.{_↔_}
 use Prim.Native.Nat.{ℕ, _*_, _≤_, _<_}
 use lib.ListN.{length, drop}
-use Rattle.numbers.specs.Limits.{messageLimit, rowWidth}
+use Rattle.numbers.specs.Limits.{rowWidth}
 use Rattle.reading_rules.specs.Reading.{Tree, body}
 use Rattle.table_rules.specs.Compilable.{Compilable}
 use Rattle.message_rules.specs.Scan.{Lexeme, Spelled}

@@ -1,11 +1,11 @@
 -- The rows of a reading: a function of the tree and of the places of its leaves.
 use mathlib.Core.Path.{_≡_}
 use mathlib.Core.List.{List, [], _∷_, _++_}
-use Prim.Native.Nat.{ℕ, zero, suc, _+_, _-_, _≤_, _<_}
+use Prim.Native.Nat.{ℕ, suc, _+_, _-_, _≤_, _<_}
 use lib.ListN.{length, getD}
 use Rattle.numbers.specs.Limits.{noRow}
-use Rattle.reading_rules.specs.Token.{Token, word, string, equals, comma, opening, closing}
-use Rattle.reading_rules.specs.Reading.{width, TreeSort, unknownValue, unknownList, value, list, body, items, Tree, unknownWord, unknownString, unknownBraces, unknownPair, unknownLast, unknownMore, leaf, braced, chosenVoid, chosen, chosenInt, last, more, listed, stopped, itemized, noItem, voidItem, listItem, unknownItem, unknownListItem}
+use Rattle.reading_rules.specs.Token.{equals}
+use Rattle.reading_rules.specs.Reading.{width, TreeSort, body, Tree, unknownWord, unknownString, unknownBraces, unknownPair, unknownLast, unknownMore, leaf, braced, chosenVoid, chosen, chosenInt, last, more, listed, stopped, itemized, noItem, voidItem, listItem, unknownItem, unknownListItem}
 use Rattle.message_rules.specs.Scan.{Lexeme, lexeme}
 
 -- "Rows, four u32 each ..: parameter, parent row, start, end (end not included)."

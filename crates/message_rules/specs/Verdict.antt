@@ -1,18 +1,18 @@
 -- What reading a message answers.
 use mathlib.Core.Path.{_≡_}
-use mathlib.Core.Bool.{Bool, true, false, not}
+use mathlib.Core.Bool.{true, false}
 use mathlib.Core.List.{List, [], _∷_, _++_}
-use Prim.Native.Nat.{ℕ, zero, suc, _+_, _-_, _*_, _≤_}
-use lib.Dec.{eqb, leb}
-use lib.ListN.{length, drop, getD}
+use Prim.Native.Nat.{ℕ, _-_, _*_, _≤_}
+use lib.Dec.{leb}
+use lib.ListN.{length, drop}
 use Rattle.numbers.specs.Limits.{parameterLimit, messageLimit, openLimit, rowWidth}
 use Rattle.reading_rules.specs.Token.{Token}
 use Rattle.reading_rules.specs.Record.{Record}
 use Rattle.reading_rules.specs.Schema.{Schema, schemaOf, Found, nowhere, found}
-use Rattle.reading_rules.specs.Reading.{TreeSort, body, Tree, Lawful, leaves}
+use Rattle.reading_rules.specs.Reading.{body, Tree, Lawful, leaves}
 use Rattle.definition_rules.specs.Table.{Maybe, none, just, decode}
 use Rattle.table_rules.specs.RecordRules.{tableRules}
-use Rattle.message_rules.specs.Scan.{Lexeme, Spelled, CutResult, cut, tokensOf, scanFault, shallow}
+use Rattle.message_rules.specs.Scan.{Lexeme, Spelled, cut, tokensOf, scanFault, shallow}
 use Rattle.message_rules.specs.Rows.{Row, messageRows, cells}
 use Rattle.reading_rules.specs.Parse.{Result, refused, got, parse}
 

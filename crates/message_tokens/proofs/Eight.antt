@@ -4,7 +4,6 @@ use mathlib.Core.Bool.{Bool, true, false, not, _&&_, _||_}
 use mathlib.Core.List.{List, []}
 use Prim.Native.Nat.{ℕ, zero, suc, _+_, _-_, _*_, _/_, _%_, _^_, _≤_, _<_}
 use native.Mathlib.Omega.{arith}
-use native.Mathlib.Numerals.{add-one}
 use native.Mathlib.Nat.{add-zero, add-suc, pow-suc, pow-succ', div-div-eq-div-mul, div-one, mod-eq-of-lt, eq-or-lt-of-le, suc-inj}
 use mathlib.Core.Logic.{⊎-elim}
 use lib.Bits.{bitAnd, bitXor, and-block, xor-block, xor-lt, and-high}

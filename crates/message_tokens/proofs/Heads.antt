@@ -1,7 +1,7 @@
 -- The head of the tokens, and what its kind says of them.
 use mathlib.Core.Path.{_≡_, refl, ap, sym, subst, _∙_}
 use mathlib.Core.List.{List, [], _∷_}
-use Prim.Native.Nat.{ℕ, zero, suc, _+_, _-_, _≤_, _<_}
+use Prim.Native.Nat.{ℕ, zero, suc, _+_, _≤_, _<_}
 use native.Mathlib.Omega.{arith}
 use lib.Dec.{eqb}
 use lib.ListN.{length, take, drop, getD}
@@ -12,10 +12,9 @@ use Rattle.classes.specs.Bytes.{isBlank, isWordByte, isStringByte, isQuote}
 use Rattle.classes.specs.Lists.{runOf}
 use Rattle.reading_rules.specs.Token.{Token, word, string, equals, comma, opening, closing}
 use Rattle.reading_rules.proofs.CountLaws.{clash-bool}
-use Rattle.message_rules.specs.Scan.{lexeme, CutResult, clean, badAt, putFirst, tokensOf, Begins, plain, quoted, mark, nothing, beginsOf, cutToken, cutRest, cutFrom}
-use Rattle.message_rules.specs.Scan.{Lexeme as Lex}
+use Rattle.message_rules.specs.Scan.{lexeme, CutResult, badAt, putFirst, tokensOf, Begins, plain, quoted, mark, nothing, beginsOf, cutToken, cutRest, cutFrom}
 use Rattle.message_rules.specs.Verdict.{startOr}
-use Rattle.message_tokens.specs.Cursor.{part, rowEnd, cutAt, restAt, lexemesAt, Step, Reads}
+use Rattle.message_tokens.specs.Cursor.{rowEnd, cutAt, restAt, lexemesAt, Step, Reads}
 use Rattle.message_tokens.specs.Head.{tokenOf, tokenKind, HeadAt, markHead, LacksComma}
 use Rattle.message_tokens.specs.declared.Cursor.{Cursor}
 use Rattle.message_tokens.specs.declared.Head.{Head}

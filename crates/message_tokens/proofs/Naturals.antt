@@ -2,15 +2,14 @@
 use mathlib.Core.Path.{_≡_, refl, ap, sym, subst, _∙_}
 use mathlib.Core.Bool.{Bool, true, false, _&&_}
 use mathlib.Core.List.{List, [], _∷_}
-use Prim.Native.Nat.{ℕ, zero, suc, _+_, _-_, _*_, _≤_, _<_}
+use Prim.Native.Nat.{ℕ, suc, _+_, _-_, _*_, _≤_, _<_}
 use native.Mathlib.Omega.{arith}
 use native.Mathlib.Numerals.{add-one}
-use native.Mathlib.Nat.{add-zero}
-use lib.Dec.{eqb, leb, ltb}
+use lib.Dec.{leb, ltb}
 use lib.ListN.{length, getD, drop, length-drop, List·getD-eq-default}
 use lib.Seq.{drop-cons, getD-drop, getD-take, length-take-le}
 use borrow.Author.Tests.{lt-ltb, leb-true, ltb-true, ltb-false}
-use Rattle.classes.specs.Bytes.{between, isDigit, isBlank, isWordByte}
+use Rattle.classes.specs.Bytes.{isDigit, isBlank, isWordByte}
 use Rattle.classes.specs.Lists.{every, runOf}
 use Rattle.classes.proofs.Rows.{run-more, run-stop, run-end, run-take}
 use Rattle.numbers.specs.Decimal.{readDigits, numberOf, isNatural}
@@ -19,7 +18,7 @@ use Rattle.reading_rules.specs.Token.{word, comma}
 use Rattle.reading_rules.proofs.CountLaws.{clash-bool, and-both}
 use Rattle.table_rules.proofs.Words.{digit-word}
 use Rattle.message_rules.proofs.Spelling.{word-not-blank}
-use Rattle.message_tokens.specs.Cursor.{part, rowEnd, cutAt, restAt, Step}
+use Rattle.message_tokens.specs.Cursor.{part, rowEnd, Step}
 use Rattle.message_tokens.specs.Digits.{Led, DigitsCounted, CountedBefore, DigitsEnd, DigitsAt}
 use Rattle.message_tokens.specs.declared.Digits.{Digits}
 use Rattle.message_tokens.specs.declared.Digits.the-variants.{Other, Before, Number}

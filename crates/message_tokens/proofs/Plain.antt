@@ -4,7 +4,6 @@ use mathlib.Core.Bool.{Bool, true, false, not, _&&_, _||_}
 use mathlib.Core.List.{List, [], _∷_}
 use Prim.Native.Nat.{ℕ, zero, suc, _+_, _≤_, _<_}
 use native.Mathlib.Omega.{arith}
-use native.Mathlib.Nat.{zero-add}
 use lib.Dec.{eqb, leb, ltb}
 use lib.ListN.{length, getD}
 use borrow.Author.Tests.{eqb-true, eqb-false, leb-true, ltb-true, ltb-false}
@@ -14,7 +13,7 @@ use Rattle.classes.proofs.Rows.{run-more, run-stop, run-end}
 use Rattle.classes.proofs.Segment.{segment}
 use Rattle.reading_rules.specs.Token.{Token, word, equals, comma}
 use Rattle.reading_rules.proofs.CountLaws.{clash-bool, and-both}
-use Rattle.message_rules.specs.Scan.{lexeme, putFirst, isOpening, openAfter}
+use Rattle.message_rules.specs.Scan.{isOpening, openAfter}
 use Rattle.message_rules.proofs.Spelling.{word-not-blank}
 use Rattle.message_tokens.specs.Cursor.{part, rowEnd, cutAt, restAt, Step}
 use Rattle.message_tokens.specs.Scanned.{faultFrom}

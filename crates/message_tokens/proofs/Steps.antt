@@ -1,11 +1,10 @@
 -- Each answer of the cursor, and each turn of the scan, said of plain lists.
 use mathlib.Core.Path.{_≡_, refl, ap, sym, subst, _∙_}
-use mathlib.Core.Bool.{Bool, true, false}
-use mathlib.Core.List.{List, [], _∷_}
-use Prim.Native.Nat.{ℕ, zero, suc, _+_, _-_, _≤_, _<_}
+use mathlib.Core.Bool.{true, false}
+use mathlib.Core.List.{List}
+use Prim.Native.Nat.{ℕ, suc, _+_, _-_, _≤_, _<_}
 use native.Mathlib.Omega.{arith}
 use native.Mathlib.Nat.{zero-add}
-use lib.Dec.{leb}
 use lib.ListN.{length, getD}
 use borrow.Author.Tests.{le-leb, lt-leb}
 use Rattle.numbers.specs.Limits.{openLimit}
@@ -20,7 +19,6 @@ use Rattle.message_tokens.specs.declared.Cursor.{Cursor}
 use Rattle.message_tokens.specs.declared.Lexeme.{Lexeme}
 use Rattle.message_tokens.specs.declared.Lexeme.the-variants.{Word, Text, Equals, Comma, Opening, Closing, End, Bad}
 use Rattle.message_tokens.specs.declared.Scanned.{Scanned}
-use Rattle.message_tokens.specs.declared.Scanned.the-variants.{Clean, Fault}
 use Rattle.message_tokens.specs.declared.Turn.{Turn}
 use Rattle.message_tokens.specs.declared.Turn.the-variants.{On, Out}
 use Rattle.message_tokens.proofs.CutAt.{rest-mark, rest-word, rest-string, row-past, row-in, row-least, cut-rest, cut-start, byte-in}

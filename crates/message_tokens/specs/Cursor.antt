@@ -7,9 +7,8 @@ use lib.ListN.{length, drop}
 use Rattle.classes.specs.Lists.{runOf}
 pub use Rattle.classes.specs.Lists.{part}
 use Rattle.reading_rules.specs.Token.{Token, word, string, equals, comma, opening, closing}
-use Rattle.message_rules.specs.Scan.{lexeme, CutResult, clean, badAt, putFirst, cutRest, cutFrom, tokensOf}
+use Rattle.message_rules.specs.Scan.{lexeme, CutResult, clean, badAt, putFirst, cutRest, cutFrom}
 use Rattle.message_rules.specs.Scan.{Lexeme as Lex}
-use Rattle.message_tokens.specs.declared.Cursor.{Cursor}
 use Rattle.message_tokens.specs.declared.Lexeme.{Lexeme}
 use Rattle.message_tokens.specs.declared.Lexeme.the-variants.{Word, Text, Equals, Comma, Opening, Closing, End, Bad}
 

@@ -1,7 +1,7 @@
 -- Going along the tokens; the part of a message after a brace.
-use mathlib.Core.Path.{_≡_, refl, ap, sym, subst, _∙_}
+use mathlib.Core.Path.{_≡_, refl, ap, _∙_}
 use mathlib.Core.List.{List, [], _∷_}
-use Prim.Native.Nat.{ℕ, zero, suc, _+_, _-_, _≤_, _<_}
+use Prim.Native.Nat.{ℕ, zero, suc, _+_, _-_, _≤_}
 use native.Mathlib.Omega.{arith}
 use native.Mathlib.Nat.{add-zero}
 use lib.ListN.{length, take, drop, length-drop}
@@ -13,7 +13,7 @@ use Rattle.message_rules.specs.Verdict.{startOr, placeOfLeft}
 use Rattle.message_tokens.specs.Cursor.{cutAt, lexemesAt, Step}
 use Rattle.message_tokens.proofs.CutAt.{cut-part}
 use Rattle.message_tokens.proofs.Heads.{step-lex}
-use Rattle.message_unknown.specs.Along.{Tail, here, later, tokensAt}
+use Rattle.message_unknown.specs.Along.{Tail, here, later}
 
 pub tail-trans : {A : Type 0} (x y z : List A) → Tail z y → Tail y x → Tail z x
 tail-trans x y z t here = t

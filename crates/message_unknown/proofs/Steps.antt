@@ -7,15 +7,14 @@ use lib.ListN.{length, take, drop}
 use Rattle.reading_rules.specs.Token.{Token, word, string, equals, comma, opening, closing}
 use Rattle.reading_rules.specs.Reading.{Tree, unknownValue, unknownList, unknownBraces, unknownMore}
 use Rattle.message_rules.specs.Scan.{tokensOf}
-use Rattle.message_rules.specs.Scan.{Lexeme as Lex}
 use Rattle.reading_rules.specs.Parse.{Result, refused, got, then, afterToken, bracesAt, pairWith, unknownAt, afterUnknown, unknownsAt}
 use Rattle.message_rules.specs.Verdict.{startOr}
 use Rattle.message_tokens.specs.Cursor.{cutAt, lexemesAt, Step}
 use Rattle.message_tokens.specs.Head.{tokenOf, tokenKind, HeadAt}
 use Rattle.message_tokens.specs.declared.Cursor.{Cursor}
 use Rattle.message_tokens.specs.declared.Head.{Head}
-use Rattle.message_tokens.proofs.Heads.{head-step, head-kind, head-not, step-tokens, step-within}
-use Rattle.message_unknown.specs.Along.{Tail, here, later, tokensAt}
+use Rattle.message_tokens.proofs.Heads.{head-step, head-not, step-tokens, step-within}
+use Rattle.message_unknown.specs.Along.{Tail, here, tokensAt}
 use Rattle.message_unknown.specs.Passing.{Left, stuck, left, leftOf, bracesFrom, unknownFrom, unknownsFrom, MovedPast, PassedUpTo, Halted, PassesTo, BraceOn, BraceTurn, WordOn, WordLast, WordTurn, ValueOn, ValueTurn, ListOn, ListTurn}
 use Rattle.message_unknown.specs.declared.Passed.{Passed}
 use Rattle.message_unknown.specs.declared.Passed.the-variants.{Past, Refused}

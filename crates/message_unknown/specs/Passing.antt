@@ -1,6 +1,6 @@
 -- Unknown parts: the parser's answers without what was read, and what the code ensures of them.
 use mathlib.Core.Path.{_≡_}
-use mathlib.Core.List.{List, [], _∷_}
+use mathlib.Core.List.{List, _∷_}
 use Prim.Native.Nat.{ℕ, suc, _+_, _≤_, _<_}
 use lib.ListN.{length}
 use Rattle.reading_rules.specs.Token.{Token, word}
@@ -9,7 +9,6 @@ use Rattle.message_rules.specs.Scan.{Lexeme as Lex}
 use Rattle.reading_rules.specs.Parse.{Result, refused, got, bracesAt, unknownAt, unknownsAt}
 use Rattle.message_rules.specs.Verdict.{startOr}
 use Rattle.message_tokens.specs.Cursor.{lexemesAt}
-use Rattle.message_tokens.specs.declared.Cursor.{Cursor}
 use Rattle.message_unknown.specs.Along.{Tail, tokensAt}
 use Rattle.message_unknown.specs.declared.Passed.{Passed}
 use Rattle.message_unknown.specs.declared.Passed.the-variants.{Past, Refused}

@@ -1,6 +1,5 @@
 // Unknown parts of a message, passed over: braces, a value, a list.
 // s is the message from base on. It is short, so that no sum of places overflows.
-ghost use mathlib.Core.Path.{_≡_};
 ghost use Prim.Native.Nat.{ℕ, _+_, _≤_};
 ghost use lib.ListN.{length};
 ghost use Rattle.numbers.specs.Limits.{messageLimit};

@@ -1,6 +1,6 @@
 -- Every lawful tree is read, where depth and fuel are enough.
-use mathlib.Core.Path.{_≡_, refl, ap, subst₂, sym, _∙_}
-use mathlib.Core.Bool.{Bool, true, false, not, _&&_, _||_}
+use mathlib.Core.Path.{_≡_, refl, _∙_}
+use mathlib.Core.Bool.{Bool, true, false}
 use mathlib.Core.List.{List, [], _∷_, _++_}
 use Prim.Native.Nat.{ℕ, zero, suc, _+_, _≤_, _<_, max}
 use native.Mathlib.Omega.{arith}
@@ -11,11 +11,11 @@ use Rattle.classes.proofs.Bools.{or-case, or-left, or-right}
 use Rattle.numbers.specs.Limits.{noLimit}
 use Rattle.numbers.specs.Decimal.{isIntLike}
 use Rattle.reading_rules.specs.Token.{Token, word, string, equals, comma, opening, closing, isText}
-use Rattle.reading_rules.specs.Schema.{Kind, void, simple, struct, union, reference, isVoid, Found, nowhere, found, Schema, atMost, WellFormed}
-use Rattle.reading_rules.specs.Count.{same, times, In, Once, has, allIn}
-use Rattle.reading_rules.proofs.CountLaws.{clash-bool, in-all, out-hasnt, was-new, once-nil}
-use Rattle.reading_rules.specs.Reading.{TreeSort, unknownValue, unknownList, value, list, body, items, Tree, unknownWord, unknownString, unknownBraces, unknownPair, unknownLast, unknownMore, leaf, braced, chosenVoid, chosen, chosenInt, last, more, listed, stopped, itemized, noItem, voidItem, listItem, unknownItem, unknownListItem, leavesThen, balancedFrom, count, fieldsOf, InRange, Full, For, Law}
-use Rattle.reading_rules.specs.Parse.{Result, refused, got, then, need, whether, onEquals, afterToken, pairWith, bracesAt, unknownAt, afterUnknown, unknownsAt, judged, simpleAt, shut, structAt, alternative, bareFor, choose, unionAt, noneAt, byKind, valueAt, mayGrow, listEnds, afterValue, listAt, wholeList, requiredOf, endNumber, bodyEnds, unknownAfter, itemAt, itemsAt, listThen, listsAt, wholeValue, bodyAt}
+use Rattle.reading_rules.specs.Schema.{union, Found, nowhere, found, Schema, atMost, WellFormed}
+use Rattle.reading_rules.specs.Count.{times, In, allIn}
+use Rattle.reading_rules.proofs.CountLaws.{clash-bool, in-all, out-hasnt, was-new}
+use Rattle.reading_rules.specs.Reading.{TreeSort, unknownValue, unknownList, value, list, body, items, Tree, unknownWord, unknownString, unknownBraces, unknownPair, unknownLast, unknownMore, leaf, braced, chosenVoid, chosen, chosenInt, last, more, listed, stopped, itemized, noItem, voidItem, listItem, unknownItem, unknownListItem, leavesThen, balancedFrom, count, fieldsOf, InRange, Law}
+use Rattle.reading_rules.specs.Parse.{Result, got, then, need, whether, onEquals, afterToken, pairWith, bracesAt, unknownAt, afterUnknown, unknownsAt, judged, simpleAt, shut, structAt, alternative, bareFor, choose, unionAt, byKind, valueAt, mayGrow, listEnds, afterValue, listAt, wholeList, requiredOf, endNumber, bodyEnds, unknownAfter, itemAt, itemsAt, listThen, listsAt, wholeValue, bodyAt}
 use Rattle.reading_rules.proofs.Inverse.{required-is, Ends}
 use Rattle.reading_rules.specs.Reading.{width}
 

@@ -1,19 +1,18 @@
 -- What an answer of a step says about its parts.
-use mathlib.Core.Path.{_≡_, refl, ap, subst₂, _∙_}
-use mathlib.Core.Bool.{Bool, true, false, not, _&&_, _||_}
-use mathlib.Core.List.{List, [], _∷_, _++_}
-use Prim.Native.Nat.{ℕ, zero, suc, _+_, _≤_}
+use mathlib.Core.Path.{_≡_, refl, ap, subst₂}
+use mathlib.Core.Bool.{Bool, true, false, _||_}
+use mathlib.Core.List.{List, [], _∷_}
+use Prim.Native.Nat.{ℕ, suc, _≤_}
 use native.Mathlib.Omega.{arith}
-use lib.Dec.{eqb, leb, ltb}
-use borrow.Author.Tests.{leb-true, ltb-true, eqb-true, eqb-false, not-true}
+use lib.Dec.{eqb}
+use borrow.Author.Tests.{eqb-true, eqb-false}
 use Rattle.classes.proofs.Bools.{or-off}
-use Rattle.numbers.specs.Limits.{noLimit}
 use Rattle.reading_rules.specs.Token.{Token, word, string, equals, comma, opening, closing}
-use Rattle.reading_rules.specs.Schema.{Schema, atMost}
-use Rattle.reading_rules.specs.Count.{times, In}
+use Rattle.reading_rules.specs.Schema.{Schema}
+use Rattle.reading_rules.specs.Count.{In}
 use Rattle.reading_rules.proofs.CountLaws.{in-head, in-tail, in-cons, in-nil}
-use Rattle.reading_rules.specs.Reading.{TreeSort, unknownValue, Tree, unknownPair}
-use Rattle.reading_rules.specs.Parse.{Result, refused, got, then, need, whether, onEquals, afterToken, pairWith, judged, mayGrow, requiredOf, endNumber, bodyEnds}
+use Rattle.reading_rules.specs.Reading.{unknownValue, Tree, unknownPair}
+use Rattle.reading_rules.specs.Parse.{Result, refused, got, then, need, whether, onEquals, afterToken, pairWith, judged, requiredOf, endNumber, bodyEnds}
 
 pub clash : {A X : Type 0} {n : ℕ} {x : List Token} {a : A} {r : List Token} → _≡_ {A = Result A} (refused n x) (got a r) → X
 clash e = let z : _≡_ {A = ℕ} 0 1 = cc in absurd (omega arith)

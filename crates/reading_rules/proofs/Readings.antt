@@ -1,13 +1,13 @@
 -- The central theorems on tokens: what is read is lawful, what is lawful is read, and there is one reading. No limit of length or depth.
 use mathlib.Core.Path.{_≡_, refl, ap, sym, _∙_}
-use mathlib.Core.Bool.{Bool, true, false}
-use mathlib.Core.List.{List, [], _∷_}
-use Prim.Native.Nat.{ℕ, zero, suc, _+_, _≤_, _<_, max}
+use mathlib.Core.Bool.{false}
+use mathlib.Core.List.{List, []}
+use Prim.Native.Nat.{ℕ, suc, _≤_, max}
 use native.Mathlib.Omega.{arith}
 use Rattle.reading_rules.specs.Token.{Token}
 use Rattle.reading_rules.specs.Schema.{Schema, WellFormed}
-use Rattle.reading_rules.specs.Reading.{TreeSort, body, Tree, leavesThen, leaves, Law, Lawful}
-use Rattle.reading_rules.specs.Parse.{Result, refused, got, parse}
+use Rattle.reading_rules.specs.Reading.{body, Tree, leavesThen, leaves, Lawful}
+use Rattle.reading_rules.specs.Parse.{got, parse}
 use Rattle.reading_rules.proofs.Inverse.{Ends}
 use Rattle.reading_rules.proofs.Sound.{body-sound}
 use Rattle.reading_rules.proofs.Complete.{deep, body-complete}
@@ -32,14 +32,3 @@ unique S W a b la lb e =
     let q = parse-complete S W depth b lb (omega arith) in
     let r = ap (parse S depth) e in
     cc
-
--- where it refuses, no lawful reading of that depth has these tokens
-pub parse-refuses : (S : Schema) → WellFormed S → (depth : ℕ) (x : List Token) (n : ℕ) (r : List Token) → parse S depth x ≡ refused n r → (t : Tree body) → Lawful S t → leaves t ≡ x → depth < deep t
-parse-refuses S W depth x n r e t l q = lt-of (deep t) depth (λ m.
-    let p = parse-complete S W depth t l m in
-    let c = ap (parse S depth) q in
-    let z : _≡_ {A = ℕ} 0 1 = cc in
-    omega arith)
-  where
-    lt-of : (a b : ℕ) → (a ≤ b → ⊥) → b < a
-    lt-of a b f = omega arith

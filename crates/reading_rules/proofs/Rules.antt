@@ -1,20 +1,19 @@
 -- What reading needs of a table, and that it is enough.
 use mathlib.Core.Path.{_≡_, refl, ap, sym, _∙_}
-use mathlib.Core.Bool.{Bool, true, false, not, _&&_, _||_}
+use mathlib.Core.Bool.{Bool, true, false, _&&_}
 use mathlib.Core.List.{List, [], _∷_}
 use Prim.Native.Nat.{ℕ, zero, suc, _+_, _≤_, _<_}
 use native.Mathlib.Omega.{arith}
 use lib.Dec.{leb, ltb}
 use lib.ListN.{length, getD, List·getD-eq-default}
-use borrow.Author.Tests.{eq-eqb, leb-true, leb-false}
+use borrow.Author.Tests.{leb-true, leb-false}
 use Rattle.classes.proofs.Rows.{same-true}
 use Rattle.classes.specs.Lists.{every, sameBytes}
-use Rattle.classes.specs.Bytes.{isDigit}
 use Rattle.numbers.specs.Decimal.{isDigits, isNatural, isIntLike, isInt, isMinus, numberOf}
 use Rattle.reading_rules.specs.Token.{Token, word, string, equals, comma, opening, closing, isText}
-use Rattle.reading_rules.specs.Record.{Up, top, under, Record, blank, recordAt}
+use Rattle.reading_rules.specs.Record.{Record, blank, recordAt}
 use Rattle.reading_rules.specs.Value.{wordForm, wordWithin, formThenRange, valueNumber}
-use Rattle.reading_rules.specs.Schema.{Kind, void, simple, struct, union, reference, Found, nowhere, found, Schema, kindOf, isUnder, numbersWhere, isUntaggedOf, isTaggedOf, isTaggedAs, first, firstWhere, schemaOf, WellFormed}
+use Rattle.reading_rules.specs.Schema.{union, Found, nowhere, found, kindOf, numbersWhere, isUntaggedOf, isTaggedOf, isTaggedAs, first, firstWhere, schemaOf, WellFormed}
 use Rattle.reading_rules.proofs.CountLaws.{clash-bool, and-both}
 
 -- the record rules that a reading rests on

@@ -1,22 +1,22 @@
 -- What the parser reads is lawful, and its leaves are the tokens read.
-use mathlib.Core.Path.{_≡_, refl, ap, subst₂, sym, _∙_}
-use mathlib.Core.Bool.{Bool, true, false, not, _&&_, _||_}
+use mathlib.Core.Path.{_≡_, refl, sym, _∙_}
+use mathlib.Core.Bool.{Bool, true, false, not, _||_}
 use mathlib.Core.List.{List, [], _∷_, _++_}
 use Prim.Native.Nat.{ℕ, zero, suc, _+_, _≤_}
 use native.Mathlib.Omega.{arith}
 use lib.Dec.{eqb, leb, ltb}
 use lib.ListN.{length}
-use borrow.Author.Tests.{leb-true, ltb-true, eqb-true, eqb-false, not-true, le-leb, ne-eqb}
+use borrow.Author.Tests.{leb-true, ltb-true, eqb-true, not-true, le-leb, ne-eqb}
 use Rattle.classes.proofs.Bools.{or-case, or-left, or-right}
 use Rattle.numbers.specs.Limits.{noLimit}
 use Rattle.numbers.specs.Decimal.{isIntLike}
 use Rattle.reading_rules.specs.Token.{Token, word, string, equals, comma, opening, closing}
 use Rattle.reading_rules.specs.Schema.{Kind, void, simple, struct, union, reference, isVoid, Found, nowhere, found, Schema, atMost, WellFormed}
-use Rattle.reading_rules.specs.Count.{same, times, In, Once, has, allIn}
+use Rattle.reading_rules.specs.Count.{times, In, Once, has, allIn}
 use Rattle.reading_rules.proofs.CountLaws.{clash-bool, all-in, hasnt-in, once-more, once-nil, in-head, in-tail, in-cons, in-nil}
-use Rattle.reading_rules.specs.Reading.{TreeSort, unknownValue, unknownList, value, list, body, items, Tree, unknownWord, unknownString, unknownBraces, unknownPair, unknownLast, unknownMore, leaf, braced, chosenVoid, chosen, chosenInt, last, more, listed, stopped, itemized, noItem, voidItem, listItem, unknownItem, unknownListItem, leavesThen, balancedFrom, count, fieldsOf, InRange, Full, For, Law}
-use Rattle.reading_rules.specs.Parse.{Result, refused, got, then, need, whether, onEquals, bracesAt, unknownAt, afterUnknown, unknownsAt, judged, simpleAt, shut, structAt, alternative, bareFor, choose, unionAt, noneAt, byKind, valueAt, mayGrow, listEnds, afterValue, listAt, wholeList, requiredOf, endNumber, bodyEnds, unknownAfter, itemAt, itemsAt, listThen, listsAt, wholeValue, bodyAt}
-use Rattle.reading_rules.proofs.Inverse.{required-is, clash, got-to, then-got, need-got, whether-got, equals-got, after-got, pair-got, judged-got, Ends, end-nil, end-closing, ends-got}
+use Rattle.reading_rules.specs.Reading.{TreeSort, unknownValue, unknownList, value, list, body, items, Tree, stopped, noItem, unknownItem, leavesThen, balancedFrom, count, fieldsOf, InRange, For, Law}
+use Rattle.reading_rules.specs.Parse.{Result, got, then, bracesAt, unknownAt, afterUnknown, unknownsAt, simpleAt, shut, structAt, alternative, bareFor, choose, unionAt, noneAt, byKind, valueAt, mayGrow, listEnds, afterValue, listAt, wholeList, requiredOf, endNumber, bodyEnds, unknownAfter, itemAt, itemsAt, listThen, listsAt, wholeValue, bodyAt}
+use Rattle.reading_rules.proofs.Inverse.{clash, got-to, then-got, need-got, whether-got, equals-got, after-got, pair-got, judged-got, Ends, end-nil, end-closing, ends-got}
 
 -- the required ones, as the parser lists them, are those that must appear
 pub required-in : (S : Schema) (k : ℕ) (l : List ℕ) → In k l → S .optional k ≡ false → 1 ≤ S .lo k → In k (requiredOf S l)

@@ -6,8 +6,8 @@ use Prim.Native.Nat.{ℕ, zero, suc, _+_, _≤_}
 use lib.Dec.{eqb}
 use lib.ListN.{length}
 use Rattle.reading_rules.specs.Token.{Token, word, string, equals, comma, opening, closing}
-use Rattle.reading_rules.specs.Schema.{Kind, void, simple, struct, union, reference, isVoid, Found, nowhere, found, Schema, atMost}
-use Rattle.reading_rules.specs.Count.{times, In, Once}
+use Rattle.reading_rules.specs.Schema.{simple, struct, union, isVoid, nowhere, found, Schema, atMost}
+use Rattle.reading_rules.specs.Count.{In, Once}
 
 -- "the root's body on top, under a body its lists and items, under a list its values, under a struct its body, under a union's value its alternative, unknown parts included"
 pub data TreeSort : Type 0 where

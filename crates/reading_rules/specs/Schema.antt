@@ -2,9 +2,8 @@
 use mathlib.Core.Path.{_≡_}
 use mathlib.Core.Bool.{Bool, true, false, not, _&&_, _||_}
 use mathlib.Core.List.{List, [], _∷_}
-use Prim.Native.Nat.{ℕ, zero, suc, _≤_}
+use Prim.Native.Nat.{ℕ, suc, _≤_}
 use lib.Dec.{eqb, leb}
-use lib.ListN.{length}
 use Rattle.numbers.specs.Limits.{noLimit}
 use Rattle.classes.specs.Lists.{sameBytes}
 use Rattle.numbers.specs.Decimal.{isIntLike}

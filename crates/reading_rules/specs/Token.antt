@@ -1,5 +1,5 @@
 -- The tokens of a message. They carry their text and no place.
-use mathlib.Core.Bool.{Bool, true, false, _&&_}
+use mathlib.Core.Bool.{Bool, true, false}
 use mathlib.Core.List.{List, [], _∷_}
 use Prim.Native.Nat.{ℕ}
 use Rattle.classes.specs.Bytes.{isWordByte, isStringByte}

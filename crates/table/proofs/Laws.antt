@@ -21,7 +21,7 @@ use Rattle.table_records.specs.Stored.{recordIn, recordsFrom, recordsAt}
 use Rattle.table_records.proofs.Laws.{length-records, records-more, records-end, records-all}
 use Rattle.table_checks.specs.Sweeps.{HasFinites, AllFinite}
 use Rattle.definition_rules.specs.Faults.{voidMany, rule7Broken, tagRepeated, rootNoStruct}
-use Rattle.table_tags.specs.Lists.{Linked, Links}
+use Rattle.table_tags.specs.Lists.{Links}
 use Rattle.table_tags.proofs.Searching.{links-records}
 use Rattle.table_walk.specs.declared.Walk.{Walk}
 use Rattle.table_walk.specs.declared.Walk.the-variants.{Count, Bad}

@@ -1,14 +1,14 @@
 -- Sweeps in place reach number 10's outcome: what they add lies in it, and they go as far as its rounds.
 use mathlib.Core.Path.{_≡_, refl, ap, sym, _∙_}
-use mathlib.Core.Bool.{Bool, true, false, _&&_, _||_}
+use mathlib.Core.Bool.{Bool, true, false, _||_}
 use mathlib.Core.List.{List, [], _∷_}
 use Prim.Native.Nat.{ℕ, zero, suc, _+_, _-_, _≤_, _<_}
 use native.Mathlib.Numerals.{add-one}
 use native.Mathlib.Omega.{arith}
-use lib.Dec.{eqb, ltb}
-use lib.ListN.{length, getD, set, replicate, length-set, List·getD-eq-default}
+use lib.Dec.{eqb}
+use lib.ListN.{length, getD, set, replicate, length-set}
 use lib.Seq.{getD-set-same, getD-set-other}
-use borrow.Author.Tests.{eqb-true, eqb-false, ltb-true, ltb-false}
+use borrow.Author.Tests.{eqb-true, eqb-false}
 use Rattle.classes.proofs.Rows.{no-mark}
 use Rattle.classes.specs.Lists.{pick}
 use Rattle.reading_rules.specs.Record.{Record, recordAt, blank, AfterParents}
@@ -18,7 +18,7 @@ use mathlib.Core.Logic.{_⊎_, inl, inr}
 use Rattle.definition_rules.proofs.FiniteLaws.{sub-at, step-grows, finites-closed}
 use Rattle.table_records.specs.Stored.{recordIn, recordsAt}
 use Rattle.table_records.proofs.Laws.{length-records}
-use Rattle.table_checks.specs.Sweeps.{stepBy, isNewlyFinite, addIf, gathered, Over, isAdded, added, swept, sweepAdds, Swept, NoneMarked, HasFinites}
+use Rattle.table_checks.specs.Sweeps.{isNewlyFinite, addIf, gathered, Over, isAdded, added, swept, sweepAdds, Swept, NoneMarked, HasFinites}
 use Rattle.table_checks.proofs.Bodies.{over-more, over-marks, step-is}
 
 -- ---- sets of parameters

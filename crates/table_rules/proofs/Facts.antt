@@ -2,18 +2,17 @@
 use mathlib.Core.Path.{_≡_, refl, ap, subst, sym, _∙_}
 use mathlib.Core.Bool.{Bool, true, false, not, _&&_, _||_}
 use mathlib.Core.List.{List, [], _∷_}
-use Prim.Native.Nat.{ℕ, zero, suc, _+_, _≤_, _<_}
+use Prim.Native.Nat.{ℕ, zero, suc, _+_, _<_}
 use native.Mathlib.Omega.{arith}
-use lib.Dec.{eqb, leb, ltb}
+use lib.Dec.{eqb, leb}
 use lib.ListN.{length}
-use borrow.Author.Tests.{eqb-true, eq-eqb, ne-eqb, not-true, not-false, leb-true, leb-false}
+use borrow.Author.Tests.{eqb-true, eq-eqb, not-true, not-false, leb-true, leb-false}
 use Rattle.classes.proofs.Rows.{same-true}
 use Rattle.classes.proofs.Bools.{or-off}
-use Rattle.numbers.specs.Limits.{parameterLimit}
 use Rattle.classes.specs.Lists.{sameBytes, pick}
 use Rattle.numbers.specs.Decimal.{isIntLike}
 use Rattle.reading_rules.specs.Record.{Up, top, under, Record, recordAt, isTop, sameUp}
-use Rattle.reading_rules.specs.Schema.{Kind, void, simple, struct, union, reference, kindOf, isUnder, isUntaggedOf, isTaggedOf, isTaggedAs}
+use Rattle.reading_rules.specs.Schema.{void, simple, struct, union, reference, kindOf, isUnder, isUntaggedOf, isTaggedOf, isTaggedAs}
 use Rattle.reading_rules.proofs.CountLaws.{clash-bool, and-both}
 use Rattle.reading_rules.proofs.Rules.{ReadingRules}
 use Rattle.definition_rules.specs.Faults.{isUnionAt, voidMany, anyOf, anyBefore, parentKind, beside, misplacedField, misplacedAlternative, misplacedUntagged, numberTag, voidTop, pluginUndotted, rule7Broken, hasWireTag, tagRepeated}

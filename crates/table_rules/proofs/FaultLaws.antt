@@ -2,14 +2,13 @@
 use mathlib.Core.Path.{_≡_, refl, ap, sym, _∙_}
 use mathlib.Core.Bool.{Bool, true, false, not}
 use mathlib.Core.List.{List, [], _∷_}
-use Prim.Native.Nat.{ℕ, suc, _-_}
+use Prim.Native.Nat.{ℕ, suc}
 use native.Mathlib.Omega.{arith}
 use lib.ListN.{length}
 use borrow.Author.Tests.{eq-eqb, eqb-true, not-true, not-false}
 use Rattle.classes.specs.Lists.{sameBytes, All}
 use Rattle.classes.proofs.Rows.{same-true, bytes-self}
 use Rattle.classes.proofs.Bools.{clash-bool, both-true}
-use Rattle.numbers.specs.Range.{number}
 use Rattle.definition_rules.specs.Scan.{placeIf, Item}
 use Rattle.reading_rules.specs.Record.{Up, top, under, Record, sameUp}
 use Rattle.definition_rules.specs.Declarations.{declarationsOf, Declaration, Noted, noted, Spots}

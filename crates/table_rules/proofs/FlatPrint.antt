@@ -2,17 +2,16 @@
 use mathlib.Core.Path.{_≡_, refl, ap, _∙_}
 use mathlib.Core.Bool.{Bool, true, false}
 use mathlib.Core.List.{List, [], _∷_}
-use Prim.Native.Nat.{ℕ, suc, _+_, _-_, _≤_}
+use Prim.Native.Nat.{ℕ, suc, _+_, _≤_}
 use native.Mathlib.Omega.{arith}
 use lib.ListN.{length}
 use borrow.Author.Tests.{ne-eqb}
 use Rattle.classes.specs.Lists.{pick}
 use Rattle.definition_rules.specs.Words.{isCompound}
 use Rattle.definition_rules.specs.Scan.{TextToken, mark}
-use Rattle.definition_rules.specs.Forms.{typeRun, putHead, HeadAllowed, Heading, groups, field, group, Level, topLevel, fieldLevel}
+use Rattle.definition_rules.specs.Forms.{typeRun, putHead, HeadAllowed, Heading, Level, topLevel, fieldLevel}
 use Rattle.reading_rules.specs.Record.{Up, top}
 use Rattle.definition_rules.specs.Declarations.{allow, takesField, takesClose, takesGroupEnd, isExtension, afterField, fieldDone, parentOf, isUnderExtension, startMark, step, mapOutcome, endIf, atEnd, parseForms, declarationsOf, Declaration, declaration, BodyMode, inFields, groupOpened, inGroup, groupsClosed, Frame, frame, atStart, complete}
-use Rattle.definition_rules.specs.Table.{just}
 use Rattle.table_rules.specs.RecordRules.{isOpen, closedTo, inExtension, pushIf}
 use Rattle.definition_rules.proofs.FormComplete.{parse-move, StandsAt, read-head, told, told-note, end-plain, end-brace, close}
 

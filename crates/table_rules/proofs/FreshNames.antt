@@ -9,9 +9,8 @@ use lib.Dec.{leb, eqb}
 use lib.ListN.{length}
 use borrow.Author.Tests.{ne-eqb, eqb-true, eqb-false, le-leb, lt-leb}
 use Rattle.classes.specs.Lists.{sameBytes, every}
-use Rattle.classes.specs.Bytes.{between, isLetter, isNameByte}
+use Rattle.classes.specs.Bytes.{isLetter, isNameByte}
 use Rattle.definition_rules.specs.Words.{numberIf, numberIn, kindOfRun, isKeyword, startsWithLetter, nameForm}
-use Rattle.numbers.specs.Range.{number}
 use Rattle.definition_rules.specs.Table.{bit}
 use mathlib.Core.Logic.{_⊎_, inl, inr}
 

@@ -2,11 +2,10 @@
 use mathlib.Core.Path.{_≡_, refl}
 use mathlib.Core.Bool.{_||_, Bool, true, false, not, _&&_, or-true}
 use mathlib.Core.List.{List, [], _∷_, _++_}
-use Prim.Native.Nat.{ℕ, zero, suc, _+_, _-_, _≤_}
+use Prim.Native.Nat.{ℕ, zero, suc, _-_, _≤_}
 use native.Mathlib.Omega.{arith}
 use lib.Dec.{leb, eqb, ltb}
 use lib.ListN.{length}
-use borrow.Author.Tests.{le-leb}
 use Rattle.classes.proofs.Bools.{clash-bool, both-true}
 use Rattle.numbers.specs.Limits.{bias}
 use Rattle.classes.specs.Lists.{every, pick, notEmpty, All}
@@ -17,7 +16,7 @@ use Rattle.definition_rules.specs.Forms.{typeRun, putRange, putCard, putTag, pu
 use Rattle.reading_rules.specs.Record.{Up, top}
 use Rattle.definition_rules.specs.Declarations.{Declaration, declaration, BodyMode, inFields, groupOpened, inGroup, groupsClosed, Frame, frame}
 use Rattle.table_rules.specs.RecordRules.{isOpen, closedTo, inExtension}
-use Rattle.table_rules.proofs.Numerals.{writeDigits, writeNat, Digit, writeInt, written-digits, in-range}
+use Rattle.table_rules.proofs.Numerals.{writeNat, Digit, writeInt, written-digits, in-range}
 use Rattle.table_rules.proofs.Spelling.{RunBytes, GoodToken}
 use Rattle.table_rules.proofs.FlatPrint.{putEndOf, putHeading, pushed, putClose, putCloses, putOpen, printFlat}
 use Rattle.table_rules.proofs.Witness.{writeUpper, writeCount, writeRange, keywordOf}

@@ -2,7 +2,7 @@
 use mathlib.Core.Path.{_≡_, refl}
 use mathlib.Core.Bool.{Bool, true, false, not, _&&_, _||_}
 use mathlib.Core.List.{List, [], _∷_}
-use Prim.Native.Nat.{ℕ, suc, _+_, _-_, _≤_, _<_}
+use Prim.Native.Nat.{ℕ, suc, _+_, _≤_, _<_}
 use native.Mathlib.Omega.{arith}
 use lib.Dec.{leb, eqb}
 use lib.ListN.{length}
@@ -14,7 +14,7 @@ use Rattle.definition_rules.specs.Words.{kindTakesRange, isReference, isKeyword
 use Rattle.classes.specs.Bytes.{isNameByte, isTagByte}
 use Rattle.definition_rules.specs.Forms.{MaybeRun, absent, given, Tag, ownName, tagless, explicit}
 use Rattle.reading_rules.specs.Record.{Up, top, under, Record, isTop}
-use Rattle.definition_rules.specs.Declarations.{Declaration, declaration}
+use Rattle.definition_rules.specs.Declarations.{Declaration}
 use Rattle.definition_rules.specs.Records.{kindLeast, kindMost, findTop, orNone}
 use Rattle.definition_rules.specs.Faults.{nameBroken, referenceBroken, tagBrokenIn, tagBroken, withinKind, countFine, rangeBroken, countBroken, kindOfDeclaration, kindsOf, dangling}
 use Rattle.table_rules.specs.RecordRules.{kindsOfRecords, isSingleValue, showsName, labelFine}

@@ -1,7 +1,7 @@
 -- Values made after number 10's steps: "a finite value" is a lawful tree whose leaves are tokens.
 use mathlib.Core.Path.{_≡_, refl, ap, subst, sym, _∙_}
 use mathlib.Core.Bool.{Bool, true, false, not, _&&_, _||_, or-true}
-use mathlib.Core.List.{List, [], _∷_, _++_}
+use mathlib.Core.List.{List, [], _∷_}
 use Prim.Native.Nat.{ℕ, zero, suc, _+_, _≤_, _<_}
 use native.Mathlib.Omega.{arith}
 use lib.Dec.{eqb, leb}
@@ -10,24 +10,23 @@ use borrow.Author.Tests.{eqb-true, eqb-false, le-leb, leb-true, leb-false}
 use Rattle.classes.proofs.Rows.{bytes-self}
 use Rattle.numbers.specs.Limits.{noLimit}
 use Rattle.classes.specs.Lists.{pick}
-use Rattle.reading_rules.specs.Token.{Token, word, string, equals, comma, opening, closing, isToken}
+use Rattle.reading_rules.specs.Token.{Token, word, equals, comma, opening, closing, isToken}
 use Rattle.reading_rules.specs.Record.{Up, top, under, Record, recordAt, isTop}
 use Rattle.reading_rules.specs.Value.{valueNumber}
-use Rattle.reading_rules.specs.Schema.{Kind, void, simple, struct, union, reference, isVoid, Found, nowhere, found, first, Schema, atMost, kindOf, coreOf, schemaOf, isTaggedOf, isUntaggedOf, isTaggedAs, isUnder, numbersWhere}
-use Rattle.reading_rules.specs.Count.{times, In, Once}
-use Rattle.reading_rules.proofs.CountLaws.{clash-bool, and-both, in-nil, in-head, in-tail, in-cons}
+use Rattle.reading_rules.specs.Schema.{simple, struct, union, reference, isVoid, found, first, Schema, atMost, kindOf, coreOf, schemaOf, isTaggedOf, isUntaggedOf, isUnder, numbersWhere}
+use Rattle.reading_rules.specs.Count.{In, Once}
+use Rattle.reading_rules.proofs.CountLaws.{clash-bool, in-nil, in-head, in-tail}
 use Rattle.reading_rules.proofs.Rules.{tag-found}
-use Rattle.reading_rules.specs.Reading.{TreeSort, value, list, body, items, Tree, leaf, braced, chosenVoid, chosen, chosenInt, last, more, listed, stopped, itemized, noItem, voidItem, listItem, leavesThen, leaves, count, fieldsOf, InRange, Law}
+use Rattle.reading_rules.specs.Reading.{TreeSort, value, list, body, items, Tree, leaf, braced, chosenVoid, chosen, chosenInt, last, more, listed, stopped, itemized, noItem, voidItem, listItem, leavesThen, count, fieldsOf, InRange, Law}
 use Rattle.definition_rules.specs.Words.{tagForm, hasDot}
 use Rattle.definition_rules.specs.Faults.{voidTop, pluginUndotted}
 use Rattle.table_rules.specs.Endless.{areTokens}
 use Rattle.table_rules.specs.RecordRules.{showsName, labelFine}
-use Rattle.table_rules.proofs.RuleFacts.{Fine, flag-of}
-use Rattle.table_rules.proofs.Facts.{Formed, and-off, fine-at, seven-at, apart, untagged-is, tagged-is, bare-at, kind-union}
+use Rattle.table_rules.proofs.RuleFacts.{flag-of}
+use Rattle.table_rules.proofs.Facts.{Formed, and-off, fine-at, seven-at, apart, untagged-is, tagged-is, bare-at}
 use Rattle.table_rules.proofs.Steps.{where-in, in-where, where-once, put, cut, required, needs, Step, ClosedSet, field-at, untagged-in}
 use Rattle.table_rules.proofs.Needed.{required-le, first-in, kind-is, target-at}
 use Rattle.table_rules.proofs.Words.{tag-token, int-value, simple-value}
-use Rattle.reading_rules.specs.Parse.{requiredOf}
 use Rattle.reading_rules.proofs.Inverse.{required-is}
 use Rattle.reading_rules.proofs.Sound.{required-in}
 

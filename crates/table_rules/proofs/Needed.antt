@@ -1,22 +1,22 @@
 -- What stands in the list of a struct's needs; targets of references.
-use mathlib.Core.Path.{_≡_, refl, ap, sym, _∙_}
-use mathlib.Core.Bool.{Bool, true, false, not, _&&_, _||_}
-use mathlib.Core.List.{List, [], _∷_, _++_}
+use mathlib.Core.Path.{_≡_, refl, ap, _∙_}
+use mathlib.Core.Bool.{Bool, true, false, _||_}
+use mathlib.Core.List.{List, [], _∷_}
 use Prim.Native.Nat.{ℕ, zero, suc, _+_, _≤_, _<_}
 use native.Mathlib.Omega.{arith}
 use lib.Dec.{eqb}
 use lib.ListN.{length}
 use borrow.Author.Tests.{eqb-true, eqb-false, eq-eqb}
-use Rattle.reading_rules.specs.Record.{Up, top, under, Record, recordAt, isTop}
-use Rattle.reading_rules.specs.Schema.{Kind, void, simple, struct, union, reference, Found, nowhere, found, first, Schema, kindOf, schemaOf, isTaggedOf, isTaggedAs, isUnder, firstWhere}
-use Rattle.reading_rules.specs.Count.{times, same, In, Once}
+use Rattle.reading_rules.specs.Record.{Record, recordAt, isTop}
+use Rattle.reading_rules.specs.Schema.{Kind, void, simple, struct, union, reference, found, first, Schema, kindOf, schemaOf, isTaggedOf, isTaggedAs}
+use Rattle.reading_rules.specs.Count.{times, same, In}
 use Rattle.reading_rules.proofs.CountLaws.{clash-bool, and-both, in-nil, in-head, in-cons}
 use Rattle.reading_rules.proofs.Rules.{where-is}
 use Rattle.classes.specs.Lists.{pick}
 use Rattle.table_rules.specs.RecordRules.{isTopAt, targetFine}
-use Rattle.table_rules.proofs.RuleFacts.{Fine, top-lt}
+use Rattle.table_rules.proofs.RuleFacts.{top-lt}
 use Rattle.table_rules.proofs.Facts.{Formed, fine-at}
-use Rattle.table_rules.proofs.Steps.{put, cut, needs}
+use Rattle.table_rules.proofs.Steps.{put, cut}
 use Rattle.reading_rules.specs.Parse.{requiredOf}
 
 pub required-le : (S : Schema) (k : ℕ) (l : List ℕ) → times k (requiredOf S l) ≤ times k l

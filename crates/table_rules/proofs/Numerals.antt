@@ -1,8 +1,8 @@
 -- Numbers written in decimal, and read back.
 use mathlib.Core.Path.{_≡_, refl, ap, _∙_}
-use mathlib.Core.Bool.{Bool, true, false, _&&_}
+use mathlib.Core.Bool.{Bool, true, false}
 use mathlib.Core.List.{List, [], _∷_, _++_}
-use Prim.Native.Nat.{ℕ, zero, suc, _+_, _*_, _-_, _/_, _%_, _≤_, _<_}
+use Prim.Native.Nat.{ℕ, zero, suc, _+_, _-_, _/_, _%_, _≤_, _<_}
 use native.Mathlib.Nat.{div-add-mod', mod-lt, div-lt-self, le-div-iff-mul-le}
 use native.Mathlib.Omega.{arith}
 use lib.Dec.{eqb, leb, ltb}
@@ -10,7 +10,7 @@ use borrow.Author.Tests.{ne-eqb, le-leb, leb-true, ltb-false, ltb-true, lt-ltb}
 use Rattle.classes.specs.Lists.{pick, every, All}
 use Rattle.classes.specs.Bytes.{between, isDigit}
 use Rattle.numbers.specs.Limits.{bias, intMost, countLimit}
-use Rattle.numbers.specs.Decimal.{readDigits, numberOf, isNatural, isMinus, isInt, intWithin, biasedInt}
+use Rattle.numbers.specs.Decimal.{readDigits, numberOf, isNatural, isInt, intWithin, biasedInt}
 use Rattle.numbers.specs.Range.{numberWhen, readCount, readInt, beforeSides, secondDot, cutRange, number, sides}
 use Rattle.reading_rules.proofs.CountLaws.{clash-bool, and-both}
 

@@ -1,19 +1,18 @@
 -- A lawful value shows that its parameter lies in every set closed under number 10's steps.
 use mathlib.Core.Path.{_≡_, refl, ap, subst, sym}
-use mathlib.Core.Bool.{Bool, true, false, not, _&&_, _||_}
-use mathlib.Core.List.{List, [], _∷_, _++_}
-use Prim.Native.Nat.{ℕ, zero, suc, _+_, _≤_, _<_}
+use mathlib.Core.Bool.{true}
+use mathlib.Core.List.{List, _∷_}
+use Prim.Native.Nat.{ℕ, _<_}
 use lib.Dec.{eqb}
 use lib.ListN.{length}
-use Rattle.reading_rules.specs.Record.{Up, top, under, Record, recordAt}
-use Rattle.reading_rules.specs.Schema.{Kind, void, simple, struct, union, reference, isVoid, Found, nowhere, found, first, Schema, kindOf, coreOf, schemaOf, isTaggedOf, isUntaggedOf, isUnder, numbersWhere}
-use Rattle.reading_rules.specs.Count.{times, In, Once}
+use Rattle.reading_rules.specs.Record.{Record, recordAt}
+use Rattle.reading_rules.specs.Schema.{Kind, void, simple, struct, union, reference, isVoid, found, Schema, kindOf, coreOf, schemaOf, isTaggedOf, isUntaggedOf, isUnder, numbersWhere}
+use Rattle.reading_rules.specs.Count.{In}
 use Rattle.reading_rules.proofs.CountLaws.{clash-bool, and-both, in-nil, in-head, in-tail, in-cons}
 use Rattle.reading_rules.specs.Reading.{TreeSort, unknownValue, unknownList, value, list, body, items, Tree, unknownWord, unknownString, unknownBraces, unknownPair, unknownLast, unknownMore, leaf, braced, chosenVoid, chosen, chosenInt, last, more, listed, stopped, itemized, noItem, voidItem, listItem, unknownItem, unknownListItem, fieldsOf, For, Law}
 use Rattle.table_rules.proofs.Facts.{Formed, bare-at, kind-union}
-use Rattle.table_rules.proofs.Steps.{put, cut, required, needs, Step, ClosedSet, untagged-in}
+use Rattle.table_rules.proofs.Steps.{cut, required, needs, Step, ClosedSet, untagged-in}
 use Rattle.table_rules.proofs.Needed.{in-cut, first-in, find-is, kind-is, target-at}
-use Rattle.reading_rules.specs.Parse.{requiredOf}
 use Rattle.reading_rules.proofs.Inverse.{required-is}
 
 pub void-is : (k : Kind) → isVoid k ≡ true → k ≡ void

@@ -2,7 +2,7 @@
 use mathlib.Core.Path.{_≡_, refl, ap, sym}
 use mathlib.Core.Bool.{Bool, true, false, not, _&&_, _||_}
 use mathlib.Core.List.{List, [], _∷_}
-use Prim.Native.Nat.{ℕ, zero, suc, _-_, _≤_, _<_}
+use Prim.Native.Nat.{ℕ, zero, suc, _≤_, _<_}
 use native.Mathlib.Omega.{arith}
 use lib.Dec.{leb, eqb}
 use lib.ListN.{length}
@@ -12,7 +12,7 @@ use Rattle.classes.proofs.Bools.{clash-bool, both-true}
 use Rattle.numbers.specs.Limits.{countLimit, noLimit, none16}
 use Rattle.classes.specs.Lists.{sameBytes, pick, All}
 use Rattle.definition_rules.specs.Words.{nameForm}
-use Rattle.definition_rules.specs.Forms.{MaybeRun, given, tops}
+use Rattle.definition_rules.specs.Forms.{MaybeRun, given}
 use Rattle.reading_rules.specs.Record.{Up, top, under, Record, isTop}
 use Rattle.definition_rules.specs.Records.{kindLeast, kindMost, isNamed}
 use Rattle.definition_rules.specs.Faults.{Key, key}

@@ -2,7 +2,7 @@
 use mathlib.Core.Path.{_≡_, refl, ap, sym, _∙_}
 use mathlib.Core.Bool.{Bool, true, false, _&&_}
 use mathlib.Core.List.{List, [], _∷_}
-use Prim.Native.Nat.{ℕ, suc, _-_, _≤_, _<_}
+use Prim.Native.Nat.{ℕ, suc, _≤_, _<_}
 use native.Mathlib.Omega.{arith}
 use lib.Dec.{leb, eqb}
 use lib.ListN.{length, drop-of-length-le}
@@ -11,16 +11,16 @@ use Rattle.classes.proofs.Bools.{both-true}
 use Rattle.classes.specs.Bytes.{IsBytes}
 use Rattle.table_rules.proofs.TextBytes.{all-bytes, printed-bytes}
 use Rattle.numbers.specs.Limits.{textLimit}
-use Rattle.classes.specs.Lists.{every, pick, All}
+use Rattle.classes.specs.Lists.{pick, All}
 use Rattle.definition_rules.specs.Scan.{itemsOf, textTokensOf, placeIf, TextToken, Item}
 use Rattle.definition_rules.specs.Forms.{MaybeRun}
 use Rattle.reading_rules.specs.Record.{Up, top, under, Record}
-use Rattle.definition_rules.specs.Declarations.{allow, parseTokens, declarationsOf, Declaration, Noted, noted, complete}
+use Rattle.definition_rules.specs.Declarations.{parseTokens, declarationsOf, Declaration, Noted, noted, complete}
 use Rattle.definition_rules.specs.Finite.{finites, isEndless}
 use Rattle.definition_rules.specs.Table.{encode}
 use Rattle.definition_rules.specs.Records.{topNames, recordsOf}
 use Rattle.definition_rules.specs.Faults.{nameSpots, nameBroken, referenceBroken, tagBroken, rangeBroken, countBroken, kindsOf, isUnionAt, isAlternative, isGiven, countOnAlternative, voidMany, rule7Broken, tagRepeated, rootNoStruct, dangling}
-use Rattle.definition_rules.specs.Compile.{faults1, faults2, faults3, notedOf, checksOf, outcomeOf, recordsOfText, checksAfter, checksFrom, checks, verdict, check, table, Empty, AllEmpty}
+use Rattle.definition_rules.specs.Compile.{faults1, faults2, faults3, notedOf, checksOf, outcomeOf, recordsOfText, checksAfter, checksFrom, checks, verdict, table, Empty, AllEmpty}
 use Rattle.table_rules.specs.RecordRules.{ordered, kindsOfRecords, isSingleValue, targetFine, labelFine, topFine, recordFine, everyRecord, noneBroken, shownNames, allNew, recordChecks, recordRules}
 use Rattle.definition_rules.proofs.FirstFault.{clean-table}
 use Rattle.definition_rules.proofs.FormComplete.{told, told-complete}

@@ -2,14 +2,14 @@
 use mathlib.Core.Path.{_≡_, refl, ap, _∙_}
 use mathlib.Core.Bool.{Bool, true, false, not, _&&_, _||_}
 use mathlib.Core.List.{List, [], _∷_, _++_}
-use Prim.Native.Nat.{ℕ, suc, _+_, _-_}
+use Prim.Native.Nat.{ℕ, suc}
 use native.Mathlib.Omega.{arith}
 use lib.Dec.{leb, eqb, ltb}
 use borrow.Author.Tests.{lt-leb, leb-false, ltb-true, lt-ltb}
 use Rattle.classes.specs.Lists.{All}
 use Rattle.classes.proofs.Bools.{both-true}
 use Rattle.numbers.specs.Limits.{depthLimit}
-use Rattle.definition_rules.specs.Words.{classOf, inRun, blank, single}
+use Rattle.definition_rules.specs.Words.{classOf, inRun, single}
 use Rattle.definition_rules.specs.Scan.{joinRun, scan, textTokensOf, badPlaces, bracesAfter, isDeepBrace, placeIf, deepPlaces, TextToken, run, mark, Item, gap, item, bad, outside}
 use Rattle.definition_rules.proofs.ScanLaws.{place-none, at-run, at-single}
 

@@ -1,20 +1,20 @@
 -- Number 10's steps over any sets of parameters, in the schema's questions.
 use mathlib.Core.Path.{_≡_, refl, ap, subst, sym, _∙_}
 use mathlib.Core.Bool.{Bool, true, false, not, _&&_, _||_}
-use mathlib.Core.List.{List, [], _∷_, _++_}
+use mathlib.Core.List.{List, [], _∷_}
 use Prim.Native.Nat.{ℕ, zero, suc, _+_, _≤_, _<_}
 use native.Mathlib.Omega.{arith}
-use lib.Dec.{eqb, leb, ltb}
+use lib.Dec.{eqb}
 use lib.ListN.{length, getD, replicate}
-use borrow.Author.Tests.{eqb-true, eqb-false, eq-eqb, ne-eqb, not-true, not-false}
+use borrow.Author.Tests.{eqb-true, ne-eqb}
 use Rattle.classes.proofs.Bools.{or-off}
-use Rattle.reading_rules.specs.Record.{Up, top, under, Record, recordAt, isTop, sameUp}
+use Rattle.reading_rules.specs.Record.{Up, under, Record, recordAt}
 use Rattle.reading_rules.specs.Schema.{Kind, void, simple, struct, union, reference, Schema, kindOf, isUnder, isUntaggedOf, isTaggedOf, numbersWhere, schemaOf}
-use Rattle.reading_rules.specs.Count.{times, same, In, Once}
+use Rattle.reading_rules.specs.Count.{times, In, Once}
 use Rattle.reading_rules.proofs.CountLaws.{clash-bool, and-both, same-case, same-le, in-nil, in-head, in-tail, in-cons}
 use Rattle.classes.specs.Lists.{pick}
 use Rattle.definition_rules.specs.Faults.{anyBefore, parentKind, beside, misplacedField, misplacedAlternative, misplacedUntagged}
-use Rattle.definition_rules.specs.Finite.{canDoWithout, endsNeeds, structStep, unionStep, finiteStep, round, rounds, finites, Sub}
+use Rattle.definition_rules.specs.Finite.{canDoWithout, endsNeeds, structStep, unionStep, finiteStep, round, rounds, finites}
 use Rattle.definition_rules.proofs.FiniteLaws.{sub-at, finites-closed}
 use Rattle.table_rules.proofs.Facts.{Formed, and-off, before-none, untagged-is, tagged-is, seven-at, same-under}
 use Rattle.reading_rules.specs.Parse.{requiredOf}

@@ -1,8 +1,8 @@
 -- T6 over texts: number 10 is given exactly when some struct or union has no lawful value, at the first one's name.
 use mathlib.Core.Path.{_≡_, refl, ap, sym, _∙_}
-use mathlib.Core.Bool.{Bool, true, false, not, _&&_}
-use mathlib.Core.List.{List, [], _∷_, _++_}
-use mathlib.Core.Logic.{_↔_, _⊎_, inl, inr}
+use mathlib.Core.Bool.{Bool, true, false}
+use mathlib.Core.List.{List, [], _∷_}
+use mathlib.Core.Logic.{_↔_, inl, inr}
 use Prim.Native.Nat.{ℕ, zero, suc, _+_, _≤_, _<_}
 use native.Mathlib.Omega.{arith}
 use lib.Dec.{ltb}
@@ -10,16 +10,13 @@ use lib.ListN.{length, getD}
 use Rattle.classes.specs.Lists.{pick}
 use Rattle.numbers.specs.Limits.{parameterLimit}
 use Rattle.reading_rules.specs.Record.{Record, recordAt}
-use Rattle.reading_rules.proofs.CountLaws.{clash-bool}
-use Rattle.definition_rules.specs.Words.{kindIsCompound}
 use Rattle.definition_rules.specs.Scan.{Item, itemsOf, placeIf}
-use Rattle.definition_rules.specs.Declarations.{Spots, Noted, noted, Outcome, stuckAt, complete, declarationsOf}
+use Rattle.definition_rules.specs.Declarations.{Noted, noted, Outcome, declarationsOf}
 use Rattle.definition_rules.specs.Records.{topNames, recordsOf}
 use Rattle.definition_rules.specs.Faults.{recordSpots, nameSpots, faults10}
 use Rattle.definition_rules.specs.Finite.{finites, isEndless}
-use Rattle.definition_rules.specs.Compile.{Check, check, Finding, clean, fault, leastOf, findingOf, firstFault, tokenPlace, tokenPlaces, notedOf, outcomeOf, recordsOfText, checks, checksFrom, checksAfter, checksOf, verdictOf, Verdict, refused, table, verdict, CompileAnswer, compiled, refusal, answerWithRoom, compileAnswer, IsPlace, Least}
+use Rattle.definition_rules.specs.Compile.{check, Finding, clean, fault, leastOf, findingOf, firstFault, tokenPlace, tokenPlaces, notedOf, outcomeOf, recordsOfText, checks, checksFrom, checksAfter, checksOf, verdictOf, Verdict, refused, table, verdict, compiled, refusal, answerWithRoom, compileAnswer, IsPlace, Least}
 use Rattle.definition_rules.proofs.FirstFault.{least-of, pass}
-use Rattle.table_rules.specs.RecordRules.{noneBroken}
 use Rattle.table_rules.specs.Endless.{LawfulValue, Compound, namePlace, FirstEndless, EndlessPromise}
 use Rattle.table_rules.proofs.TextRules.{length-records, noted-length, text-ten, text-rules-records}
 use Rattle.table_rules.proofs.Facts.{Formed}

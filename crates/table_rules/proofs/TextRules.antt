@@ -2,7 +2,7 @@
 use mathlib.Core.Path.{_≡_, refl, ap, subst, sym, _∙_}
 use mathlib.Core.Bool.{Bool, true, false, not, _&&_, _||_}
 use mathlib.Core.List.{List, [], _∷_}
-use Prim.Native.Nat.{ℕ, zero, suc, _+_, _-_, _≤_, _<_}
+use Prim.Native.Nat.{ℕ, zero, suc, _+_, _≤_, _<_}
 use native.Mathlib.Omega.{arith}
 use lib.Dec.{leb, eqb, ltb}
 use lib.ListN.{length, drop, length-drop}
@@ -11,8 +11,8 @@ use Rattle.classes.specs.Bytes.{IsBytes, Byte}
 use Rattle.classes.proofs.Rows.{both-nil}
 use Rattle.classes.proofs.Bools.{clash-bool, both-true}
 use Rattle.numbers.specs.Limits.{depthLimit, parameterLimit, countLimit, noLimit, none16}
-use Rattle.classes.specs.Lists.{sameBytes, every, pick, some, All}
-use Rattle.definition_rules.specs.Words.{numberIf, numberIn, kindOfRun, kindIsCompound, isCompound, isReference, isKeyword, startsWithLetter, nameForm, tagForm, other}
+use Rattle.classes.specs.Lists.{sameBytes, every, pick, All}
+use Rattle.definition_rules.specs.Words.{numberIf, numberIn, kindOfRun, kindIsCompound, isCompound, isReference, isKeyword, startsWithLetter, nameForm, tagForm}
 use Rattle.classes.specs.Bytes.{isNameByte, isTagByte}
 use Rattle.numbers.specs.Decimal.{numberOf, isNatural}
 use Rattle.numbers.specs.Range.{numberWhen, readCount, cutRange, onSides, lowOf, highOf, bothRead, readUpper, readCountRange, MaybeNumber, unread, number, Sides, uncut, sides, MaybeRange, noRange, range}
@@ -24,7 +24,7 @@ use Rattle.definition_rules.specs.Finite.{finites, isEndless}
 use Rattle.definition_rules.specs.Table.{upNumber, encode, decode, Maybe, none, just, Storable}
 use Rattle.definition_rules.specs.Records.{kindLeast, kindMost, limitsOf, countRangeOf, topName, topNames, isNamed, findTop, orNone, targetOf, isTagless, labelOf, recordFor, recordsFor, recordsOf}
 use Rattle.definition_rules.specs.Faults.{spotsWhere, recordSpots, nameSpots, faults4, nameBroken, referenceBroken, tagBrokenIn, tagBroken, faults5, withinKind, countFine, rangeBroken, countBroken, kindOfDeclaration, kindsOf, isUnionAt, isAlternative, isGiven, countOnAlternative, voidMany, faults6, rule7Broken, faults7, nameKey, repeatedNames, tagRepeated, faults8, rootNoStruct, dangling, faults9, faults10, Key, key}
-use Rattle.definition_rules.specs.Compile.{faults2, faults3, notedOf, checksOf, outcomeOf, recordsOfText, checksAfter, checksFrom, checks, verdict, verdictOf, clean, refused, table, Check, check, Finding, fault, findingOf, firstFault, tokenPlaces, faults1, Empty, AllEmpty}
+use Rattle.definition_rules.specs.Compile.{faults2, faults3, notedOf, checksOf, outcomeOf, recordsOfText, checksAfter, checksFrom, checks, verdict, verdictOf, clean, refused, table, check, Finding, fault, findingOf, firstFault, tokenPlaces, faults1, Empty, AllEmpty}
 use Rattle.table_rules.specs.RecordRules.{isOpen, closedTo, inExtension, pushIf, mayStand, standsIn, ordered, kindsOfRecords, isSingleValue, isTopAt, targetFine, showsName, labelFine, topFine, recordFine, everyRecord, noneBroken, keyIf, shownNames, recordChecks, recordRules, rulesOf, tableRules}
 use Rattle.definition_rules.proofs.TableLaws.{decode-encode, encode-decode}
 use Rattle.definition_rules.proofs.FirstFault.{pass, table-clean}

@@ -1,30 +1,30 @@
 -- T6: number 10's steps find exactly the parameters that have a lawful value, without limit of length or depth.
-use mathlib.Core.Path.{_≡_, refl, ap, subst, sym, _∙_}
-use mathlib.Core.Bool.{Bool, true, false, not, _&&_, _||_}
-use mathlib.Core.List.{List, [], _∷_, _++_}
+use mathlib.Core.Path.{_≡_, refl, ap, sym, _∙_}
+use mathlib.Core.Bool.{Bool, true, false, not}
+use mathlib.Core.List.{List, []}
 use mathlib.Core.Logic.{_↔_}
-use Prim.Native.Nat.{ℕ, zero, suc, _+_, _≤_, _<_}
+use Prim.Native.Nat.{ℕ, _≤_, _<_}
 use native.Mathlib.Omega.{arith}
 use lib.Dec.{eqb, leb}
 use lib.ListN.{length, getD}
-use borrow.Author.Tests.{eqb-true, eq-eqb, leb-true, not-true, not-false}
+use borrow.Author.Tests.{eqb-true, leb-true, not-true, not-false}
 use Rattle.numbers.specs.Limits.{parameterLimit}
 use Rattle.reading_rules.specs.Record.{Record, recordAt}
 use Rattle.reading_rules.specs.Schema.{Kind, void, simple, struct, union, reference, isVoid, Schema, kindOf, coreOf, schemaOf}
 use Rattle.reading_rules.proofs.CountLaws.{clash-bool, and-both}
-use Rattle.reading_rules.specs.Reading.{value, body, Tree, leaf, braced, chosenVoid, chosen, chosenInt, leavesThen, leaves, Law, Lawful}
+use Rattle.reading_rules.specs.Reading.{value, body, Tree, leaf, braced, chosenVoid, chosen, chosenInt, leaves, Law, Lawful}
 use Rattle.definition_rules.specs.Words.{kindIsCompound}
 use Rattle.definition_rules.specs.Faults.{isUnionAt, voidMany, rule7Broken, tagRepeated, rootNoStruct}
 use Rattle.definition_rules.specs.Finite.{finites, isEndless}
 use Rattle.table_rules.specs.Endless.{areTokens, LawfulValue}
 use Rattle.table_rules.specs.RecordRules.{ordered, kindsOfRecords, recordFine, everyRecord, noneBroken, shownNames, allNew, recordChecks, recordRules}
-use Rattle.definition_rules.specs.Table.{Maybe, just, decode}
+use Rattle.definition_rules.specs.Table.{just, decode}
 use Rattle.definition_rules.specs.Compile.{table, verdict}
 use Rattle.table_rules.proofs.Facts.{Formed, rules-formed, none-of, and-off}
 use Rattle.table_rules.proofs.Theorems.{text-records}
 use Rattle.table_rules.proofs.Steps.{finite-closed, finite-least}
 use Rattle.table_rules.proofs.Read.{value-in}
-use Rattle.table_rules.proofs.Make.{Real, Have, none, some, have-closed}
+use Rattle.table_rules.proofs.Make.{Have, none, some, have-closed}
 
 no-void : (rs : List Record) (p : ℕ) → isVoid (schemaOf rs .kind p) ≡ true → recordAt rs p .kind ≡ 1
 unfolding schemaOf isVoid kindOf
@@ -54,10 +54,6 @@ compound-some k e o = and-both (leb 8 k) (leb k 9) e (λ a b. let z = leb-true 8
 pub compound-value : (rs : List Record) → Formed rs → (p : ℕ) → p < length rs → kindIsCompound (recordAt rs p .kind) ≡ true → (getD (finites rs) p false ≡ true) ↔ LawfulValue rs p
 compound-value rs F p h e = finite-value rs F p h (compound-some (recordAt rs p .kind) e)
 
--- a lawful value needs no look at its leaves
-pub value-finite : (rs : List Record) → Formed rs → (p : ℕ) → p < length rs → (t : Tree value) → Law (schemaOf rs) p t → getD (finites rs) p false ≡ true
-value-finite rs F p h t l = value-in rs F (λ q. getD (finites rs) q false ≡ true) (finite-closed rs F) p t h l
-
 -- "a struct or union with no finite value"
 pub endless-iff : (rs : List Record) → Formed rs → (p : ℕ) → p < length rs → (isEndless (finites rs) p (recordAt rs p) ≡ true) ↔ ((kindIsCompound (recordAt rs p .kind) ≡ true) × (LawfulValue rs p → ⊥))
 unfolding isEndless
@@ -69,44 +65,6 @@ endless-iff rs F p h = (
     by : (b : Bool) → getD (finites rs) p false ≡ b → kindIsCompound (recordAt rs p .kind) ≡ true → (LawfulValue rs p → ⊥) → not b ≡ true
     by true e a f = absurd (f (compound-value rs F p h a .0 e))
     by false e a f = refl
-
--- ---- the rules, and number 10 apart
-
-unfoldable pub rulesButTen : ℕ → List Record → Bool
-rulesButTen limit rs =
-    leb 1 (length rs) && (leb (length rs) limit
-    && (ordered [] 0 rs
-    && (everyRecord (recordFine rs (isUnionAt (kindsOfRecords rs))) rs
-    && (allNew (shownNames rs)
-    && (noneBroken voidMany 0 rs
-    && (noneBroken (rule7Broken rs) 0 rs
-    && (noneBroken (tagRepeated rs) 0 rs
-    && noneBroken rootNoStruct 0 rs)))))))
-
-and-last : (a x y n : Bool) → x ≡ y && n → a && x ≡ a && y && n
-and-last true x y n e = e
-and-last false x y n e = refl
-
-pub rules-ten : (limit : ℕ) (rs : List Record) → recordRules limit rs ≡ rulesButTen limit rs && noneBroken (isEndless (finites rs)) 0 rs
-unfolding recordRules recordChecks rulesButTen
-rules-ten limit rs =
-    and-last (leb 1 (length rs)) _ _ ten (and-last (leb (length rs) limit) _ _ ten (and-last (ordered [] 0 rs) _ _ ten (and-last (everyRecord (recordFine rs (isUnionAt (kindsOfRecords rs))) rs) _ _ ten (and-last (allNew (shownNames rs)) _ _ ten (and-last (noneBroken voidMany 0 rs) _ _ ten (and-last (noneBroken (rule7Broken rs) 0 rs) _ _ ten (and-last (noneBroken (tagRepeated rs) 0 rs) _ _ ten refl)))))))
-  where
-    ten : Bool
-    ten = noneBroken (isEndless (finites rs)) 0 rs
-
-pub but-ten-formed : (limit : ℕ) (rs : List Record) → rulesButTen limit rs ≡ true → Formed rs
-unfolding rulesButTen
-but-ten-formed limit rs e =
-    and-both (leb 1 (length rs)) _ e (λ a1 e1.
-    and-both (leb (length rs) limit) _ e1 (λ a2 e2.
-    and-both (ordered [] 0 rs) _ e2 (λ a3 e3.
-    and-both (everyRecord (recordFine rs (isUnionAt (kindsOfRecords rs))) rs) _ e3 (λ a4 e4.
-    and-both (allNew (shownNames rs)) _ e4 (λ a5 e5.
-    and-both (noneBroken voidMany 0 rs) _ e5 (λ a6 e6.
-    and-both (noneBroken (rule7Broken rs) 0 rs) _ e6 (λ a7 e7.
-    and-both (noneBroken (tagRepeated rs) 0 rs) _ e7 (λ a8 e8.
-    record { fine = a4; seven = a7; eight = a8 }))))))))
 
 -- ---- a compiled table
 

@@ -2,11 +2,11 @@
 use mathlib.Core.Path.{_≡_, refl, ap, sym, _∙_}
 use mathlib.Core.Bool.{Bool, true, false, not, _&&_, _||_}
 use mathlib.Core.List.{List, [], _∷_, _++_}
-use Prim.Native.Nat.{ℕ, zero, suc, _+_, _-_, _≤_, _<_}
+use Prim.Native.Nat.{ℕ, zero, suc, _+_, _≤_, _<_}
 use native.Mathlib.Omega.{arith}
 use lib.Dec.{leb, eqb, ltb}
 use lib.ListN.{length}
-use borrow.Author.Tests.{ne-eqb, eqb-true, eqb-false, not-true, le-leb, ltb-false}
+use borrow.Author.Tests.{ne-eqb, eqb-true, eqb-false, not-true, ltb-false}
 use Rattle.classes.proofs.Rows.{same-true, bytes-self}
 use Rattle.classes.proofs.Bools.{clash-bool, both-true}
 use Rattle.numbers.specs.Limits.{countLimit, bias}
@@ -14,12 +14,10 @@ use Rattle.classes.specs.Lists.{sameBytes, every, pick, All}
 use Rattle.definition_rules.specs.Words.{kwAs, kwPlugin, kwVoid, kwBool, kwInt, kwAscii, kwUnquoted, kwDate, kwTime, kwStruct, kwUnion, numberIf, numberIn, kindOfRun, kindTakesRange, isKeyword, startsWithLetter, nameForm}
 use Rattle.classes.specs.Bytes.{isNameByte}
 use Rattle.numbers.specs.Range.{onSides, lowOf, highOf, bothRead, readIntRange, readUpper, readCountRange, number, range}
-use Rattle.definition_rules.specs.Forms.{MaybeRun, absent, given, Tag, ownName, tagless, explicit, heading, tops}
+use Rattle.definition_rules.specs.Forms.{MaybeRun, absent, given, Tag, ownName, tagless, explicit, heading}
 use Rattle.reading_rules.specs.Record.{Up, top, under, Record, isTop}
 use Rattle.definition_rules.specs.Declarations.{Declaration, declaration}
-use Rattle.definition_rules.specs.Table.{none}
 use Rattle.definition_rules.specs.Records.{kindLeast, kindMost, limitsOf, countRangeOf, topName, topNames, isNamed, findTop, orNone, targetOf, isTagless, labelOf, recordFor, recordsFor}
-use Rattle.definition_rules.specs.Compile.{table}
 use Rattle.table_rules.specs.RecordRules.{isSingleValue}
 use Rattle.table_rules.proofs.Numerals.{writeNat, Digit, writeInt, written-digits, read-count, read-int, cut-put, no-dots, int-dots}
 use Rattle.table_rules.proofs.FreshNames.{fresh}

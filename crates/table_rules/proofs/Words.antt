@@ -1,25 +1,24 @@
 -- Every simple type whose record keeps the rules has a value: a token that its judgement takes.
 use mathlib.Core.Path.{_≡_, refl, ap, sym, _∙_}
-use mathlib.Core.Bool.{Bool, true, false, not, _&&_, _||_}
-use mathlib.Core.List.{List, [], _∷_, _++_}
-use Prim.Native.Nat.{ℕ, zero, suc, _+_, _-_, _*_, _/_, _%_, _≤_, _<_}
+use mathlib.Core.Bool.{Bool, true, false, _&&_, _||_}
+use mathlib.Core.List.{List, [], _∷_}
+use Prim.Native.Nat.{ℕ, zero, suc, _+_, _-_, _≤_}
 use native.Mathlib.Omega.{arith}
-use native.Mathlib.Nat.{div-add-mod', mod-lt, div-lt-self, le-div-iff-mul-le}
 use lib.Dec.{eqb, leb, ltb}
 use lib.ListN.{length, replicate, length-replicate}
-use borrow.Author.Tests.{eqb-true, eq-eqb, ltb-true, ltb-false, lt-ltb, le-ltb, le-leb, leb-true, ne-eqb}
+use borrow.Author.Tests.{eqb-true, eq-eqb, le-leb, leb-true, ne-eqb}
 use Rattle.classes.proofs.Bools.{or-case}
 use Rattle.numbers.specs.Limits.{bias, intMost}
 use Rattle.classes.specs.Bytes.{between, isWordByte, isStringByte, isDigit, isLetter, isNameByte, isTagByte}
 use Rattle.classes.specs.Lists.{every, sameBytes, pick, notEmpty}
-use Rattle.numbers.specs.Decimal.{readDigits, numberOf, isNatural, isMinus, isInt, intWithin}
+use Rattle.numbers.specs.Decimal.{readDigits, isNatural, isInt, intWithin}
 use Rattle.calendar.specs.Calendar.{leap, daysOf, isDate, isTime}
 use Rattle.reading_rules.specs.Token.{Token, word, string, isToken}
 use Rattle.reading_rules.specs.Record.{Record}
 use Rattle.reading_rules.specs.Value.{isBool, wordForm, wordWithin, formThenRange, valueNumber}
 use Rattle.reading_rules.proofs.CountLaws.{clash-bool, and-both}
 use Rattle.table_rules.proofs.Numerals.{writeNat, writeInt, nat-natural, natural-digits, digit-range, in-range, int-written}
-use Rattle.definition_rules.specs.Words.{tagForm, kindTakesRange}
+use Rattle.definition_rules.specs.Words.{tagForm}
 use Rattle.definition_rules.specs.Records.{kindLeast, kindMost}
 
 -- ---- bytes of tokens

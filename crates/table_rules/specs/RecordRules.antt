@@ -1,16 +1,16 @@
 -- The rules that a table's records obey exactly when some definition compiles to them (docs/FORMAT.md, 3.2).
 use mathlib.Core.Bool.{Bool, true, false, not, _&&_, _||_}
-use mathlib.Core.List.{List, [], _∷_, _++_}
-use Prim.Native.Nat.{ℕ, zero, suc, _+_}
+use mathlib.Core.List.{List, [], _∷_}
+use Prim.Native.Nat.{ℕ, zero, suc}
 use lib.Dec.{leb, ltb, eqb}
 use lib.ListN.{length}
 use Rattle.numbers.specs.Limits.{none16, depthLimit, countLimit, noLimit}
 use Rattle.classes.specs.Lists.{pick}
 use Rattle.definition_rules.specs.Words.{nameForm, tagForm, kindIsCompound}
-use Rattle.reading_rules.specs.Record.{Record, Up, top, under, recordAt, isTop, sameUp}
-use Rattle.definition_rules.specs.Declarations.{BodyMode, inFields, groupOpened, inGroup, groupsClosed, Frame, frame, parentOf}
+use Rattle.reading_rules.specs.Record.{Record, Up, top, under, isTop, sameUp}
+use Rattle.definition_rules.specs.Declarations.{inFields, groupOpened, inGroup, groupsClosed, Frame, frame, parentOf}
 use Rattle.definition_rules.specs.Records.{kindLeast, kindMost}
-use Rattle.definition_rules.specs.Faults.{isUnionAt, isAlternative, voidMany, rule7Broken, tagRepeated, rootNoStruct, Key, key, isNewKey}
+use Rattle.definition_rules.specs.Faults.{isUnionAt, voidMany, rule7Broken, tagRepeated, rootNoStruct, Key, key, isNewKey}
 use Rattle.definition_rules.specs.Finite.{finites, isEndless}
 use Rattle.definition_rules.specs.Table.{Maybe, none, just, decode}
 

@@ -1,12 +1,11 @@
 -- The search along a list finds the first of all records.
 use mathlib.Core.Path.{_≡_, refl, ap, sym, _∙_}
-use mathlib.Core.Bool.{Bool, true, false, not, _&&_}
-use mathlib.Core.List.{List, [], _∷_}
+use mathlib.Core.Bool.{Bool, true, false, not}
+use mathlib.Core.List.{List, _∷_}
 use Prim.Native.Nat.{ℕ, zero, suc, _+_, _-_, _≤_, _<_}
 use native.Mathlib.Numerals.{add-one}
 use native.Mathlib.Omega.{arith}
 use lib.Dec.{eqb, ltb}
-use lib.ListN.{length, getD}
 use borrow.Author.Tests.{eqb-true, eqb-false, lt-ltb, le-ltb, ltb-true}
 use Rattle.classes.proofs.Rows.{same-true}
 use Rattle.classes.specs.Lists.{pick, sameBytes}
@@ -15,7 +14,7 @@ use Rattle.reading_rules.specs.Schema as schema
 use Rattle.reading_rules.specs.Schema.{isUnder, isTaggedOf, isTaggedAs, firstWhere}
 use Rattle.reading_rules.proofs.CountLaws.{clash-bool, and-both}
 use Rattle.definition_rules.specs.Table.{upNumber}
-use Rattle.table_records.specs.Stored.{headCells, cellIn, recordIn, recordsFrom, recordsAt}
+use Rattle.table_records.specs.Stored.{cellIn, recordIn, recordsFrom, recordsAt}
 use Rattle.table_records.proofs.Laws.{records-more, records-end, records-all, records-agree}
 use Rattle.table_tags.specs.Lists.{listKey, keyIn, nextIn, Linked, Links, searchFrom, searched}
 use Rattle.table_tags.proofs.Linking.{key-small, next-here, next-later}

@@ -1,7 +1,7 @@
 // The search for a tag. The records are kept in lists by a key of their labels: the heads stand in the first cells, and
 // each record has a cell for the next one of its list. A cell holds a record's number and one, or 0 where the list ends.
 ghost use mathlib.Core.Path.{_≡_};
-ghost use Prim.Native.Nat.{ℕ, _+_, _*_, _≤_, _<_};
+ghost use Prim.Native.Nat.{_+_, _*_, _≤_, _<_};
 ghost use lib.ListN.{length};
 ghost use Rattle.numbers.specs.Limits.{parameterLimit};
 ghost use Rattle.reading_rules.specs.Schema.{isTaggedAs};

@@ -1,4 +1,4 @@
-use mathlib.Core.List.{List, [], _∷_}
+use mathlib.Core.List.{[], _∷_}
 use native.Mathlib.Omega.{arith}
 use Rattle.classes.specs.Bytes.{isBlank, isWordByte, isPlain}
 use Rattle.classes.proofs.Segment.{segment, plain-else}

@@ -3,7 +3,7 @@ use Prim.Native.Nat.{_≤_}
 use native.Mathlib.Omega.{arith}
 use lib.ListN.{length}
 use borrow.Author.Needs.{needs}
-use Rattle.cli_places.specs.Lines.{textEnd, blanksOff}
+use Rattle.cli_places.specs.Lines.{blanksOff}
 use Rattle.cli_places.proofs.LineLaws.{blank-off, text-stays, all-off}
 use Rattle.cli_places.proofs.text_end.Statement.{statement}
 use Rattle.cli_places.proofs.text_end.Tie as tie

@@ -1,5 +1,4 @@
-use native.Mathlib.Omega.{arith}
-use mathlib.Core.Path.{sym, ap, _∙_}
+use mathlib.Core.Path.{sym, _∙_}
 use Rattle.definition.proofs.Text.{one, two, three, four, further, parents, keeps, keeps-refused, stuck-in, over-in, complete-in}
 use borrow.Author.Needs.{needs}
 use Rattle.definition.proofs.compile.Statement.{statement}

@@ -1,4 +1,3 @@
-use native.Mathlib.Omega.{arith}
 use mathlib.Core.Path.{sym, ap, _∙_}
 use Rattle.definition_rules.specs.Table.{decode}
 use Rattle.definition_writer.proofs.Parents.{records-after-parents}

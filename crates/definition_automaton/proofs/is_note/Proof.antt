@@ -1,5 +1,4 @@
 use borrow.Author.Tests.{eq-eqb, ne-eqb}
-use Rattle.classes.specs.Lists.{pick}
 use Rattle.definition_automaton.specs.Noting.{notes}
 use Rattle.definition_automaton.proofs.is_note.Statement.{statement}
 use Rattle.definition_automaton.proofs.is_note.Tie as tie

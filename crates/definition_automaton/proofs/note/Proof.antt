@@ -1,8 +1,7 @@
 use mathlib.Core.Path.{sym, _∙_}
 use borrow.Author.Tests.{le-ltb, lt-ltb}
 use Rattle.classes.specs.Lists.{pick}
-use Rattle.definition_automaton.specs.States.{extensionFlag}
-use Rattle.definition_automaton.specs.Noting.{notes, noteCells}
+use Rattle.definition_automaton.specs.Noting.{noteCells}
 use borrow.Author.Needs.{needs}
 use Rattle.definition_automaton.proofs.note.Statement.{statement}
 use Rattle.definition_automaton.proofs.note.Tie as tie

@@ -1,4 +1,4 @@
-use mathlib.Core.Path.{_≡_, refl, sym, ap, _∙_}
+use mathlib.Core.Path.{sym, _∙_}
 use Rattle.definition_cells.specs.Places.{lesser}
 use borrow.Author.Needs.{needs}
 use Rattle.definition_cells.proofs.lesser.Statement.{statement}

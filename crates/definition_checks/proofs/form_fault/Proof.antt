@@ -1,4 +1,4 @@
-use mathlib.Core.Path.{_≡_, refl, sym, ap, _∙_}
+use mathlib.Core.Path.{_∙_}
 use Rattle.definition_checks.specs.Checks.{formFault}
 use borrow.Author.Needs.{needs}
 use Rattle.definition_checks.proofs.form_fault.Statement.{statement}

@@ -1,5 +1,5 @@
 use borrow.Author.Needs.{needs}
-use mathlib.Core.Path.{_≡_, refl, sym, ap, _∙_}
+use mathlib.Core.Path.{_≡_, refl, sym, _∙_}
 use mathlib.Core.Bool.{not}
 use Rattle.definition_rules.specs.Faults.{isNewKey}
 use Rattle.definition_checks.specs.Checks.{keyAt, keysBelow}

@@ -1,4 +1,4 @@
-use mathlib.Core.Path.{_≡_, refl, sym, ap, _∙_}
+use mathlib.Core.Path.{_∙_}
 use Rattle.definition_rules.specs.Faults.{withinKind}
 use borrow.Author.Needs.{needs}
 use Rattle.definition_checks.proofs.within_kind.Statement.{statement}

@@ -1,4 +1,4 @@
-use mathlib.Core.Path.{_≡_, refl, sym, ap, _∙_}
+use mathlib.Core.Path.{_∙_}
 use borrow.Author.Needs.{needs}
 use Rattle.definition_headings.proofs.kind.Statement.{statement}
 use Rattle.definition_headings.proofs.kind.Tie as tie

@@ -4,7 +4,6 @@ use native.Mathlib.Omega.{arith}
 use lib.ListN.{length, drop}
 use borrow.Author.Needs.{needs}
 use Rattle.definition_rules.specs.Scan.{scan, lineComment}
-use Rattle.definition_scanner.specs.Lexed.{LineEnded}
 use Rattle.definition_scanner.proofs.Steps.{line-more, line-stop, line-ends}
 use Rattle.definition_scanner.proofs.line_end.Statement.{statement}
 use Rattle.definition_scanner.proofs.line_end.Tie as tie

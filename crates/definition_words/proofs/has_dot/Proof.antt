@@ -3,7 +3,6 @@ use Prim.Native.Nat.{_-_}
 use lib.ListN.{length, drop}
 use borrow.Author.Needs.{needs}
 use borrow.Author.Tests.{eq-eqb, ne-eqb}
-use mathlib.Core.Bool.{Bool}
 use lib.Dec.{eqb}
 use Rattle.classes.specs.Lists.{some}
 use Rattle.definition_rules.specs.Words.{hasDot}

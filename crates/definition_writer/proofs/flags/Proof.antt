@@ -1,4 +1,3 @@
-use mathlib.Core.Path.{_≡_, refl, sym, ap, _∙_}
 use Rattle.definition_writer.proofs.WriteLaws.{flags-are}
 use borrow.Author.Needs.{needs}
 use Rattle.definition_writer.proofs.flags.Statement.{statement}

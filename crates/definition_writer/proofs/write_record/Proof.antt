@@ -1,4 +1,4 @@
-use mathlib.Core.Path.{_≡_, refl, sym, ap, _∙_}
+use mathlib.Core.Path.{sym}
 use native.Mathlib.Omega.{arith}
 use Rattle.classes.proofs.Stores.{sets-out}
 use Rattle.definition_writer.specs.Written.{cutBytes, recordWritten}

@@ -1,5 +1,4 @@
-use mathlib.Core.Path.{_≡_, sym, _∙_, refl, ap}
-use native.Mathlib.Omega.{arith}
+use mathlib.Core.Path.{_∙_}
 use denote.Ref.{now}
 use Rattle.message.proofs.Passes.{with-little, with-room, with-fault}
 use borrow.Author.Needs.{needs}

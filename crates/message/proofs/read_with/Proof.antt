@@ -1,4 +1,4 @@
-use mathlib.Core.Path.{sym, _∙_}
+use mathlib.Core.Path.{sym}
 use Rattle.table.proofs.Laws.{checked-fine, checked-bad}
 use Rattle.message.proofs.Top.{bad-table, good-table}
 use borrow.Author.Needs.{needs}

@@ -1,8 +1,6 @@
-use mathlib.Core.Path.{_≡_, sym, _∙_, refl, ap}
-use native.Mathlib.Omega.{arith}
-use denote.Ref.{now}
+use mathlib.Core.Path.{_∙_, ap}
 use Rattle.message_rules.specs.RowBytes.{further}
-use Rattle.message.proofs.Passes.{bytes-lost, bytes-back, bytes-over, bytes-there, bytes-within}
+use Rattle.message.proofs.Passes.{bytes-lost, bytes-back, bytes-over, bytes-there}
 use borrow.Author.Needs.{needs}
 use Rattle.message.proofs.row_bytes.Statement.{statement}
 use Rattle.message.proofs.row_bytes.Tie as tie

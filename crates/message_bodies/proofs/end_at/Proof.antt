@@ -1,6 +1,3 @@
-use mathlib.Core.Path.{_≡_, sym, _∙_, refl, ap}
-use native.Mathlib.Omega.{arith}
-use denote.Ref.{now}
 use Rattle.message_bodies.proofs.Parts.{end-none, end-closing, end-other}
 use borrow.Author.Needs.{needs}
 use Rattle.message_bodies.proofs.end_at.Statement.{statement}

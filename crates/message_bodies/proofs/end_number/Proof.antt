@@ -1,6 +1,3 @@
-use mathlib.Core.Path.{_≡_, sym, _∙_, refl, ap}
-use native.Mathlib.Omega.{arith}
-use denote.Ref.{now}
 use Rattle.message_bodies.proofs.Parts.{end-barred, end-whole, end-lacking}
 use Rattle.message_bodies.proofs.end_number.Statement.{statement}
 use Rattle.message_bodies.proofs.end_number.Tie as tie

@@ -1,6 +1,5 @@
-use mathlib.Core.Path.{_≡_, sym, _∙_, refl, ap}
+use mathlib.Core.Path.{ap}
 use native.Mathlib.Omega.{arith}
-use denote.Ref.{now}
 use lib.Dec.{eqb}
 use Rattle.message_bodies.proofs.Parts.{field-starts, field-ends, field-stopped}
 use borrow.Author.Needs.{needs}

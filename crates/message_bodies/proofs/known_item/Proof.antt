@@ -1,6 +1,5 @@
-use mathlib.Core.Path.{_≡_, sym, _∙_, refl, ap}
+use mathlib.Core.Path.{sym, _∙_, refl}
 use native.Mathlib.Omega.{arith}
-use denote.Ref.{now}
 use Rattle.message_frame.proofs.AtToken.{step-of-equals}
 use Rattle.message_bodies.proofs.Parts.{known-again, known-bare}
 use borrow.Author.Needs.{needs}

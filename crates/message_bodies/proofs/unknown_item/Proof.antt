@@ -1,6 +1,3 @@
-use mathlib.Core.Path.{_≡_, sym, _∙_, refl, ap}
-use native.Mathlib.Omega.{arith}
-use denote.Ref.{now}
 use mathlib.Core.List.{[]}
 use Rattle.reading_rules.specs.Schema.{schemaOf}
 use Rattle.message_bodies.proofs.Parts.{skip-list, skip-stopped, skip-word}

@@ -1,6 +1,5 @@
-use mathlib.Core.Path.{_≡_, sym, _∙_, refl, ap}
+use mathlib.Core.Path.{sym, _∙_}
 use native.Mathlib.Omega.{arith}
-use denote.Ref.{now}
 use Rattle.table_tags.proofs.Search.{found-at, found-none}
 use Rattle.message_choices.proofs.Parts.{alternative-none, alternative-open, alternative-void, alternative-equals}
 use borrow.Author.Needs.{needs}

@@ -1,6 +1,4 @@
-use mathlib.Core.Path.{_≡_, sym, _∙_, refl, ap}
-use native.Mathlib.Omega.{arith}
-use denote.Ref.{now}
+use mathlib.Core.Path.{sym, _∙_}
 use Rattle.message_choices.proofs.Parts.{bare-like, bare-other}
 use borrow.Author.Needs.{needs}
 use Rattle.message_choices.proofs.bare_for.Statement.{statement}

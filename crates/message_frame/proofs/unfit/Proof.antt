@@ -1,6 +1,4 @@
-use mathlib.Core.Path.{_≡_, sym, _∙_, refl, ap}
-use native.Mathlib.Omega.{arith}
-use denote.Ref.{now}
+use mathlib.Core.Path.{refl}
 use Rattle.message_frame.specs.AtToken.{unfitOf}
 use Rattle.message_frame.proofs.AtToken.{unfit-none}
 use Rattle.message_frame.proofs.unfit.Statement.{statement}

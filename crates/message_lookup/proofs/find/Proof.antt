@@ -1,4 +1,4 @@
-use mathlib.Core.Path.{_∙_, refl, sym, ap}
+use mathlib.Core.Path.{_∙_, sym, ap}
 use Rattle.message_lookup.specs.Questions.{withFind}
 use Rattle.table_tags.specs.Lists.{foundOf}
 use borrow.Author.Needs.{needs}

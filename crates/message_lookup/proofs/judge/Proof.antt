@@ -1,7 +1,7 @@
 use Rattle.message_lookup.specs.Questions.{withFind}
 use denote.Ref.{now}
-use mathlib.Core.Path.{_∙_, sym, refl}
-use Rattle.reading_rules.specs.Record.{Record, blank}
+use mathlib.Core.Path.{_∙_, sym}
+use Rattle.reading_rules.specs.Record.{Record}
 use Rattle.reading_rules.specs.Schema.{schemaOf}
 use Rattle.reading_rules.specs.Value.{valueNumber}
 use Rattle.table_records.specs.Stored.{recordIn}

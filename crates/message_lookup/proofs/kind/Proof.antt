@@ -1,5 +1,5 @@
 use Rattle.message_lookup.specs.Questions.{withFind}
-use mathlib.Core.Path.{_≡_, sym, _∙_}
+use mathlib.Core.Path.{sym, _∙_}
 use Rattle.reading_rules.specs.Schema.{schemaOf, kindOf}
 use Rattle.message_lookup.proofs.Steps.{kind-simple}
 use borrow.Author.Needs.{needs}

@@ -1,6 +1,4 @@
-use mathlib.Core.Path.{_≡_, sym, _∙_, refl, ap}
-use native.Mathlib.Omega.{arith}
-use denote.Ref.{now}
+use mathlib.Core.Path.{sym, _∙_, ap}
 use Rattle.message_lookup.specs.Questions.{shapeOf}
 use Rattle.message_reader.specs.Turning.{isUnion}
 use borrow.Author.Needs.{needs}

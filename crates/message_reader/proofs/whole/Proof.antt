@@ -1,6 +1,4 @@
-use mathlib.Core.Path.{_≡_, sym, _∙_, refl, ap}
-use native.Mathlib.Omega.{arith}
-use denote.Ref.{now}
+use mathlib.Core.Path.{_∙_, refl}
 use Rattle.message_rows.proofs.Stores.{rows-append}
 use borrow.Author.Needs.{needs}
 use Rattle.message_reader.proofs.whole.Statement.{statement}

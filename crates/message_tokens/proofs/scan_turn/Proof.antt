@@ -1,6 +1,5 @@
-use mathlib.Core.Path.{_≡_, sym, _∙_, refl, ap}
+use mathlib.Core.Path.{refl}
 use native.Mathlib.Omega.{arith}
-use native.Mathlib.Nat.{pos-of-ne-zero}
 use Rattle.message_tokens.proofs.Steps.{scan-word, scan-string, scan-equals, scan-comma, scan-opening, scan-deep, scan-closing, scan-end, scan-bad}
 use borrow.Author.Needs.{needs}
 use Rattle.message_tokens.proofs.scan_turn.Statement.{statement}

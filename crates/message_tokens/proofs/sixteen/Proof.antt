@@ -4,7 +4,6 @@ use Prim.Native.Nat.{_+_, _-_, _≤_}
 use native.Mathlib.Omega.{arith}
 use lib.ListN.{length}
 use borrow.Author.Needs.{needs}
-use denote.Ref.{now}
 use Rattle.reading_rules.proofs.CountLaws.{clash-bool}
 use Rattle.message_tokens.specs.Turn.{Plains}
 use Rattle.message_tokens.proofs.Plain.{plains-none, plains-more}

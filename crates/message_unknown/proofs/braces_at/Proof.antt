@@ -1,7 +1,6 @@
-use mathlib.Core.Path.{_≡_, sym, _∙_, refl, ap}
 use native.Mathlib.Omega.{arith}
 use denote.Ref.{now}
-use Rattle.message_unknown.proofs.AlongLaws.{part-length, part-end}
+use Rattle.message_unknown.proofs.AlongLaws.{part-end}
 use Rattle.message_unknown.proofs.Steps.{part-past, part-refused}
 use borrow.Author.Needs.{needs}
 use Rattle.message_unknown.proofs.braces_at.Statement.{statement}

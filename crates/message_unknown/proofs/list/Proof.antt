@@ -1,7 +1,6 @@
 use borrow.Author.Needs.{needs}
-use Prim.Native.Nat.{_-_, _≤_}
+use Prim.Native.Nat.{_-_}
 use lib.ListN.{length}
-use mathlib.Core.Path.{_≡_, sym, _∙_, refl, ap}
 use native.Mathlib.Omega.{arith}
 use Rattle.message_unknown.proofs.Steps.{Listed, listed-start, listed-on, listed-out, list-go}
 use Rattle.message_unknown.proofs.list.Statement.{statement}

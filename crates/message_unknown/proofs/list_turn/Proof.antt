@@ -1,5 +1,3 @@
-use mathlib.Core.Path.{_≡_, sym, _∙_, refl, ap}
-use native.Mathlib.Omega.{arith}
 use Rattle.message_unknown.proofs.Steps.{list-more, list-last, list-refused}
 use borrow.Author.Needs.{needs}
 use Rattle.message_unknown.proofs.list_turn.Statement.{statement}

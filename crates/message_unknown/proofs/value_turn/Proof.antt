@@ -1,4 +1,3 @@
-use mathlib.Core.Path.{_≡_, sym, _∙_, refl, ap}
 use denote.Ref.{now}
 use native.Mathlib.Omega.{arith}
 use Rattle.message_unknown.proofs.Steps.{value-word, value-string, value-braces, value-none, opening-within}

@@ -1,5 +1,3 @@
-use mathlib.Core.Path.{_≡_, sym, _∙_, refl, ap}
-use native.Mathlib.Omega.{arith}
 use Rattle.message_unknown.proofs.Steps.{word-on, word-last}
 use borrow.Author.Needs.{needs}
 use Rattle.message_unknown.proofs.word_turn.Statement.{statement}

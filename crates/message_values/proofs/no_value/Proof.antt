@@ -1,4 +1,3 @@
-use mathlib.Core.Path.{_≡_, sym, _∙_, refl, ap}
 use native.Mathlib.Omega.{arith}
 use denote.Ref.{now}
 use Rattle.message_values.proofs.Parts.{none-stopped}

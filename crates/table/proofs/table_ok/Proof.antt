@@ -1,4 +1,3 @@
-use mathlib.Core.Path.{sym, _∙_}
 use native.Mathlib.Omega.{arith}
 use Rattle.table.proofs.Laws.{few-enough, many-enough, promised}
 use borrow.Author.Needs.{needs}

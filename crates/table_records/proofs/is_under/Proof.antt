@@ -1,4 +1,4 @@
-use mathlib.Core.Path.{_∙_, sym}
+use mathlib.Core.Path.{_∙_}
 use Rattle.table_records.specs.Stored.{recordIn}
 use Rattle.table_records.proofs.Fields.{under-number}
 use borrow.Author.Needs.{needs}

@@ -1,4 +1,4 @@
-use mathlib.Core.Path.{_∙_, ap}
+use mathlib.Core.Path.{_∙_}
 use Rattle.classes.proofs.Rows.{part-of}
 use Rattle.table_records.specs.Stored.{recordIn}
 use borrow.Author.Needs.{needs}

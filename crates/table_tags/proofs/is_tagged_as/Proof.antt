@@ -1,5 +1,3 @@
-use mathlib.Core.Path.{_∙_, sym, refl}
-use mathlib.Core.Bool.{_&&_}
 use borrow.Author.Needs.{needs}
 use Rattle.table_tags.proofs.is_tagged_as.Statement.{statement}
 use Rattle.table_tags.proofs.is_tagged_as.Tie as tie

@@ -1,6 +1,4 @@
 use denote.Ref.{now}
-use mathlib.Core.Path.{_≡_, refl, _∙_}
-use native.Mathlib.Omega.{arith}
 use Rattle.table_tags.proofs.Linking.{key-none, key-few, key-many}
 use borrow.Author.Needs.{needs}
 use Rattle.table_tags.proofs.key.Statement.{statement}

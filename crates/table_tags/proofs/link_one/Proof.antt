@@ -1,4 +1,4 @@
-use mathlib.Core.Path.{_≡_, refl, sym, _∙_}
+use mathlib.Core.Path.{_∙_}
 use borrow.Author.Needs.{needs}
 use Rattle.table_tags.proofs.link_one.Statement.{statement}
 use Rattle.table_tags.proofs.link_one.Tie as tie

@@ -1,5 +1,5 @@
 use denote.Ref.{now}
-use mathlib.Core.Path.{_≡_, refl, sym, ap, _∙_}
+use mathlib.Core.Path.{sym, ap, _∙_}
 use Rattle.table_tags.specs.Lists.{foundOf}
 use Rattle.table_tags.proofs.Again.{untagged-once, top-once, again, never}
 use borrow.Author.Needs.{needs}

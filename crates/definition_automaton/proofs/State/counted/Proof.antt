@@ -1,5 +1,3 @@
-use Rattle.classes.specs.Lists.{pick}
-use Rattle.definition_automaton.specs.States.{countedOf}
 use borrow.Author.Needs.{needs}
 use Rattle.definition_automaton.proofs.State.counted.Statement.{statement}
 use Rattle.definition_automaton.proofs.State.counted.Tie as tie

@@ -1,5 +1,3 @@
-use Rattle.classes.specs.Lists.{pick}
-use Rattle.definition_automaton.specs.States.{modeMoved}
 use borrow.Author.Needs.{needs}
 use Rattle.definition_automaton.proofs.State.moved.Statement.{statement}
 use Rattle.definition_automaton.proofs.State.moved.Tie as tie
