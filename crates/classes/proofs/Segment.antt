@@ -25,9 +25,9 @@ agrees true b = b
 agrees false b = not b
 
 -- f is v at the n numbers from low, the keys apart
-abbrev pub all : (ℕ → Bool) → List ℕ → Bool → ℕ → ℕ → Bool
-all f ks v low zero = true
-all f ks v low (suc n) = (oneOf ks low || agrees v (f low)) && all f ks v (suc low) n
+abbrev pub agreesAt : (ℕ → Bool) → List ℕ → Bool → ℕ → ℕ → Bool
+agreesAt f ks v low zero = true
+agreesAt f ks v low (suc n) = (oneOf ks low || agrees v (f low)) && agreesAt f ks v (suc low) n
 
 and-both : (a b : Bool) → T (a && b) → T a × T b
 and-both true b t = (tt, t)
@@ -49,21 +49,21 @@ agreed false false true g t = absurd t
 agreed false false false g t = refl
 
 module _ (f : ℕ → Bool) (ks : List ℕ) (v : Bool) (b : ℕ) (o : Other ks b) where
-  from : (n low : ℕ) → T (all f ks v low n) → low ≤ b → b < low + n → v ≡ f b
+  from : (n low : ℕ) → T (agreesAt f ks v low n) → low ≤ b → b < low + n → v ≡ f b
   from zero low t l u = absurd (omega arith)
   from (suc n) low t l u =
-      let h = and-both (oneOf ks low || agrees v (f low)) (all f ks v (suc low) n) t in
+      let h = and-both (oneOf ks low || agrees v (f low)) (agreesAt f ks v (suc low) n) t in
       ⊎-elim
       (λ e. agreed (oneOf ks low) v (f low) (rw e (λ q. other ks b o q)) (h .0) ∙ ap f e)
       (λ g. from n (suc low) (h .1) g (omega arith))
       (eq-or-lt-of-le l)
 
 -- an arm of a `match` on ranges: b lies from low to below high and is no key. `search` reads low and high off the path
-pub segment : (f : ℕ → Bool) (ks : List ℕ) {v : Bool} {b : ℕ} (low high : ℕ) → Other ks b → low ≤ b → b < high → T (all f ks v low (high - low)) → v ≡ f b
+pub segment : (f : ℕ → Bool) (ks : List ℕ) {v : Bool} {b : ℕ} (low high : ℕ) → Other ks b → low ≤ b → b < high → T (agreesAt f ks v low (high - low)) → v ≡ f b
 segment f ks {v} {b} low high o l u t = from f ks v b o (high - low) low t l (omega arith)
 
 -- the arm with no lower bound
-pub below : (f : ℕ → Bool) (ks : List ℕ) {v : Bool} {b : ℕ} (high : ℕ) → Other ks b → b < high → T (all f ks v 0 high) → v ≡ f b
+pub below : (f : ℕ → Bool) (ks : List ℕ) {v : Bool} {b : ℕ} (high : ℕ) → Other ks b → b < high → T (agreesAt f ks v 0 high) → v ≡ f b
 below f ks {v} {b} high o u t = from f ks v b o high 0 t (omega arith) (omega arith)
 
 -- a byte that is no `=` and no `,`

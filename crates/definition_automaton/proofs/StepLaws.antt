@@ -59,8 +59,8 @@ module _ (text : List ℕ) (σ : List Frame) (k : ℕ) (p : Pending) (x : Span) 
   -- ---- a mark
 
   module _ (n : ℕ) (small : n < 256) where
-    abbrev Marked : ℕ → Type 0
-    Marked m = step σ k (x .start) (phaseIn text m p) (mark n) ≡ actionIn text σ k p (actOf m (contextIn σ) (p .kind) n) n x
+    abbrev MarkStep : ℕ → Type 0
+    MarkStep m = step σ k (x .start) (phaseIn text m p) (mark n) ≡ actionIn text σ k p (actOf m (contextIn σ) (p .kind) n) n x
 
     no-run : leb 256 n ≡ false
     no-run = lt-leb 256 n small
@@ -151,13 +151,13 @@ module _ (text : List ℕ) (σ : List Frame) (k : ℕ) (p : Pending) (x : Span) 
     closed : allow (eqb n 93) (move σ (inHeading afterCard (spotsIn p) (headingIn text p))) ≡ actionIn text σ k p (markAct 93 8 n) n x
     closed = one 93 8 (move σ (inHeading afterCard (spotsIn p) (headingIn text p))) (unfold actionIn pick framesAfter phaseIn nextMode nextModes notes pendingBy in refl)
 
-    mark-12 : (m : ℕ) → eqb m 0 ≡ false → eqb m 1 ≡ false → eqb m 2 ≡ false → eqb m 3 ≡ false → eqb m 4 ≡ false → eqb m 5 ≡ false → eqb m 6 ≡ false → eqb m 7 ≡ false → eqb m 8 ≡ false → eqb m 9 ≡ false → eqb m 10 ≡ false → eqb m 11 ≡ false → Marked m
+    mark-12 : (m : ℕ) → eqb m 0 ≡ false → eqb m 1 ≡ false → eqb m 2 ≡ false → eqb m 3 ≡ false → eqb m 4 ≡ false → eqb m 5 ≡ false → eqb m 6 ≡ false → eqb m 7 ≡ false → eqb m 8 ≡ false → eqb m 9 ≡ false → eqb m 10 ≡ false → eqb m 11 ≡ false → MarkStep m
     unfolding step
     mark-12 m e0 e1 e2 e3 e4 e5 e6 e7 e8 e9 e10 e11 = rw (last-phase text p m e0 e1 e2 e3 e4 e5 e6 e7 e8 e9 e10 e11, last-act m (contextIn σ) (p .kind) n e0 e1 e2 e3 e4 e5 e6 e7 e8 e9 e10 e11) closed
 
-    pub mark-step : (m : ℕ) → Marked m
+    pub mark-step : (m : ℕ) → MarkStep m
     unfolding actOf startAct typeAct bodyAct closingAct markAct typedAct runAct nameAct asAct pluginAct endAct tagAct nextModes nextMode pick actionIn phaseIn framesAfter notes pendingBy contextIn bodyContext popFrame inMode step allow startRun startMark headingRun headingMark headingEnd takesField takesClose takesGroupEnd isInBody withCard withTag withPlugin typeRun
-    mark-step = mode-cases Marked
+    mark-step = mode-cases MarkStep
         (mark-0 σ)
         (one 59 16 _ refl)
         mark-2

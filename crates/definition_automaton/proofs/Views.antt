@@ -13,15 +13,15 @@ use Rattle.definition_automaton.specs.declared.State.{State}
 use Rattle.definition_automaton.specs.declared.Span.{Span}
 use Rattle.definition_automaton.specs.declared.Pending.{Pending}
 
-unfoldable pub bodyOf : ℕ → BodyMode
-bodyOf m = pick (eqb m 0) inFields (pick (eqb m 1) groupOpened (pick (eqb m 2) inGroup groupsClosed))
+unfoldable pub bodyModeOf : ℕ → BodyMode
+bodyModeOf m = pick (eqb m 0) inFields (pick (eqb m 1) groupOpened (pick (eqb m 2) inGroup groupsClosed))
 
 unfoldable pub framesFrom : ℕ → List ℕ → List ℕ → List Frame
 framesFrom zero ns bs = []
-framesFrom (suc d) ns bs = frame (getD ns d 0) (bodyOf (getD bs d 0)) ∷ framesFrom d ns bs
+framesFrom (suc d) ns bs = frame (getD ns d 0) (bodyModeOf (getD bs d 0)) ∷ framesFrom d ns bs
 
-abbrev pub framesOf : State → List Frame
-framesOf s = framesFrom (s .depth) (s .numbers) (s .bodies)
+abbrev pub openFrames : State → List Frame
+openFrames s = framesFrom (s .depth) (s .numbers) (s .bodies)
 
 abbrev pub runIn : List ℕ → Span → List ℕ
 runIn text x = part text (x .start) (x .end)

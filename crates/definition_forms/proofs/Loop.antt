@@ -27,7 +27,7 @@ use Rattle.definition_automaton.specs.Noting.{span, none, pendingBy, cellsOf, n
 use Rattle.definition_automaton.specs.declared.State.{State}
 use Rattle.definition_automaton.specs.declared.Span.{Span}
 use Rattle.definition_automaton.specs.declared.Pending.{Pending}
-use Rattle.definition_automaton.proofs.Views.{framesFrom, framesOf, runIn, spotsIn, phaseIn, contextIn, framesAfter, notedIn, actionIn}
+use Rattle.definition_automaton.proofs.Views.{framesFrom, openFrames, runIn, spotsIn, phaseIn, contextIn, framesAfter, notedIn, actionIn}
 use Rattle.definition_automaton.proofs.StepLaws.{KindFacts, mark-step, run-step}
 use Rattle.definition_forms.specs.Formed.{StuckIn, OverIn, CompleteIn, FormedAs}
 use Rattle.definition_forms.specs.Sees.{Told, ended, broken, marked, ran, Sees, finishOf}
@@ -36,7 +36,7 @@ use Rattle.definition_forms.specs.declared.Formed.{Formed}
 use Rattle.definition_forms.proofs.PlacedLaws.{places-drop, names-placed, length-placed}
 use Rattle.definition_forms.proofs.Placing.{parsePlaced, placedOutcome, outcome-is, stuck-back, complete-back}
 use Rattle.definition_forms.proofs.Keeping.{noted-more, Kept, kept-first, kept-over, kept-past}
-use Rattle.definition_forms.proofs.Moving.{Sized, context-is, extension-is, Below, parent-is, below-stay, below-after, After, after-is, Braced, act-braced, opens, types, closes, after-deep, depth-is}
+use Rattle.definition_forms.proofs.Moving.{Sized, context-is, extension-is, Below, parent-is, below-stay, below-after, StateAfter, after-is, Braced, act-braced, opens, types, closes, after-deep, depth-is}
 use Rattle.definition_forms.proofs.KindLaws.{kind-facts, mark-some, none-kind}
 use Rattle.definition_rules.proofs.ScanLaws.{place-none}
 
@@ -116,9 +116,9 @@ pub record Inv (text cells : List ℕ) (x : Seen) (s : State) (p : Pending) : Ty
   pub sees : Sees text at x
   pub before : List Noted
   pub deep : ℕ
-  pub goes : placedOutcome text ≡ mapOutcome (λ r. before ++ r) (parsePlaced (length text) (framesOf s) (s .count) (phaseIn text (s .mode) p) (liveFrom text at))
+  pub goes : placedOutcome text ≡ mapOutcome (λ r. before ++ r) (parsePlaced (length text) (openFrames s) (s .count) (phaseIn text (s .mode) p) (liveFrom text at))
   pub kept : Kept text cells before (s .count) (s .over)
-  pub below : Below (s .count) (framesOf s)
+  pub below : Below (s .count) (openFrames s)
   pub calm : badPlaces (liveFrom text at) ≡ []
   pub nested : deepPlaces deep (liveFrom text at) ≡ []
   pub shallow : s .depth ≤ deep
@@ -165,31 +165,31 @@ note-length s p a cs = by (notes a && ltb (s .count) 256)
 
 -- ---- the token that stands next, and its act
 
-pub record Taken (text : List ℕ) (at : ℕ) (x : Seen) (s : State) (p : Pending) (a deep : ℕ) : Type 0 where
+pub record TokenTaken (text : List ℕ) (at : ℕ) (x : Seen) (s : State) (p : Pending) (a deep : ℕ) : Type 0 where
   pub tok : TextToken
   pub cut : liveFrom text at ≡ item (x .start) tok ∷ liveFrom text (x .end)
-  pub goes : step (framesOf s) (s .count) (x .start) (phaseIn text (s .mode) p) tok ≡ actionIn text (framesOf s) (s .count) p a (x .kind) (span (x .start) (x .end))
+  pub goes : step (openFrames s) (s .count) (x .start) (phaseIn text (s .mode) p) tok ≡ actionIn text (openFrames s) (s .count) p a (x .kind) (span (x .start) (x .end))
   pub deep-after : ℕ
   pub nested : deepPlaces deep-after (liveFrom text (x .end)) ≡ []
   pub calm : badPlaces (liveFrom text (x .end)) ≡ []
   pub room : a ≡ 14 → s .depth < 8
-  pub shallow : (a ≡ 0 → ⊥) → length (framesAfter (framesOf s) (s .count) a) ≤ deep-after
+  pub shallow : (a ≡ 0 → ⊥) → length (framesAfter (openFrames s) (s .count) a) ≤ deep-after
   pub kind-after : pendingBy p a (x .kind) (span (x .start) (x .end)) .kind ≡ runKind (runIn text (pendingBy p a (x .kind) (span (x .start) (x .end)) .typed))
 
-abbrev Known : List ℕ → Pending → Type 0
-Known text q = q .kind ≡ runKind (runIn text (q .typed))
+abbrev KindKnown : List ℕ → Pending → Type 0
+KindKnown text q = q .kind ≡ runKind (runIn text (q .typed))
 
-kind-stays : (text : List ℕ) (p : Pending) (a n : ℕ) (x : Span) → Known text p → (a ≡ 1 → n ≡ runKind (runIn text x)) → Known text (pendingBy p a n x)
+kind-stays : (text : List ℕ) (p : Pending) (a n : ℕ) (x : Span) → KindKnown text p → (a ≡ 1 → n ≡ runKind (runIn text x)) → KindKnown text (pendingBy p a n x)
 unfolding pendingBy
 kind-stays text p a n x h f =
-    pick-on (Known text) (eqb a 1) _ _ (λ e. f (eqb-true a 1 e))
-    (pick-on (Known text) (eqb a 3) _ _ (λ _. h)
-    (pick-on (Known text) (eqb a 5) _ _ (λ _. h)
-    (pick-on (Known text) (eqb a 7) _ _ (λ _. h)
-    (pick-on (Known text) (eqb a 10) _ _ (λ _. h)
-    (pick-on (Known text) (eqb a 11) _ _ (λ _. h)
-    (pick-on (Known text) (eqb a 12) _ _ (λ _. h)
-    (pick-on (Known text) (eqb a 19) _ _ (λ _. h) h)))))))
+    pick-on (KindKnown text) (eqb a 1) _ _ (λ e. f (eqb-true a 1 e))
+    (pick-on (KindKnown text) (eqb a 3) _ _ (λ _. h)
+    (pick-on (KindKnown text) (eqb a 5) _ _ (λ _. h)
+    (pick-on (KindKnown text) (eqb a 7) _ _ (λ _. h)
+    (pick-on (KindKnown text) (eqb a 10) _ _ (λ _. h)
+    (pick-on (KindKnown text) (eqb a 11) _ _ (λ _. h)
+    (pick-on (KindKnown text) (eqb a 12) _ _ (λ _. h)
+    (pick-on (KindKnown text) (eqb a 19) _ _ (λ _. h) h)))))))
 
 abbrev Between : Pending → ℕ → Pending → Type 0
 Between p e q = (p .name .start ≤ q .name .start) × (q .name .start ≤ e)
@@ -209,7 +209,7 @@ name-between p a n x h =
     (pick-on (Between p (x .start)) (eqb a 19) _ _ (λ _. new) stay)))))))
 
 module _ {text cells : List ℕ} {x : Seen} {s : State} {p : Pending} (i : Inv text cells x s p) (a : ℕ) (act : a ≡ actOf (s .mode) (contextOf s) (p .kind) (x .kind)) where
-  here : a ≡ actOf (s .mode) (contextIn (framesOf s)) (p .kind) (x .kind)
+  here : a ≡ actOf (s .mode) (contextIn (openFrames s)) (p .kind) (x .kind)
   here = act ∙ ap (λ c. actOf (s .mode) c (p .kind) (x .kind)) (context-is (s .mode) (s .numbers) (s .bodies) (s .count) (s .over) (s .depth) (i .sized .low))
 
   facts : KindFacts (runIn text (p .typed)) (p .kind)
@@ -218,14 +218,14 @@ module _ {text cells : List ℕ} {x : Seen} {s : State} {p : Pending} (i : Inv t
   braced : Braced (x .kind) a ≡ true
   braced = subst (λ b. Braced (x .kind) b ≡ true) (sym act) (act-braced (contextOf s) (p .kind) (x .kind) (s .mode))
 
-  after-mark : isMark (x .kind) ≡ true → liveFrom text (i .at) ≡ item (x .start) (mark (x .kind)) ∷ liveFrom text (x .end) → Taken text (i .at) x s p a (i .deep)
+  after-mark : isMark (x .kind) ≡ true → liveFrom text (i .at) ≡ item (x .start) (mark (x .kind)) ∷ liveFrom text (x .end) → TokenTaken text (i .at) x s p a (i .deep)
   unfolding isDeepBrace bracesAfter pick
   after-mark b e =
       let n = place-none (isDeepBrace (i .deep) (x .kind)) (x .start) (deepPlaces (bracesAfter (i .deep) (x .kind)) (liveFrom text (x .end))) (sym (deep-mark (i .deep) (liveFrom text (i .at)) (liveFrom text (x .end)) (x .start) (x .kind) e) ∙ i .nested) in
       record {
         tok = mark (x .kind);
         cut = e;
-        goes = mark-step text (framesOf s) (s .count) p (span (x .start) (x .end)) facts (x .kind) (mark-small (x .kind) b) (s .mode) ∙ ap (λ c. actionIn text (framesOf s) (s .count) p c (x .kind) (span (x .start) (x .end))) (sym here);
+        goes = mark-step text (openFrames s) (s .count) p (span (x .start) (x .end)) facts (x .kind) (mark-small (x .kind) b) (s .mode) ∙ ap (λ c. actionIn text (openFrames s) (s .count) p c (x .kind) (span (x .start) (x .end))) (sym here);
         deep-after = bracesAfter (i .deep) (x .kind);
         nested = n .1;
         calm = sym (bad-item (liveFrom text (i .at)) (liveFrom text (x .end)) (x .start) (mark (x .kind)) e) ∙ i .calm;
@@ -237,31 +237,31 @@ module _ {text cells : List ℕ} {x : Seen} {s : State} {p : Pending} (i : Inv t
       shallower : x .kind ≡ 123 → isDeepBrace (i .deep) (x .kind) ≡ false → s .depth < 8
       shallower e t = let f : leb 8 (i .deep) ≡ false = rw e at t in omega (arith, leb-false 8 (i .deep) f, i .shallow)
 
-      deeper : (a ≡ 0 → ⊥) → (u v : Bool) → eqb (x .kind) 123 ≡ u → eqb (x .kind) 125 ≡ v → length (framesAfter (framesOf s) (s .count) a) ≤ bracesAfter (i .deep) (x .kind)
-      deeper z true v f g = let d = after-deep (framesOf s) (s .count) a in rw f (omega (arith, d .0, depth-is s, i .shallow))
-      deeper z false true f g = let d = after-deep (framesOf s) (s .count) a in let h = d .2 (closes (x .kind) a braced (eqb-true (x .kind) 125 g) z) in rw (f, g) (omega (arith, h, depth-is s, i .shallow))
-      deeper z false false f g = let d = after-deep (framesOf s) (s .count) a in let h = d .1 (λ q. eqb-false (x .kind) 123 f (opens (x .kind) a braced q)) in rw (f, g) (omega (arith, h, depth-is s, i .shallow))
+      deeper : (a ≡ 0 → ⊥) → (u v : Bool) → eqb (x .kind) 123 ≡ u → eqb (x .kind) 125 ≡ v → length (framesAfter (openFrames s) (s .count) a) ≤ bracesAfter (i .deep) (x .kind)
+      deeper z true v f g = let d = after-deep (openFrames s) (s .count) a in rw f (omega (arith, d .0, depth-is s, i .shallow))
+      deeper z false true f g = let d = after-deep (openFrames s) (s .count) a in let h = d .2 (closes (x .kind) a braced (eqb-true (x .kind) 125 g) z) in rw (f, g) (omega (arith, h, depth-is s, i .shallow))
+      deeper z false false f g = let d = after-deep (openFrames s) (s .count) a in let h = d .1 (λ q. eqb-false (x .kind) 123 f (opens (x .kind) a braced q)) in rw (f, g) (omega (arith, h, depth-is s, i .shallow))
 
-  after-run : x .kind ≡ runKind (part text (x .start) (x .end)) → liveFrom text (i .at) ≡ item (x .start) (run (part text (x .start) (x .end))) ∷ liveFrom text (x .end) → Taken text (i .at) x s p a (i .deep)
+  after-run : x .kind ≡ runKind (part text (x .start) (x .end)) → liveFrom text (i .at) ≡ item (x .start) (run (part text (x .start) (x .end))) ∷ liveFrom text (x .end) → TokenTaken text (i .at) x s p a (i .deep)
   after-run b e =
       let k : KindFacts (part text (x .start) (x .end)) (x .kind) = subst (KindFacts (part text (x .start) (x .end))) (sym b) (kind-facts (part text (x .start) (x .end))) in
       let no : a ≡ 14 → ⊥ = (λ q. omega (arith, opens (x .kind) a braced q, k .least)) in
       record {
         tok = run (part text (x .start) (x .end));
         cut = e;
-        goes = run-step text (framesOf s) (s .count) p (span (x .start) (x .end)) facts (x .kind) k (s .mode) ∙ ap (λ c. actionIn text (framesOf s) (s .count) p c (x .kind) (span (x .start) (x .end))) (sym here);
+        goes = run-step text (openFrames s) (s .count) p (span (x .start) (x .end)) facts (x .kind) k (s .mode) ∙ ap (λ c. actionIn text (openFrames s) (s .count) p c (x .kind) (span (x .start) (x .end))) (sym here);
         deep-after = i .deep;
         nested = sym (deep-run (i .deep) (liveFrom text (i .at)) (liveFrom text (x .end)) (x .start) (part text (x .start) (x .end)) e) ∙ i .nested;
         calm = sym (bad-item (liveFrom text (i .at)) (liveFrom text (x .end)) (x .start) (run (part text (x .start) (x .end))) e) ∙ i .calm;
         room = λ q. absurd (no q);
-        shallow = λ z. (let d = after-deep (framesOf s) (s .count) a in let h = d .1 no in omega (arith, h, depth-is s, i .shallow));
+        shallow = λ z. (let d = after-deep (openFrames s) (s .count) a in let h = d .1 no in omega (arith, h, depth-is s, i .shallow));
         kind-after = kind-stays text p a (x .kind) (span (x .start) (x .end)) (i .kind-is) (λ _. b);
       }
 
-  taken : (x .kind ≡ 0 → ⊥) → Taken text (i .at) x s p a (i .deep)
+  taken : (x .kind ≡ 0 → ⊥) → TokenTaken text (i .at) x s p a (i .deep)
   taken z = by (i .sees .told) refl refl refl
     where
-      by : {n u v : ℕ} → Told text (i .at) n u v → n ≡ x .kind → u ≡ x .start → v ≡ x .end → Taken text (i .at) x s p a (i .deep)
+      by : {n u v : ℕ} → Told text (i .at) n u v → n ≡ x .kind → u ≡ x .start → v ≡ x .end → TokenTaken text (i .at) x s p a (i .deep)
       by (ended q e) f g h = absurd (z (sym f ∙ q))
       by {n} {u} {v} (broken rest e) f g h = no-bad (liveFrom text (i .at)) rest u e (i .calm)
       by (marked b e) f g h = after-mark (rw f at b) (rw (f, g, h) at e)
@@ -271,8 +271,8 @@ module _ {text cells : List ℕ} {x : Seen} {s : State} {p : Pending} (i : Inv t
   pub inv-stuck : (x .kind ≡ 0 → ⊥) → a ≡ 0 → StuckIn text (x .start)
   inv-stuck z q =
       let t = taken z in
-      let f : step (framesOf s) (s .count) (x .start) (phaseIn text (s .mode) p) (t .tok) ≡ stop = t .goes ∙ action-stop text (framesOf s) (s .count) p a (x .kind) (span (x .start) (x .end)) q in
-      let g : parsePlaced (length text) (framesOf s) (s .count) (phaseIn text (s .mode) p) (liveFrom text (i .at)) ≡ stuckAt (x .start) = ap (parsePlaced (length text) (framesOf s) (s .count) (phaseIn text (s .mode) p)) (t .cut) ∙ stops (length text) (framesOf s) (s .count) (phaseIn text (s .mode) p) (x .start) (t .tok) (liveFrom text (x .end)) f in
+      let f : step (openFrames s) (s .count) (x .start) (phaseIn text (s .mode) p) (t .tok) ≡ stop = t .goes ∙ action-stop text (openFrames s) (s .count) p a (x .kind) (span (x .start) (x .end)) q in
+      let g : parsePlaced (length text) (openFrames s) (s .count) (phaseIn text (s .mode) p) (liveFrom text (i .at)) ≡ stuckAt (x .start) = ap (parsePlaced (length text) (openFrames s) (s .count) (phaseIn text (s .mode) p)) (t .cut) ∙ stops (length text) (openFrames s) (s .count) (phaseIn text (s .mode) p) (x .start) (t .tok) (liveFrom text (x .end)) f in
       let e : placedOutcome text ≡ stuckAt (x .start) = i .goes ∙ map-stuck (i .before) _ (x .start) g in
       let b = stuck-back (tokenPlace text (itemsOf text)) (outcomeOf text) (x .start) e in
       record { spot = b .0; is = b .1; place = b .2 }
@@ -293,7 +293,7 @@ module _ {text cells : List ℕ} {x : Seen} {s : State} {p : Pending} (i : Inv t
     no-note e = rw e
 
     -- nothing is noted
-    inv-quiet : (t : State) → After s a (p .name .start) t → notes a ≡ false → Inv text (noteCells s p a cells) y t after-p
+    inv-quiet : (t : State) → StateAfter s a (p .name .start) t → notes a ≡ false → Inv text (noteCells s p a cells) y t after-p
     unfolding notes
     inv-quiet t f e =
         let k = taken nz in
@@ -302,7 +302,7 @@ module _ {text cells : List ℕ} {x : Seen} {s : State} {p : Pending} (i : Inv t
         let ot : t .over ≡ s .over = f .over-is ∙ pick-false _ _ _ e in
         let cs : noteCells s p a cells ≡ cells = no-note e in
         let no : a ≡ 14 → ⊥ = (λ q. not-note q e) in
-        let one : parsePlaced (length text) (framesOf s) (s .count) (phaseIn text (s .mode) p) (liveFrom text (i .at)) ≡ parsePlaced (length text) (framesAfter (framesOf s) (s .count) a) (s .count) (phaseIn text (nextMode a) after-p) (liveFrom text (x .end)) = ap (parsePlaced (length text) (framesOf s) (s .count) (phaseIn text (s .mode) p)) (k .cut) ∙ moves (length text) (framesOf s) (s .count) (phaseIn text (s .mode) p) (x .start) (k .tok) (liveFrom text (x .end)) _ _ (k .goes ∙ action-move text (framesOf s) (s .count) p a (x .kind) (span (x .start) (x .end)) az e) in
+        let one : parsePlaced (length text) (openFrames s) (s .count) (phaseIn text (s .mode) p) (liveFrom text (i .at)) ≡ parsePlaced (length text) (framesAfter (openFrames s) (s .count) a) (s .count) (phaseIn text (nextMode a) after-p) (liveFrom text (x .end)) = ap (parsePlaced (length text) (openFrames s) (s .count) (phaseIn text (s .mode) p)) (k .cut) ∙ moves (length text) (openFrames s) (s .count) (phaseIn text (s .mode) p) (x .start) (k .tok) (liveFrom text (x .end)) _ _ (k .goes ∙ action-move text (openFrames s) (s .count) p a (x .kind) (span (x .start) (x .end)) az e) in
         rw cs (record {
           at = x .end;
           sees = next;
@@ -310,7 +310,7 @@ module _ {text cells : List ℕ} {x : Seen} {s : State} {p : Pending} (i : Inv t
           deep = k .deep-after;
           goes = i .goes ∙ ap (mapOutcome (λ r. i .before ++ r)) (one ∙ sym (rw (f .frames, ct, f .mode-is)));
           kept = rw (ct, ot) (i .kept);
-          below = rw (ct, f .frames) (below-stay a (s .count) (framesOf s) no (i .below));
+          below = rw (ct, f .frames) (below-stay a (s .count) (openFrames s) no (i .below));
           calm = k .calm;
           nested = k .nested;
           shallow = omega (arith, depth-is t, ap length (f .frames), k .shallow az);
@@ -332,7 +332,7 @@ module _ {text cells : List ℕ} {x : Seen} {s : State} {p : Pending} (i : Inv t
     more = rw (lt-ltb (s .count) 65536 (omega (arith, few))) (add-one (s .count))
 
     abbrev noted-here : Noted
-    noted-here = notedIn text (framesOf s) p
+    noted-here = notedIn text (openFrames s) p
 
     -- in the row it is as it is declared
     in-row : s .count < 256 → notedFrom text (sets cells (16 * s .count) (cellsOf p (extensionFlag (contextOf s)) (parentNumber s))) (suc (s .count)) 0 ≡ notedFrom text cells (s .count) 0 ++ noted-here ∷ []
@@ -366,13 +366,13 @@ module _ {text cells : List ℕ} {x : Seen} {s : State} {p : Pending} (i : Inv t
     twice xs d (stuckAt j) = refl
     twice xs d (complete ns) = ap complete (sym (append-assoc xs (d ∷ []) ns))
 
-    inv-note : (t : State) → After s a (p .name .start) t → notes a ≡ true → Inv text (noteCells s p a cells) y t after-p
+    inv-note : (t : State) → StateAfter s a (p .name .start) t → notes a ≡ true → Inv text (noteCells s p a cells) y t after-p
     inv-note t f e =
         let k = taken nz in
         let g = far in
         let ct : t .count ≡ suc (s .count) = f .count-is ∙ (pick-true _ _ _ e ∙ more) in
         let ot : t .over ≡ overOf (s .count) (s .over) (p .name .start) = f .over-is ∙ pick-true _ _ _ e in
-        let one : parsePlaced (length text) (framesOf s) (s .count) (phaseIn text (s .mode) p) (liveFrom text (i .at)) ≡ mapOutcome (λ l. noted-here ∷ l) (parsePlaced (length text) (framesAfter (framesOf s) (s .count) a) (suc (s .count)) (phaseIn text (nextMode a) after-p) (liveFrom text (x .end))) = ap (parsePlaced (length text) (framesOf s) (s .count) (phaseIn text (s .mode) p)) (k .cut) ∙ notes-one (length text) (framesOf s) (s .count) (phaseIn text (s .mode) p) (x .start) (k .tok) (liveFrom text (x .end)) _ _ _ (k .goes ∙ action-note text (framesOf s) (s .count) p a (x .kind) (span (x .start) (x .end)) az e) in
+        let one : parsePlaced (length text) (openFrames s) (s .count) (phaseIn text (s .mode) p) (liveFrom text (i .at)) ≡ mapOutcome (λ l. noted-here ∷ l) (parsePlaced (length text) (framesAfter (openFrames s) (s .count) a) (suc (s .count)) (phaseIn text (nextMode a) after-p) (liveFrom text (x .end))) = ap (parsePlaced (length text) (openFrames s) (s .count) (phaseIn text (s .mode) p)) (k .cut) ∙ notes-one (length text) (openFrames s) (s .count) (phaseIn text (s .mode) p) (x .start) (k .tok) (liveFrom text (x .end)) _ _ _ (k .goes ∙ action-note text (openFrames s) (s .count) p a (x .kind) (span (x .start) (x .end)) az e) in
         record {
           at = x .end;
           sees = next;
@@ -380,7 +380,7 @@ module _ {text cells : List ℕ} {x : Seen} {s : State} {p : Pending} (i : Inv t
           deep = k .deep-after;
           goes = i .goes ∙ (ap (mapOutcome (λ r. i .before ++ r)) one ∙ (twice (i .before) noted-here _ ∙ sym (rw (f .frames, ct, f .mode-is))));
           kept = rw (ct, ot) (kept-after e);
-          below = rw (ct, f .frames) (below-after a (s .count) (framesOf s) (i .below));
+          below = rw (ct, f .frames) (below-after a (s .count) (openFrames s) (i .below));
           calm = k .calm;
           nested = k .nested;
           shallow = omega (arith, depth-is t, ap length (f .frames), k .shallow az);
@@ -394,7 +394,7 @@ module _ {text cells : List ℕ} {x : Seen} {s : State} {p : Pending} (i : Inv t
     pub inv-step : (t : State) (q : Pending) (cs : List ℕ) → t ≡ afterOf s a (p .name .start) → q ≡ after-p → cs ≡ noteCells s p a cells → Inv text cs y t q
     inv-step t q cs et eq ec = rw (et, eq, ec) (by (notes a) refl (after-is s a (p .name .start) (i .sized) (taken nz .room) (omega (arith, few))))
       where
-        by : (u : Bool) → notes a ≡ u → After s a (p .name .start) (afterOf s a (p .name .start)) → Inv text (noteCells s p a cells) y (afterOf s a (p .name .start)) after-p
+        by : (u : Bool) → notes a ≡ u → StateAfter s a (p .name .start) (afterOf s a (p .name .start)) → Inv text (noteCells s p a cells) y (afterOf s a (p .name .start)) after-p
         by true e f = inv-note (afterOf s a (p .name .start)) f e
         by false e f = inv-quiet (afterOf s a (p .name .start)) f e
 
@@ -436,15 +436,15 @@ phase-end text m p k end h =
     (pick-on P (eqb m 11) _ _ (λ _. refl) refl)))))))))))
 
 module _ {text cells : List ℕ} {x : Seen} {s : State} {p : Pending} (i : Inv text cells x s p) (z : x .kind ≡ 0) where
-  at-last : placedOutcome text ≡ mapOutcome (λ r. i .before ++ r) (atEnd (framesOf s) (s .count) (length text) (phaseIn text (s .mode) p))
-  at-last = i .goes ∙ ap (mapOutcome (λ r. i .before ++ r)) (ap (parsePlaced (length text) (framesOf s) (s .count) (phaseIn text (s .mode) p)) (no-more (i .sees .told) z (i .calm)) ∙ parse-none (length text) (framesOf s) (s .count) (phaseIn text (s .mode) p))
+  at-last : placedOutcome text ≡ mapOutcome (λ r. i .before ++ r) (atEnd (openFrames s) (s .count) (length text) (phaseIn text (s .mode) p))
+  at-last = i .goes ∙ ap (mapOutcome (λ r. i .before ++ r)) (ap (parsePlaced (length text) (openFrames s) (s .count) (phaseIn text (s .mode) p)) (no-more (i .sees .told) z (i .calm)) ∙ parse-none (length text) (openFrames s) (s .count) (phaseIn text (s .mode) p))
 
-  stuck-last : atEnd (framesOf s) (s .count) (length text) (phaseIn text (s .mode) p) ≡ stuckAt (length text) → StuckIn text (length text)
+  stuck-last : atEnd (openFrames s) (s .count) (length text) (phaseIn text (s .mode) p) ≡ stuckAt (length text) → StuckIn text (length text)
   stuck-last e =
       let b = stuck-back (tokenPlace text (itemsOf text)) (outcomeOf text) (length text) (at-last ∙ map-stuck (i .before) _ (length text) e) in
       record { spot = b .0; is = b .1; place = b .2 }
 
-  done-last : atEnd (framesOf s) (s .count) (length text) (phaseIn text (s .mode) p) ≡ complete [] → placedOutcome text ≡ complete (i .before)
+  done-last : atEnd (openFrames s) (s .count) (length text) (phaseIn text (s .mode) p) ≡ complete [] → placedOutcome text ≡ complete (i .before)
   done-last e = at-last ∙ map-done (i .before) _ e
 
   whole-last : placedOutcome text ≡ complete (i .before) → s .count ≤ 256 → CompleteIn text cells (s .count)

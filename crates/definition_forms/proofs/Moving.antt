@@ -18,7 +18,7 @@ use Rattle.definition_automaton.specs.States.{state, entryOf, bodyAfter, contex
 use Rattle.definition_automaton.specs.Noting.{notes}
 use Rattle.definition_automaton.specs.declared.State.{State}
 use Rattle.definition_automaton.proofs.AfterLaws.{after-field, after-push, after-pop, after-group, after-close, after-other}
-use Rattle.definition_automaton.proofs.Views.{bodyOf, framesFrom, framesOf, bodyContext, contextIn, popFrame, inMode, framesAfter}
+use Rattle.definition_automaton.proofs.Views.{bodyModeOf, framesFrom, openFrames, bodyContext, contextIn, popFrame, inMode, framesAfter}
 
 -- ---- the open bodies after a store
 
@@ -40,8 +40,8 @@ pub record Sized (s : State) : Type 0 where
 
 -- ---- the innermost body
 
-context-body : (m : ℕ) → contextNumber m ≡ bodyContext (bodyOf m)
-unfolding contextNumber bodyContext bodyOf pick
+context-body : (m : ℕ) → contextNumber m ≡ bodyContext (bodyModeOf m)
+unfolding contextNumber bodyContext bodyModeOf pick
 context-body m = go (eqb m 0) (eqb m 1) (eqb m 2) refl refl refl
   where
     go : (a b c : Bool) → eqb m 0 ≡ a → eqb m 1 ≡ b → eqb m 2 ≡ c → pick (ltb m 3) (m + 1) 4 ≡ bodyContext (pick a inFields (pick b groupOpened (pick c inGroup groupsClosed)))
@@ -50,11 +50,11 @@ context-body m = go (eqb m 0) (eqb m 1) (eqb m 2) refl refl refl
     go false false true e f g = let z : m ≡ 2 = eqb-true m 2 g in rw z
     go false false false e f g = rw (le-ltb m 3 (omega (arith, eqb-false m 0 e, eqb-false m 1 f, eqb-false m 2 g)))
 
-after-body : (m : ℕ) → bodyOf (bodyAfter m) ≡ afterField (bodyOf m)
-unfolding bodyOf bodyAfter afterField pick
+after-body : (m : ℕ) → bodyModeOf (bodyAfter m) ≡ afterField (bodyModeOf m)
+unfolding bodyModeOf bodyAfter afterField pick
 after-body m = go (eqb m 0) (eqb m 1) (eqb m 2) refl refl refl
   where
-    go : (a b c : Bool) → eqb m 0 ≡ a → eqb m 1 ≡ b → eqb m 2 ≡ c → bodyOf (pick b 2 m) ≡ afterField (pick a inFields (pick b groupOpened (pick c inGroup groupsClosed)))
+    go : (a b c : Bool) → eqb m 0 ≡ a → eqb m 1 ≡ b → eqb m 2 ≡ c → bodyModeOf (pick b 2 m) ≡ afterField (pick a inFields (pick b groupOpened (pick c inGroup groupsClosed)))
     go true b c e f g = let z : m ≡ 0 = eqb-true m 0 e in let y : b ≡ false = sym f ∙ rw z in rw (y, z)
     go false true c e f g = refl
     go false false true e f g = rw (e, f, g)
@@ -83,7 +83,7 @@ module _ (m : ℕ) (ns bs : List ℕ) (c o : ℕ) where
     where
       by : (d : ℕ) → eqb (extensionFlag (contextIn (framesFrom d ns bs))) 1 ≡ isUnderExtension (framesFrom d ns bs)
       by zero = unfold extensionFlag pick in refl
-      by (suc d) = extension-body (bodyOf (getD bs d 0))
+      by (suc d) = extension-body (bodyModeOf (getD bs d 0))
 
 -- all numbers of open bodies are below a bound
 unfoldable pub Below : ℕ → List Frame → Type 0
@@ -131,12 +131,12 @@ frames-15 : (σ : List Frame) (k a : ℕ) → a ≡ 15 → popFrame σ ≡ frame
 unfolding framesAfter pick
 frames-15 σ k a e = rw e
 
-frames-17 : (σ : List Frame) (k a : ℕ) → a ≡ 17 → inMode (bodyOf 1) σ ≡ framesAfter σ k a
-unfolding framesAfter pick bodyOf
+frames-17 : (σ : List Frame) (k a : ℕ) → a ≡ 17 → inMode (bodyModeOf 1) σ ≡ framesAfter σ k a
+unfolding framesAfter pick bodyModeOf
 frames-17 σ k a e = rw e
 
-frames-18 : (σ : List Frame) (k a : ℕ) → a ≡ 18 → inMode (bodyOf 3) σ ≡ framesAfter σ k a
-unfolding framesAfter pick bodyOf
+frames-18 : (σ : List Frame) (k a : ℕ) → a ≡ 18 → inMode (bodyModeOf 3) σ ≡ framesAfter σ k a
+unfolding framesAfter pick bodyModeOf
 frames-18 σ k a e = rw e
 
 frames-rest : (σ : List Frame) (k a : ℕ) → eqb a 13 ≡ false → eqb a 14 ≡ false → eqb a 15 ≡ false → eqb a 17 ≡ false → eqb a 18 ≡ false → σ ≡ framesAfter σ k a
@@ -165,39 +165,39 @@ below-after a k σ b = go (eqb a 14) refl
 
 -- ---- the parts of an act
 
-pub record Moved (s t : State) (σ : List Frame) : Type 0 where
+pub record StateMoved (s t : State) (σ : List Frame) : Type 0 where
   pub mode-same : t .mode ≡ s .mode
   pub count-same : t .count ≡ s .count
   pub over-same : t .over ≡ s .over
-  pub frames : framesOf t ≡ σ
+  pub frames : openFrames t ≡ σ
   pub sized : Sized t
 
 module _ (m : ℕ) (ns bs : List ℕ) (c o : ℕ) (n8 : length ns ≡ 8) (b8 : length bs ≡ 8) where
-  body-moved : (d v : ℕ) → d ≤ 8 → Moved (state m d ns bs c o) (withBody (state m d ns bs c o) v) (inMode (bodyOf v) (framesFrom d ns bs))
+  body-moved : (d v : ℕ) → d ≤ 8 → StateMoved (state m d ns bs c o) (withBody (state m d ns bs c o) v) (inMode (bodyModeOf v) (framesFrom d ns bs))
   unfolding withBody pick inMode framesFrom
   body-moved zero v h = record { mode-same = refl; count-same = refl; over-same = refl; frames = refl; sized = record { numbers8 = n8; bodies8 = b8; low = h } }
   body-moved (suc d) v h =
-      let e : framesFrom (suc d) ns (set bs d v) ≡ frame (getD ns d 0) (bodyOf v) ∷ framesFrom d ns bs = rw (getD-set-same bs d v 0 (omega arith), bodies-above d ns bs d v (omega arith)) in
+      let e : framesFrom (suc d) ns (set bs d v) ≡ frame (getD ns d 0) (bodyModeOf v) ∷ framesFrom d ns bs = rw (getD-set-same bs d v 0 (omega arith), bodies-above d ns bs d v (omega arith)) in
       let z : suc d - 1 ≡ d = omega arith in
       rw (ne-eqb (suc d) 0 (λ q. omega arith), z, lt-leb 8 d h) (record { mode-same = refl; count-same = refl; over-same = refl; frames = e; sized = record { numbers8 = n8; bodies8 = length-set bs d v ∙ b8; low = h } })
 
-  done-moved : (d : ℕ) → d ≤ 8 → Moved (state m d ns bs c o) (fieldDoneOf (state m d ns bs c o)) (fieldDone (framesFrom d ns bs))
+  done-moved : (d : ℕ) → d ≤ 8 → StateMoved (state m d ns bs c o) (fieldDoneOf (state m d ns bs c o)) (fieldDone (framesFrom d ns bs))
   unfolding fieldDoneOf pick framesFrom fieldDone inMode
   done-moved zero h = record { mode-same = refl; count-same = refl; over-same = refl; frames = refl; sized = record { numbers8 = n8; bodies8 = b8; low = h } }
   done-moved (suc d) h =
       let b = body-moved (suc d) (bodyAfter (getD bs d 0)) h in
-      let e : inMode (bodyOf (bodyAfter (getD bs d 0))) (framesFrom (suc d) ns bs) ≡ frame (getD ns d 0) (afterField (bodyOf (getD bs d 0))) ∷ framesFrom d ns bs = rw (after-body (getD bs d 0)) in
+      let e : inMode (bodyModeOf (bodyAfter (getD bs d 0))) (framesFrom (suc d) ns bs) ≡ frame (getD ns d 0) (afterField (bodyModeOf (getD bs d 0))) ∷ framesFrom d ns bs = rw (after-body (getD bs d 0)) in
       let z : suc d - 1 ≡ d = omega arith in
       rw (ne-eqb (suc d) 0 (λ q. omega arith), z, entry-in bs d h) (record { mode-same = b .mode-same; count-same = b .count-same; over-same = b .over-same; frames = b .frames ∙ e; sized = b .sized })
 
-  push-moved : (d : ℕ) → d < 8 → c < 65536 → Moved (state m d ns bs c o) (pushedOf (state m d ns bs c o)) (frame c inFields ∷ framesFrom d ns bs)
-  unfolding pushedOf pick framesFrom bodyOf
+  push-moved : (d : ℕ) → d < 8 → c < 65536 → StateMoved (state m d ns bs c o) (pushedOf (state m d ns bs c o)) (frame c inFields ∷ framesFrom d ns bs)
+  unfolding pushedOf pick framesFrom bodyModeOf
   push-moved d h l =
       let z : c % 65536 ≡ c = omega arith in
       let e : framesFrom (d + 1) (set ns d c) (set bs d 0) ≡ frame c inFields ∷ framesFrom d ns bs = rw (add-one d, getD-set-same ns d c 0 (omega arith), getD-set-same bs d 0 0 (omega arith), bodies-above d (set ns d c) bs d 0 (omega arith), numbers-above d ns bs d c (omega arith)) in
       rw (lt-leb 8 d h, z) (record { mode-same = refl; count-same = refl; over-same = refl; frames = e; sized = record { numbers8 = length-set ns d c ∙ n8; bodies8 = length-set bs d 0 ∙ b8; low = omega arith } })
 
-  pop-moved : (d : ℕ) → d ≤ 8 → Moved (state m d ns bs c o) (poppedOf (state m d ns bs c o)) (popFrame (framesFrom d ns bs))
+  pop-moved : (d : ℕ) → d ≤ 8 → StateMoved (state m d ns bs c o) (poppedOf (state m d ns bs c o)) (popFrame (framesFrom d ns bs))
   unfolding popFrame framesFrom
   pop-moved zero h = record { mode-same = refl; count-same = refl; over-same = refl; frames = refl; sized = record { numbers8 = n8; bodies8 = b8; low = omega arith } }
   pop-moved (suc d) h = record { mode-same = refl; count-same = refl; over-same = refl; frames = (let z : suc d - 1 ≡ d = omega arith in rw z); sized = record { numbers8 = n8; bodies8 = b8; low = omega arith } }
@@ -214,11 +214,11 @@ done-length (frame p m ∷ σ) = refl
 
 -- ---- after an act
 
-pub record After (s : State) (a name : ℕ) (t : State) : Type 0 where
+pub record StateAfter (s : State) (a name : ℕ) (t : State) : Type 0 where
   pub mode-is : t .mode ≡ nextMode a
   pub count-is : t .count ≡ pick (notes a) (moreOf (s .count)) (s .count)
   pub over-is : t .over ≡ pick (notes a) (overOf (s .count) (s .over) name) (s .over)
-  pub frames : framesOf t ≡ framesAfter (framesOf s) (s .count) a
+  pub frames : openFrames t ≡ framesAfter (openFrames s) (s .count) a
   pub sized : Sized t
 
 note-13 : (a : ℕ) → a ≡ 13 → notes a ≡ true
@@ -235,7 +235,7 @@ note-none a e f = rw (e, f)
 
 module _ (s : State) (a name : ℕ) (z : Sized s) where
   -- an act that notes nothing
-  quiet : (t : State) → eqb a 13 ≡ false → eqb a 14 ≡ false → Moved (modeMoved s a) t (framesAfter (framesOf s) (s .count) a) → After s a name t
+  quiet : (t : State) → eqb a 13 ≡ false → eqb a 14 ≡ false → StateMoved (modeMoved s a) t (framesAfter (openFrames s) (s .count) a) → StateAfter s a name t
   unfolding pick
   quiet t e f w = record {
     mode-is = w .mode-same;
@@ -246,7 +246,7 @@ module _ (s : State) (a name : ℕ) (z : Sized s) where
   }
 
   -- an act that notes a declaration
-  noting : (t : State) → notes a ≡ true → Moved (modeMoved s a) t (framesAfter (framesOf s) (s .count) a) → After s a name (countedOf t name)
+  noting : (t : State) → notes a ≡ true → StateMoved (modeMoved s a) t (framesAfter (openFrames s) (s .count) a) → StateAfter s a name (countedOf t name)
   unfolding pick
   noting t e w = record {
     mode-is = w .mode-same;
@@ -256,43 +256,43 @@ module _ (s : State) (a name : ℕ) (z : Sized s) where
     sized = record { numbers8 = w .sized .numbers8; bodies8 = w .sized .bodies8; low = w .sized .low };
   }
 
-  moved-to : {t : State} {σ τ : List Frame} → Moved (modeMoved s a) t σ → σ ≡ τ → Moved (modeMoved s a) t τ
+  moved-to : {t : State} {σ τ : List Frame} → StateMoved (modeMoved s a) t σ → σ ≡ τ → StateMoved (modeMoved s a) t τ
   moved-to w e = record { mode-same = w .mode-same; count-same = w .count-same; over-same = w .over-same; frames = w .frames ∙ e; sized = w .sized }
 
-  done-here : Moved (modeMoved s a) (fieldDoneOf (modeMoved s a)) (fieldDone (framesOf s))
+  done-here : StateMoved (modeMoved s a) (fieldDoneOf (modeMoved s a)) (fieldDone (openFrames s))
   done-here = done-moved (nextMode a) (s .numbers) (s .bodies) (s .count) (s .over) (z .numbers8) (z .bodies8) (s .depth) (z .low)
 
-  after-13 : a ≡ 13 → After s a name (countedOf (fieldDoneOf (modeMoved s a)) name)
-  after-13 e = noting (fieldDoneOf (modeMoved s a)) (note-13 a e) (moved-to done-here (frames-13 (framesOf s) (s .count) a e))
+  after-13 : a ≡ 13 → StateAfter s a name (countedOf (fieldDoneOf (modeMoved s a)) name)
+  after-13 e = noting (fieldDoneOf (modeMoved s a)) (note-13 a e) (moved-to done-here (frames-13 (openFrames s) (s .count) a e))
 
-  after-14 : a ≡ 14 → s .depth < 8 → s .count < 65536 → After s a name (countedOf (pushedOf (fieldDoneOf (modeMoved s a))) name)
+  after-14 : a ≡ 14 → s .depth < 8 → s .count < 65536 → StateAfter s a name (countedOf (pushedOf (fieldDoneOf (modeMoved s a))) name)
   after-14 e h l =
       let w = done-here in
       let u : State = fieldDoneOf (modeMoved s a) in
-      let d : u .depth ≡ s .depth = sym (frames-length (u .depth) (u .numbers) (u .bodies)) ∙ (ap length (w .frames) ∙ (done-length (framesOf s) ∙ frames-length (s .depth) (s .numbers) (s .bodies))) in
-      let p : Moved u (pushedOf u) (frame (u .count) inFields ∷ framesOf u) = push-moved (u .mode) (u .numbers) (u .bodies) (u .count) (u .over) (w .sized .numbers8) (w .sized .bodies8) (u .depth) (omega arith) (omega (arith, w .count-same)) in
-      let g : framesOf (pushedOf u) ≡ framesAfter (framesOf s) (s .count) a = p .frames ∙ (rw (w .count-same, w .frames) (frames-14 (framesOf s) (s .count) a e)) in
+      let d : u .depth ≡ s .depth = sym (frames-length (u .depth) (u .numbers) (u .bodies)) ∙ (ap length (w .frames) ∙ (done-length (openFrames s) ∙ frames-length (s .depth) (s .numbers) (s .bodies))) in
+      let p : StateMoved u (pushedOf u) (frame (u .count) inFields ∷ openFrames u) = push-moved (u .mode) (u .numbers) (u .bodies) (u .count) (u .over) (w .sized .numbers8) (w .sized .bodies8) (u .depth) (omega arith) (omega (arith, w .count-same)) in
+      let g : openFrames (pushedOf u) ≡ framesAfter (openFrames s) (s .count) a = p .frames ∙ (rw (w .count-same, w .frames) (frames-14 (openFrames s) (s .count) a e)) in
       noting (pushedOf u) (note-14 a e) (record { mode-same = p .mode-same ∙ w .mode-same; count-same = p .count-same ∙ w .count-same; over-same = p .over-same ∙ w .over-same; frames = g; sized = p .sized })
 
-  after-15 : a ≡ 15 → After s a name (poppedOf (modeMoved s a))
-  after-15 e = quiet (poppedOf (modeMoved s a)) (rw e) (rw e) (moved-to (pop-moved (nextMode a) (s .numbers) (s .bodies) (s .count) (s .over) (z .numbers8) (z .bodies8) (s .depth) (z .low)) (frames-15 (framesOf s) (s .count) a e))
+  after-15 : a ≡ 15 → StateAfter s a name (poppedOf (modeMoved s a))
+  after-15 e = quiet (poppedOf (modeMoved s a)) (rw e) (rw e) (moved-to (pop-moved (nextMode a) (s .numbers) (s .bodies) (s .count) (s .over) (z .numbers8) (z .bodies8) (s .depth) (z .low)) (frames-15 (openFrames s) (s .count) a e))
 
-  after-17 : a ≡ 17 → After s a name (withBody (modeMoved s a) 1)
-  after-17 e = quiet (withBody (modeMoved s a) 1) (rw e) (rw e) (moved-to (body-moved (nextMode a) (s .numbers) (s .bodies) (s .count) (s .over) (z .numbers8) (z .bodies8) (s .depth) 1 (z .low)) (frames-17 (framesOf s) (s .count) a e))
+  after-17 : a ≡ 17 → StateAfter s a name (withBody (modeMoved s a) 1)
+  after-17 e = quiet (withBody (modeMoved s a) 1) (rw e) (rw e) (moved-to (body-moved (nextMode a) (s .numbers) (s .bodies) (s .count) (s .over) (z .numbers8) (z .bodies8) (s .depth) 1 (z .low)) (frames-17 (openFrames s) (s .count) a e))
 
-  after-18 : a ≡ 18 → After s a name (withBody (modeMoved s a) 3)
-  after-18 e = quiet (withBody (modeMoved s a) 3) (rw e) (rw e) (moved-to (body-moved (nextMode a) (s .numbers) (s .bodies) (s .count) (s .over) (z .numbers8) (z .bodies8) (s .depth) 3 (z .low)) (frames-18 (framesOf s) (s .count) a e))
+  after-18 : a ≡ 18 → StateAfter s a name (withBody (modeMoved s a) 3)
+  after-18 e = quiet (withBody (modeMoved s a) 3) (rw e) (rw e) (moved-to (body-moved (nextMode a) (s .numbers) (s .bodies) (s .count) (s .over) (z .numbers8) (z .bodies8) (s .depth) 3 (z .low)) (frames-18 (openFrames s) (s .count) a e))
 
-  after-rest : eqb a 13 ≡ false → eqb a 14 ≡ false → eqb a 15 ≡ false → eqb a 17 ≡ false → eqb a 18 ≡ false → After s a name (modeMoved s a)
-  after-rest e f g h k = quiet (modeMoved s a) e f (record { mode-same = refl; count-same = refl; over-same = refl; frames = frames-rest (framesOf s) (s .count) a e f g h k; sized = record { numbers8 = z .numbers8; bodies8 = z .bodies8; low = z .low } })
+  after-rest : eqb a 13 ≡ false → eqb a 14 ≡ false → eqb a 15 ≡ false → eqb a 17 ≡ false → eqb a 18 ≡ false → StateAfter s a name (modeMoved s a)
+  after-rest e f g h k = quiet (modeMoved s a) e f (record { mode-same = refl; count-same = refl; over-same = refl; frames = frames-rest (openFrames s) (s .count) a e f g h k; sized = record { numbers8 = z .numbers8; bodies8 = z .bodies8; low = z .low } })
 
-  pub after-is : (a ≡ 14 → s .depth < 8) → s .count < 65536 → After s a name (afterOf s a name)
+  pub after-is : (a ≡ 14 → s .depth < 8) → s .count < 65536 → StateAfter s a name (afterOf s a name)
   after-is room l = go (eqb a 13) (eqb a 14) (eqb a 15) (eqb a 17) (eqb a 18) refl refl refl refl refl
     where
-      on : {t : State} → After s a name t → t ≡ afterOf s a name → After s a name (afterOf s a name)
-      on x e = subst (After s a name) e x
+      on : {t : State} → StateAfter s a name t → t ≡ afterOf s a name → StateAfter s a name (afterOf s a name)
+      on x e = subst (StateAfter s a name) e x
 
-      go : (b c d f g : Bool) → eqb a 13 ≡ b → eqb a 14 ≡ c → eqb a 15 ≡ d → eqb a 17 ≡ f → eqb a 18 ≡ g → After s a name (afterOf s a name)
+      go : (b c d f g : Bool) → eqb a 13 ≡ b → eqb a 14 ≡ c → eqb a 15 ≡ d → eqb a 17 ≡ f → eqb a 18 ≡ g → StateAfter s a name (afterOf s a name)
       go true c d f g e1 e2 e3 e4 e5 = let e = eqb-true a 13 e1 in on (after-13 e) (after-field s (modeMoved s a) a name (fieldDoneOf (modeMoved s a)) _ e refl refl refl)
       go false true d f g e1 e2 e3 e4 e5 = let e = eqb-true a 14 e2 in on (after-14 e (room e) l) (after-push s (modeMoved s a) a name (fieldDoneOf (modeMoved s a)) (pushedOf (fieldDoneOf (modeMoved s a))) _ e refl refl refl refl)
       go false false true f g e1 e2 e3 e4 e5 = let e = eqb-true a 15 e3 in on (after-15 e) (after-pop s (modeMoved s a) a name _ e refl refl)
@@ -449,5 +449,5 @@ after-deep σ k a = (all (eqb a 13) (eqb a 14) (eqb a 15) (eqb a 17) (eqb a 18),
     few false false false false true e = omega (arith, mode-deep groupsClosed σ)
     few false false false false false e = omega arith
 
-pub depth-is : (s : State) → length (framesOf s) ≡ s .depth
+pub depth-is : (s : State) → length (openFrames s) ≡ s .depth
 depth-is s = frames-length (s .depth) (s .numbers) (s .bodies)

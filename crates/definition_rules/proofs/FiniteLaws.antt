@@ -10,6 +10,7 @@ use Rattle.classes.proofs.Bools.{clash-bool}
 use Rattle.classes.specs.Lists.{pick}
 use Rattle.reading_rules.specs.Record.{Record}
 use Rattle.reading_rules.specs.Schema.{isUnder}
+use Rattle.definition_rules.specs.Table.{bit}
 use Rattle.definition_rules.specs.Finite.{Sub, Closed, canDoWithout, endsNeeds, structStep, unionStep, finiteStep, round, rounds, finites}
 use mathlib.Core.Logic.{_⊎_, inl, inr}
 
@@ -104,44 +105,40 @@ module _ (rs : List Record) where
 
 -- ---- closed: each round adds one, or nothing more is added
 
-unfoldable bit : Bool → ℕ
-bit true = 1
-bit false = 0
+unfoldable marksCount : List Bool → ℕ
+marksCount [] = 0
+marksCount (b ∷ s) = bit b + marksCount s
 
-unfoldable count : List Bool → ℕ
-count [] = 0
-count (b ∷ s) = bit b + count s
-
-sub-count : (s t : List Bool) → Sub s t → _⊎_ (s ≡ t) (count s < count t)
-unfolding Sub count bit
+sub-count : (s t : List Bool) → Sub s t → _⊎_ (s ≡ t) (marksCount s < marksCount t)
+unfolding Sub marksCount bit
 sub-count [] [] h = inl refl
 sub-count [] (b ∷ t) h = absurd h
 sub-count (a ∷ s) [] h = absurd h
 sub-count (true ∷ s) (true ∷ t) h = by (sub-count s t (h .1))
   where
-    by : _⊎_ (s ≡ t) (count s < count t) → _⊎_ (true ∷ s ≡ true ∷ t) (1 + count s < 1 + count t)
+    by : _⊎_ (s ≡ t) (marksCount s < marksCount t) → _⊎_ (true ∷ s ≡ true ∷ t) (1 + marksCount s < 1 + marksCount t)
     by (inl e) = inl (ap (λ q. true ∷ q) e)
     by (inr l) = inr (omega arith)
 sub-count (true ∷ s) (false ∷ t) h = clash-bool (h .0 refl)
 sub-count (false ∷ s) (true ∷ t) h = inr (by (sub-count s t (h .1)))
   where
-    by : _⊎_ (s ≡ t) (count s < count t) → 0 + count s < 1 + count t
+    by : _⊎_ (s ≡ t) (marksCount s < marksCount t) → 0 + marksCount s < 1 + marksCount t
     by (inl e) = rw e (omega arith)
     by (inr l) = omega arith
 sub-count (false ∷ s) (false ∷ t) h = by (sub-count s t (h .1))
   where
-    by : _⊎_ (s ≡ t) (count s < count t) → _⊎_ (false ∷ s ≡ false ∷ t) (0 + count s < 0 + count t)
+    by : _⊎_ (s ≡ t) (marksCount s < marksCount t) → _⊎_ (false ∷ s ≡ false ∷ t) (0 + marksCount s < 0 + marksCount t)
     by (inl e) = inl (ap (λ q. false ∷ q) e)
     by (inr l) = inr (omega arith)
 
-count-le : (s : List Bool) → count s ≤ length s
-unfolding count bit
+count-le : (s : List Bool) → marksCount s ≤ length s
+unfolding marksCount bit
 count-le [] = omega arith
 count-le (true ∷ s) = omega (arith, count-le s)
 count-le (false ∷ s) = omega (arith, count-le s)
 
-full-sub : (s t : List Bool) → length s ≡ length t → length t ≤ count t → Sub s t
-unfolding Sub count bit
+full-sub : (s t : List Bool) → length s ≡ length t → length t ≤ marksCount t → Sub s t
+unfolding Sub marksCount bit
 full-sub [] [] l h = tt
 full-sub [] (b ∷ t) l h = absurd (omega arith)
 full-sub (a ∷ s) [] l h = absurd (omega arith)
@@ -164,12 +161,12 @@ module _ (rs : List Record) where
   rounds-fixed zero have e = refl
   rounds-fixed (suc n) have e = ap (rounds n rs) (sym e) ∙ rounds-fixed n have e
 
-  settles : (n : ℕ) (have : List Bool) → Sub have (next rs have) → _⊎_ (Closed rs (rounds n rs have)) (n + count have ≤ count (rounds n rs have))
+  settles : (n : ℕ) (have : List Bool) → Sub have (next rs have) → _⊎_ (Closed rs (rounds n rs have)) (n + marksCount have ≤ marksCount (rounds n rs have))
   unfolding rounds
   settles zero have h = inr (omega arith)
   settles (suc n) have h = by (sub-count have (next rs have) h) (settles n (next rs have) (round-grows have (next rs have) h rs 0 rs))
     where
-      by : _⊎_ (have ≡ next rs have) (count have < count (next rs have)) → _⊎_ (Closed rs (rounds n rs (next rs have))) (n + count (next rs have) ≤ count (rounds n rs (next rs have))) → _⊎_ (Closed rs (rounds n rs (next rs have))) (suc n + count have ≤ count (rounds n rs (next rs have)))
+      by : _⊎_ (have ≡ next rs have) (marksCount have < marksCount (next rs have)) → _⊎_ (Closed rs (rounds n rs (next rs have))) (n + marksCount (next rs have) ≤ marksCount (rounds n rs (next rs have))) → _⊎_ (Closed rs (rounds n rs (next rs have))) (suc n + marksCount have ≤ marksCount (rounds n rs (next rs have)))
       by x (inl c) = inl c
       by (inl e) (inr l) =
           let q : rounds n rs (next rs have) ≡ have = ap (rounds n rs) (sym e) ∙ rounds-fixed n have e in
@@ -188,7 +185,7 @@ module _ (rs : List Record) where
       none-length zero = refl
       none-length (suc n) = ap suc (none-length n)
 
-      by : _⊎_ (Closed rs (rounds (length rs) rs (replicate (length rs) false))) (length rs + count (replicate (length rs) false) ≤ count (rounds (length rs) rs (replicate (length rs) false))) → Closed rs (rounds (length rs) rs (replicate (length rs) false))
+      by : _⊎_ (Closed rs (rounds (length rs) rs (replicate (length rs) false))) (length rs + marksCount (replicate (length rs) false) ≤ marksCount (rounds (length rs) rs (replicate (length rs) false))) → Closed rs (rounds (length rs) rs (replicate (length rs) false))
       by (inl c) = c
       by (inr l) =
           let f = rounds (length rs) rs (replicate (length rs) false) in

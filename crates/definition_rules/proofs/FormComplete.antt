@@ -135,8 +135,8 @@ close p m σ k i r e =
 -- ---- trees
 
 -- what reading x does on σ: x's declarations in front of what is read after it, on τ
-abbrev pub Reads : {s : FormSort} → Form s → Up → Bool → List Frame → ℕ → ℕ → List Frame → List TextToken → Type 0
-Reads x u e σ k i τ r = (j : ℕ) × (told (parseForms σ k i atStart (printForm x r)) ≡ mapOutcome (declare x u e k) (told (parseForms τ (k + countForm x) j atStart r)))
+abbrev pub ReadsForm : {s : FormSort} → Form s → Up → Bool → List Frame → ℕ → ℕ → List Frame → List TextToken → Type 0
+ReadsForm x u e σ k i τ r = (j : ℕ) × (told (parseForms σ k i atStart (printForm x r)) ≡ mapOutcome (declare x u e k) (told (parseForms τ (k + countForm x) j atStart r)))
 
 map-id : (o : Outcome (List Declaration)) → mapOutcome (λ r. r) o ≡ o
 unfolding mapOutcome
@@ -174,13 +174,13 @@ steady-same p groupsClosed σ h = absurd h
 
 -- one sort after another
 abbrev pub Param : Form parameter → Type 0
-Param x = (l : Level) (σ : List Frame) (k i : ℕ) (r : List TextToken) → StandsAt l σ → Allowed l x → Reads x (parentOf σ) (isUnderExtension σ) σ k i (fieldDone σ) r
+Param x = (l : Level) (σ : List Frame) (k i : ℕ) (r : List TextToken) → StandsAt l σ → Allowed l x → ReadsForm x (parentOf σ) (isUnderExtension σ) σ k i (fieldDone σ) r
 
 abbrev pub Fields : Form fields → Type 0
-Fields f = (p : ℕ) (m : BodyMode) (σ : List Frame) (k i : ℕ) (r : List TextToken) → Steady m → Allowed fieldLevel f → Reads f (under p) (isExtension m) (frame p m ∷ σ) k i (frame p m ∷ σ) r
+Fields f = (p : ℕ) (m : BodyMode) (σ : List Frame) (k i : ℕ) (r : List TextToken) → Steady m → Allowed fieldLevel f → ReadsForm f (under p) (isExtension m) (frame p m ∷ σ) k i (frame p m ∷ σ) r
 
 abbrev pub Groups : Form groups → Type 0
-Groups g = (p : ℕ) (m : BodyMode) (σ : List Frame) (k i : ℕ) (r : List TextToken) → takesClose m ≡ true → Allowed fieldLevel g → (n : BodyMode) × (takesClose n ≡ true) × Reads g (under p) true (frame p m ∷ σ) k i (frame p n ∷ σ) r
+Groups g = (p : ℕ) (m : BodyMode) (σ : List Frame) (k i : ℕ) (r : List TextToken) → takesClose m ≡ true → Allowed fieldLevel g → (n : BodyMode) × (takesClose n ≡ true) × ReadsForm g (under p) true (frame p m ∷ σ) k i (frame p n ∷ σ) r
 
 read-plain : (h : Heading) → Param (plain h)
 unfolding printForm declare countForm Allowed

@@ -44,8 +44,8 @@ After (frame p groupsClosed ∷ σ) n ts ds =
 
 -- ---- what can follow a heading: `;` or `{`
 
-unfoldable pub Ends : List Frame → ℕ → Heading → List TextToken → List Declaration → Type 0
-Ends σ n h ts ds =
+unfoldable pub HeadingEnds : List Frame → ℕ → Heading → List TextToken → List Declaration → Type 0
+HeadingEnds σ n h ts ds =
     (r : List TextToken) × (es : List Declaration) × (ds ≡ declaration (parentOf σ) (isUnderExtension σ) h ∷ es)
     × _⊎_ ((mark 59 ∷ r ≡ ts) × (isCompound (typeRun h) ≡ false) × After (fieldDone σ) (suc n) r es)
     ((mark 123 ∷ r ≡ ts) × (isCompound (typeRun h) ≡ true) × After (frame n inFields ∷ fieldDone σ) (suc n) r es)
@@ -70,27 +70,27 @@ unfoldable pub Bare : List Frame → MaybeRun → Tag → Bool → Type 0
 Bare [] c t p = (c ≡ absent) × (t ≡ ownName) × (p ≡ false)
 Bare (f ∷ σ) c t p = Unit {0}
 
-unfoldable pub Tail : Stage → List Frame → ℕ → Heading → List TextToken → List Declaration → Type 0
-Tail afterName σ n h ts ds =
+unfoldable pub HeadingTail : Stage → List Frame → ℕ → Heading → List TextToken → List Declaration → Type 0
+HeadingTail afterName σ n h ts ds =
     (c : MaybeRun) × (t : Tag) × (p : Bool) × (us : List TextToken) × Bare σ c t p
-    × (putCard c (putTag t (putPlugin p us)) ≡ ts) × Ends σ n (pluginOn p (tagOn t (cardOn c h))) us ds
-Tail afterCard σ n h ts ds =
+    × (putCard c (putTag t (putPlugin p us)) ≡ ts) × HeadingEnds σ n (pluginOn p (tagOn t (cardOn c h))) us ds
+HeadingTail afterCard σ n h ts ds =
     (t : Tag) × (p : Bool) × (us : List TextToken) × Bare σ absent t p
-    × (putTag t (putPlugin p us) ≡ ts) × Ends σ n (pluginOn p (tagOn t h)) us ds
-Tail afterTag σ n h ts ds = (p : Bool) × (us : List TextToken) × Bare σ absent ownName p × (putPlugin p us ≡ ts) × Ends σ n (pluginOn p h) us ds
-Tail afterPlugin σ n h ts ds = Ends σ n h ts ds
+    × (putTag t (putPlugin p us) ≡ ts) × HeadingEnds σ n (pluginOn p (tagOn t h)) us ds
+HeadingTail afterTag σ n h ts ds = (p : Bool) × (us : List TextToken) × Bare σ absent ownName p × (putPlugin p us ≡ ts) × HeadingEnds σ n (pluginOn p h) us ds
+HeadingTail afterPlugin σ n h ts ds = HeadingEnds σ n h ts ds
 
 unfoldable pub Rest : List Frame → ℕ → Phase → List TextToken → List Declaration → Type 0
 Rest σ n atStart ts ds = After σ n ts ds
 Rest σ n dueSemicolon ts ds = (r : List TextToken) × (mark 59 ∷ r ≡ ts) × After σ n r ds
-Rest σ n (afterType y w) ts ds = (g : MaybeRun) × (v : List ℕ) × (us : List TextToken) × RangeAllowed w g × (putRange g (run v ∷ us) ≡ ts) × Tail afterName σ n (heading w g v absent ownName false) us ds
-Rest σ n (dueRange y w) ts ds = (u : List ℕ) × (v : List ℕ) × (us : List TextToken) × (run u ∷ mark 62 ∷ run v ∷ us ≡ ts) × Tail afterName σ n (heading w (given u) v absent ownName false) us ds
-Rest σ n (dueRangeEnd y g w u) ts ds = (v : List ℕ) × (us : List TextToken) × (mark 62 ∷ run v ∷ us ≡ ts) × Tail afterName σ n (heading w (given u) v absent ownName false) us ds
-Rest σ n (dueName y g w x) ts ds = (v : List ℕ) × (us : List TextToken) × (run v ∷ us ≡ ts) × Tail afterName σ n (heading w x v absent ownName false) us ds
-Rest σ n (inHeading l s h) ts ds = Tail l σ n h ts ds
-Rest σ n (dueCard s h) ts ds = (v : List ℕ) × (us : List TextToken) × (run v ∷ mark 93 ∷ us ≡ ts) × Tail afterCard σ n (withCard v h) us ds
-Rest σ n (dueTag s h) ts ds = _⊎_ ((v : List ℕ) × (us : List TextToken) × (run v ∷ us ≡ ts) × Tail afterTag σ n (withTag (explicit v) h) us ds) ((us : List TextToken) × (mark 63 ∷ us ≡ ts) × Tail afterTag σ n (withTag tagless h) us ds)
-Rest σ n (dueCardEnd s h) ts ds = (us : List TextToken) × (mark 93 ∷ us ≡ ts) × Tail afterCard σ n h us ds
+Rest σ n (afterType y w) ts ds = (g : MaybeRun) × (v : List ℕ) × (us : List TextToken) × RangeAllowed w g × (putRange g (run v ∷ us) ≡ ts) × HeadingTail afterName σ n (heading w g v absent ownName false) us ds
+Rest σ n (dueRange y w) ts ds = (u : List ℕ) × (v : List ℕ) × (us : List TextToken) × (run u ∷ mark 62 ∷ run v ∷ us ≡ ts) × HeadingTail afterName σ n (heading w (given u) v absent ownName false) us ds
+Rest σ n (dueRangeEnd y g w u) ts ds = (v : List ℕ) × (us : List TextToken) × (mark 62 ∷ run v ∷ us ≡ ts) × HeadingTail afterName σ n (heading w (given u) v absent ownName false) us ds
+Rest σ n (dueName y g w x) ts ds = (v : List ℕ) × (us : List TextToken) × (run v ∷ us ≡ ts) × HeadingTail afterName σ n (heading w x v absent ownName false) us ds
+Rest σ n (inHeading l s h) ts ds = HeadingTail l σ n h ts ds
+Rest σ n (dueCard s h) ts ds = (v : List ℕ) × (us : List TextToken) × (run v ∷ mark 93 ∷ us ≡ ts) × HeadingTail afterCard σ n (withCard v h) us ds
+Rest σ n (dueTag s h) ts ds = _⊎_ ((v : List ℕ) × (us : List TextToken) × (run v ∷ us ≡ ts) × HeadingTail afterTag σ n (withTag (explicit v) h) us ds) ((us : List TextToken) × (mark 63 ∷ us ≡ ts) × HeadingTail afterTag σ n (withTag tagless h) us ds)
+Rest σ n (dueCardEnd s h) ts ds = (us : List TextToken) × (mark 93 ∷ us ≡ ts) × HeadingTail afterCard σ n h us ds
 
 -- ---- a parameter in front
 
@@ -167,26 +167,26 @@ whole w g n (given u) (explicit v) false = refl
 whole w g n (given u) (explicit v) true = refl
 
 -- a type run that may start a parameter
-unfoldable pub Begins : List Frame → List ℕ → Type 0
-Begins [] w = isReference w ≡ false
-Begins (frame p m ∷ σ) w = takesField m ≡ true
+unfoldable pub TypeBegins : List Frame → List ℕ → Type 0
+TypeBegins [] w = isReference w ≡ false
+TypeBegins (frame p m ∷ σ) w = takesField m ≡ true
 
 level : List Frame → Level
 level [] = topLevel
 level (f ∷ σ) = fieldLevel
 
-head-allowed : (σ : List Frame) (w : List ℕ) (g : MaybeRun) (v : List ℕ) (c : MaybeRun) (t : Tag) (p : Bool) → Begins σ w → RangeAllowed w g → Bare σ c t p → HeadAllowed (level σ) (heading w g v c t p)
-unfolding Begins Bare HeadAllowed level
+head-allowed : (σ : List Frame) (w : List ℕ) (g : MaybeRun) (v : List ℕ) (c : MaybeRun) (t : Tag) (p : Bool) → TypeBegins σ w → RangeAllowed w g → Bare σ c t p → HeadAllowed (level σ) (heading w g v c t p)
+unfolding TypeBegins Bare HeadAllowed level
 head-allowed [] w g v c t p b r e = (b, r, e .0, e .1, e .2)
 head-allowed (frame q m ∷ σ) w g v c t p b r e = r
 
-stands : (σ : List Frame) (w : List ℕ) (x : Form parameter) → Begins σ w → Allowed (level σ) x → Stands σ x
-unfolding Begins Stands level
+stands : (σ : List Frame) (w : List ℕ) (x : Form parameter) → TypeBegins σ w → Allowed (level σ) x → Stands σ x
+unfolding TypeBegins Stands level
 stands [] w x b a = a
 stands (frame q m ∷ σ) w x b a = (b, a)
 
-parameter-front : (σ : List Frame) (n : ℕ) (w : List ℕ) (h : Heading) (us : List TextToken) (ds : List Declaration) → Begins σ w → HeadAllowed (level σ) h → Ends σ n h us ds → After σ n (putHead h us) ds
-unfolding Ends
+parameter-front : (σ : List Frame) (n : ℕ) (w : List ℕ) (h : Heading) (us : List TextToken) (ds : List Declaration) → TypeBegins σ w → HeadAllowed (level σ) h → HeadingEnds σ n h us ds → After σ n (putHead h us) ds
+unfolding HeadingEnds
 parameter-front σ n w h us ds b a e = by (e .3)
   where
     by : _⊎_ ((mark 59 ∷ e .0 ≡ us) × (isCompound (typeRun h) ≡ false) × After (fieldDone σ) (suc n) (e .0) (e .1)) ((mark 123 ∷ e .0 ≡ us) × (isCompound (typeRun h) ≡ true) × After (frame n inFields ∷ fieldDone σ) (suc n) (e .0) (e .1)) → After σ n (putHead h us) ds
@@ -205,13 +205,13 @@ parameter-front σ n w h us ds b a e = by (e .3)
             after-as σ n _ _ _ _ (ap (λ q. putHead h (mark 123 ∷ q)) (y .7) ∙ ap (putHead h) (z .0)) (ap (λ q. declaration (parentOf σ) (isUnderExtension σ) h ∷ q) (y .8) ∙ sym (e .2))
             (unfold printForm declare countForm Allowed in (in-front σ n (y .6) (compound h (y .0) (y .1)) (y .4) (y .5) (stands σ w (compound h (y .0) (y .1)) b (a, z .1, y .2, y .3)) (omega (arith, y .9)) (y .10)))
 
-begin : (σ : List Frame) (n y : ℕ) (w : List ℕ) (xs : List TextToken) (ds : List Declaration) → Begins σ w → Rest σ n (afterType y w) xs ds → After σ n (run w ∷ xs) ds
-unfolding Rest Tail putHead
+begin : (σ : List Frame) (n y : ℕ) (w : List ℕ) (xs : List TextToken) (ds : List Declaration) → TypeBegins σ w → Rest σ n (afterType y w) xs ds → After σ n (run w ∷ xs) ds
+unfolding Rest HeadingTail putHead
 begin σ n y w xs ds b z =
     let t = z .5 in
     let h = heading w (z .0) (z .1) (t .0) (t .1) (t .2) in
     after-as σ n _ _ ds ds (ap (λ q. run w ∷ putRange (z .0) (run (z .1) ∷ q)) (t .5) ∙ ap (λ q. run w ∷ q) (z .4)) refl
-    (parameter-front σ n w h (t .3) ds b (head-allowed σ w (z .0) (z .1) (t .0) (t .1) (t .2) b (z .3) (t .4)) (subst (λ q. Ends σ n q (t .3) ds) (whole w (z .0) (z .1) (t .0) (t .1) (t .2)) (t .6)))
+    (parameter-front σ n w h (t .3) ds b (head-allowed σ w (z .0) (z .1) (t .0) (t .1) (t .2) b (z .3) (t .4)) (subst (λ q. HeadingEnds σ n q (t .3) ds) (whole w (z .0) (z .1) (t .0) (t .1) (t .2)) (t .6)))
 
 -- ---- each step backwards
 
@@ -244,40 +244,40 @@ is-mark : (m n : ℕ) (r : List TextToken) → eqb n m ≡ true → mark m ∷ r
 is-mark m n r e = ap (λ q. mark q ∷ r) (sym (eqb-true n m e))
 
 -- the end of a heading
-end-back : (σ : List Frame) (n : ℕ) (s : Spots) (h : Heading) (m : ℕ) (p : Phase) (xs : List TextToken) → ((ds : List Declaration) → Ends σ n h (mark m ∷ xs) ds → Rest σ n p (mark m ∷ xs) ds) → Back σ n p (mark m) xs (headingEnd σ n s h m)
+end-back : (σ : List Frame) (n : ℕ) (s : Spots) (h : Heading) (m : ℕ) (p : Phase) (xs : List TextToken) → ((ds : List Declaration) → HeadingEnds σ n h (mark m ∷ xs) ds → Rest σ n p (mark m ∷ xs) ds) → Back σ n p (mark m) xs (headingEnd σ n s h m)
 unfolding headingEnd Back Rest
 end-back σ n s h m p xs f =
     pick-back σ n p (mark m) xs (eqb m 59) _ _
-    (λ e. allow-back σ n p (mark m) xs (not (isCompound (typeRun h))) _ (λ c ds a. f _ (unfold Ends in (xs, ds, refl, inl (is-mark 59 m xs e, not-true (isCompound (typeRun h)) c, a)))))
-    (allow-back σ n p (mark m) xs (eqb m 123 && isCompound (typeRun h)) _ (λ c ds a. let y = both-true (eqb m 123) (isCompound (typeRun h)) c in f _ (unfold Ends in (xs, ds, refl, inr (is-mark 123 m xs (y .0), y .1, a)))))
+    (λ e. allow-back σ n p (mark m) xs (not (isCompound (typeRun h))) _ (λ c ds a. f _ (unfold HeadingEnds in (xs, ds, refl, inl (is-mark 59 m xs e, not-true (isCompound (typeRun h)) c, a)))))
+    (allow-back σ n p (mark m) xs (eqb m 123 && isCompound (typeRun h)) _ (λ c ds a. let y = both-true (eqb m 123) (isCompound (typeRun h)) c in f _ (unfold HeadingEnds in (xs, ds, refl, inr (is-mark 123 m xs (y .0), y .1, a)))))
 
 -- an end from each stage
-ends-tail : (l : Stage) (σ : List Frame) (n : ℕ) (h : Heading) (ts : List TextToken) (ds : List Declaration) → Ends σ n h ts ds → Tail l σ n h ts ds
-unfolding Tail putCard putTag putPlugin pluginOn tagOn cardOn
+ends-tail : (l : Stage) (σ : List Frame) (n : ℕ) (h : Heading) (ts : List TextToken) (ds : List Declaration) → HeadingEnds σ n h ts ds → HeadingTail l σ n h ts ds
+unfolding HeadingTail putCard putTag putPlugin pluginOn tagOn cardOn
 ends-tail afterName σ n h ts ds e = (absent, ownName, false, ts, bare σ, refl, e)
 ends-tail afterCard σ n h ts ds e = (ownName, false, ts, bare σ, refl, e)
 ends-tail afterTag σ n h ts ds e = (false, ts, bare σ, refl, e)
 ends-tail afterPlugin σ n h ts ds e = e
 
 module _ (σ : List Frame) (n : ℕ) (s : Spots) (h : Heading) (w : List ℕ) (xs : List TextToken) where
-  plugin-back : (l : Stage) → ((ds : List Declaration) → isInBody σ ≡ true → run kwPlugin ∷ xs ≡ run w ∷ xs → Ends σ n (withPlugin h) xs ds → Tail l σ n h (run w ∷ xs) ds) → Back σ n (inHeading l s h) (run w) xs (allow (sameBytes w kwPlugin && isInBody σ) (move σ (inHeading afterPlugin s (withPlugin h))))
-  plugin-back l f = allow-back σ n (inHeading l s h) (run w) xs (sameBytes w kwPlugin && isInBody σ) _ (λ e. unfold Back Rest in (λ ds z. let y = both-true (sameBytes w kwPlugin) (isInBody σ) e in f ds (y .1) (ap (λ q. run q ∷ xs) (sym (same-true w kwPlugin (y .0)))) (unfold Tail in z)))
+  plugin-back : (l : Stage) → ((ds : List Declaration) → isInBody σ ≡ true → run kwPlugin ∷ xs ≡ run w ∷ xs → HeadingEnds σ n (withPlugin h) xs ds → HeadingTail l σ n h (run w ∷ xs) ds) → Back σ n (inHeading l s h) (run w) xs (allow (sameBytes w kwPlugin && isInBody σ) (move σ (inHeading afterPlugin s (withPlugin h))))
+  plugin-back l f = allow-back σ n (inHeading l s h) (run w) xs (sameBytes w kwPlugin && isInBody σ) _ (λ e. unfold Back Rest in (λ ds z. let y = both-true (sameBytes w kwPlugin) (isInBody σ) e in f ds (y .1) (ap (λ q. run q ∷ xs) (sym (same-true w kwPlugin (y .0)))) (unfold HeadingTail in z)))
 
-  as-back : (l : Stage) → ((t : Tag) (p : Bool) (us : List TextToken) (ds : List Declaration) → isInBody σ ≡ true → putTag t (putPlugin p us) ≡ run w ∷ xs → Ends σ n (pluginOn p (tagOn t h)) us ds → Tail l σ n h (run w ∷ xs) ds) → sameBytes w kwAs ≡ true → Back σ n (inHeading l s h) (run w) xs (allow (isInBody σ) (move σ (dueTag s h)))
+  as-back : (l : Stage) → ((t : Tag) (p : Bool) (us : List TextToken) (ds : List Declaration) → isInBody σ ≡ true → putTag t (putPlugin p us) ≡ run w ∷ xs → HeadingEnds σ n (pluginOn p (tagOn t h)) us ds → HeadingTail l σ n h (run w ∷ xs) ds) → sameBytes w kwAs ≡ true → Back σ n (inHeading l s h) (run w) xs (allow (isInBody σ) (move σ (dueTag s h)))
   as-back l f e = allow-back σ n (inHeading l s h) (run w) xs (isInBody σ) _ (λ b. unfold Back Rest in (λ ds z. by ds b z))
     where
-      by : (ds : List Declaration) → isInBody σ ≡ true → _⊎_ ((v : List ℕ) × (us : List TextToken) × (run v ∷ us ≡ xs) × Tail afterTag σ n (withTag (explicit v) h) us ds) ((us : List TextToken) × (mark 63 ∷ us ≡ xs) × Tail afterTag σ n (withTag tagless h) us ds) → Tail l σ n h (run w ∷ xs) ds
-      by ds b (inl z) = go (unfold Tail in (z .3))
+      by : (ds : List Declaration) → isInBody σ ≡ true → _⊎_ ((v : List ℕ) × (us : List TextToken) × (run v ∷ us ≡ xs) × HeadingTail afterTag σ n (withTag (explicit v) h) us ds) ((us : List TextToken) × (mark 63 ∷ us ≡ xs) × HeadingTail afterTag σ n (withTag tagless h) us ds) → HeadingTail l σ n h (run w ∷ xs) ds
+      by ds b (inl z) = go (unfold HeadingTail in (z .3))
         where
-          go : (p : Bool) × (us : List TextToken) × Bare σ absent ownName p × (putPlugin p us ≡ z .1) × Ends σ n (pluginOn p (withTag (explicit (z .0)) h)) us ds → Tail l σ n h (run w ∷ xs) ds
+          go : (p : Bool) × (us : List TextToken) × Bare σ absent ownName p × (putPlugin p us ≡ z .1) × HeadingEnds σ n (pluginOn p (withTag (explicit (z .0)) h)) us ds → HeadingTail l σ n h (run w ∷ xs) ds
           go y = f (explicit (z .0)) (y .0) (y .1) ds b (unfold putTag in (ap (λ q. run kwAs ∷ run (z .0) ∷ q) (y .3) ∙ (ap (λ q. run kwAs ∷ q) (z .2) ∙ ap (λ q. run q ∷ xs) (sym (same-true w kwAs e))))) (unfold tagOn in (y .4))
-      by ds b (inr z) = go (unfold Tail in (z .2))
+      by ds b (inr z) = go (unfold HeadingTail in (z .2))
         where
-          go : (p : Bool) × (us : List TextToken) × Bare σ absent ownName p × (putPlugin p us ≡ z .0) × Ends σ n (pluginOn p (withTag tagless h)) us ds → Tail l σ n h (run w ∷ xs) ds
+          go : (p : Bool) × (us : List TextToken) × Bare σ absent ownName p × (putPlugin p us ≡ z .0) × HeadingEnds σ n (pluginOn p (withTag tagless h)) us ds → HeadingTail l σ n h (run w ∷ xs) ds
           go y = f tagless (y .0) (y .1) ds b (unfold putTag in (ap (λ q. run kwAs ∷ mark 63 ∷ q) (y .3) ∙ (ap (λ q. run kwAs ∷ q) (z .1) ∙ ap (λ q. run q ∷ xs) (sym (same-true w kwAs e))))) (unfold tagOn in (y .4))
 
   run-back : (l : Stage) → Back σ n (inHeading l s h) (run w) xs (headingRun σ l s h w)
-  unfolding headingRun Tail putCard putTag putPlugin pluginOn tagOn cardOn
+  unfolding headingRun HeadingTail putCard putTag putPlugin pluginOn tagOn cardOn
   run-back afterName = pick-back σ n (inHeading afterName s h) (run w) xs (sameBytes w kwAs) _ _
       (as-back afterName (λ t p us ds b e z. (absent, t, p, us, in-body σ absent t p b, e, z)))
       (plugin-back afterName (λ ds b e z. (absent, ownName, true, xs, in-body σ absent ownName true b, e, z)))
@@ -290,7 +290,7 @@ module _ (σ : List Frame) (n : ℕ) (s : Spots) (h : Heading) (w : List ℕ) (x
 mark-back : (σ : List Frame) (n : ℕ) (s : Spots) (h : Heading) (m : ℕ) (xs : List TextToken) (l : Stage) → Back σ n (inHeading l s h) (mark m) xs (headingMark σ l n s h m)
 unfolding headingMark
 mark-back σ n s h m xs afterName = pick-back σ n (inHeading afterName s h) (mark m) xs (eqb m 91) _ _
-    (λ e. allow-back σ n (inHeading afterName s h) (mark m) xs (isInBody σ) (move σ (dueCard s h)) (λ b. unfold Back Rest Tail in (λ ds z. let t = z .3 in (given (z .0), t .0, t .1, t .2, in-body σ (given (z .0)) (t .0) (t .1) b, unfold putCard in (ap (λ q. mark 91 ∷ run (z .0) ∷ mark 93 ∷ q) (t .4) ∙ (ap (λ q. mark 91 ∷ q) (z .2) ∙ is-mark 91 m xs e)), unfold cardOn in (t .5)))))
+    (λ e. allow-back σ n (inHeading afterName s h) (mark m) xs (isInBody σ) (move σ (dueCard s h)) (λ b. unfold Back Rest HeadingTail in (λ ds z. let t = z .3 in (given (z .0), t .0, t .1, t .2, in-body σ (given (z .0)) (t .0) (t .1) b, unfold putCard in (ap (λ q. mark 91 ∷ run (z .0) ∷ mark 93 ∷ q) (t .4) ∙ (ap (λ q. mark 91 ∷ q) (z .2) ∙ is-mark 91 m xs e)), unfold cardOn in (t .5)))))
     (end-back σ n s h m (inHeading afterName s h) xs (λ ds z. unfold Rest in (ends-tail afterName σ n h (mark m ∷ xs) ds z)))
 mark-back σ n s h m xs afterCard = end-back σ n s h m (inHeading afterCard s h) xs (λ ds z. unfold Rest in (ends-tail afterCard σ n h (mark m ∷ xs) ds z))
 mark-back σ n s h m xs afterTag = end-back σ n s h m (inHeading afterTag s h) xs (λ ds z. unfold Rest in (ends-tail afterTag σ n h (mark m ∷ xs) ds z))
@@ -330,8 +330,8 @@ start-mark-back (frame p b ∷ σ) n m xs =
 
 start-run-back : (σ : List Frame) (n i : ℕ) (w : List ℕ) (xs : List TextToken) → Back σ n atStart (run w) xs (startRun σ i w)
 unfolding startRun
-start-run-back [] n i w xs = allow-back [] n atStart (run w) xs (not (isReference w)) _ (λ e. unfold Back in (λ ds z. unfold Rest in (begin [] n i w xs ds (unfold Begins in (not-true (isReference w) e)) z)))
-start-run-back (frame p m ∷ σ) n i w xs = allow-back (frame p m ∷ σ) n atStart (run w) xs (takesField m) _ (λ e. unfold Back in (λ ds z. unfold Rest in (begin (frame p m ∷ σ) n i w xs ds (unfold Begins in e) z)))
+start-run-back [] n i w xs = allow-back [] n atStart (run w) xs (not (isReference w)) _ (λ e. unfold Back in (λ ds z. unfold Rest in (begin [] n i w xs ds (unfold TypeBegins in (not-true (isReference w) e)) z)))
+start-run-back (frame p m ∷ σ) n i w xs = allow-back (frame p m ∷ σ) n atStart (run w) xs (takesField m) _ (λ e. unfold Back in (λ ds z. unfold Rest in (begin (frame p m ∷ σ) n i w xs ds (unfold TypeBegins in e) z)))
 
 step-back : (σ : List Frame) (n i : ℕ) (p : Phase) (x : TextToken) (xs : List TextToken) → Back σ n p x xs (step σ n i p x)
 unfolding step

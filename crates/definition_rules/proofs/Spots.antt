@@ -5,32 +5,13 @@ use mathlib.Core.List.{List, [], _∷_}
 use Prim.Native.Nat.{ℕ, suc, _+_, _<_}
 use native.Mathlib.Omega.{arith}
 use lib.Dec.{eqb}
-use lib.ListN.{length, getD}
+use lib.ListN.{length}
 use Rattle.classes.specs.Lists.{pick, All}
 use Rattle.definition_rules.specs.Scan.{TextToken, run, mark}
 use Rattle.definition_rules.specs.Forms.{MaybeRun, absent, given, Tag, ownName, tagless, explicit, Heading, heading, tagOf}
 use Rattle.definition_rules.specs.Declarations.{declaration, Spots, spotsOf, cardSpot, tagSpot, Noted, noted, inFields, groupOpened, groupsClosed, Frame, frame, Stage, afterName, afterCard, afterTag, afterPlugin, Phase, atStart, dueSemicolon, afterType, dueRange, dueRangeEnd, dueName, inHeading, dueCard, dueTag, dueCardEnd, Action, stop, move, note, allow, withCard, withTag, withPlugin, fieldDone, parentOf, isUnderExtension, startRun, startMark, headingEnd, headingRun, headingMark, step, Outcome, stuckAt, complete, mapOutcome, endIf, atEnd, parseForms, parseTokens}
+use Rattle.definition_rules.specs.Spots.{tokenAt, RunThere, TagThere, HeadingThere, NotedThere}
 use Rattle.definition_rules.specs.Faults.{nameSpots}
-
--- the i-th token
-abbrev pub tokenAt : List TextToken → ℕ → TextToken
-tokenAt ts i = getD ts i (mark 0)
-
-unfoldable pub RunThere : List TextToken → MaybeRun → ℕ → Type 0
-RunThere ts absent i = Unit {0}
-RunThere ts (given v) i = tokenAt ts i ≡ run v
-
--- "the later name or tag": without a tag run the spot is the name's
-unfoldable pub TagThere : List TextToken → List ℕ → Tag → ℕ → Type 0
-TagThere ts n ownName i = tokenAt ts i ≡ run n
-TagThere ts n tagless i = tokenAt ts i ≡ run n
-TagThere ts n (explicit v) i = tokenAt ts i ≡ run v
-
-unfoldable pub HeadingThere : List TextToken → Spots → Heading → Type 0
-HeadingThere ts s (heading w g n c t p) = (tokenAt ts (s .typeAt) ≡ run w) × RunThere ts g (s .rangeAt) × (tokenAt ts (s .nameAt) ≡ run n) × RunThere ts c (s .cardAt) × TagThere ts n t (s .tagAt)
-
-unfoldable pub NotedThere : List TextToken → Noted → Type 0
-NotedThere ts (noted s (declaration u e h)) = HeadingThere ts s h
 
 -- before a tag is read the heading has its own name as tag
 abbrev OwnThere : List TextToken → Spots → Heading → Type 0

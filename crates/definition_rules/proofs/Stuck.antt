@@ -136,7 +136,7 @@ pub record Reached (σ : List Frame) (k i : ℕ) (p : Phase) (ps : List TextToke
   pub goes : (ts : List TextToken) → parseForms σ k i p (ps ++ ts) ≡ mapOutcome before (parseForms stack count (i + length ps) phase ts)
 
 -- or it stops inside
-pub record Halted (σ : List Frame) (k i : ℕ) (p : Phase) (ps : List TextToken) : Type 0 where
+pub record HaltsInside (σ : List Frame) (k i : ℕ) (p : Phase) (ps : List TextToken) : Type 0 where
   pub at : ℕ
   pub inside : at < i + length ps
   pub halts : (ts : List TextToken) → parseForms σ k i p (ps ++ ts) ≡ stuckAt at
@@ -154,26 +154,26 @@ map-twice f g (complete a) = refl
 at-number : (σ : List Frame) (k i j : ℕ) (p : Phase) (ts : List TextToken) → i ≡ j → parseForms σ k i p ts ≡ parseForms σ k j p ts
 at-number σ k i j p ts e = rw e
 
-abbrev Over : List TextToken → Type 0
-Over ps = (σ : List Frame) (k i : ℕ) (p : Phase) → _⊎_ (Halted σ k i p ps) (Reached σ k i p ps)
+abbrev HaltsOrReaches : List TextToken → Type 0
+HaltsOrReaches ps = (σ : List Frame) (k i : ℕ) (p : Phase) → _⊎_ (HaltsInside σ k i p ps) (Reached σ k i p ps)
 
-over-step : (x : TextToken) (ps : List TextToken) → Over ps → Over (x ∷ ps)
+over-step : (x : TextToken) (ps : List TextToken) → HaltsOrReaches ps → HaltsOrReaches (x ∷ ps)
 over-step x ps f σ k i p = by (step σ k i p x) refl
   where
-    by : (a : Action) → step σ k i p x ≡ a → _⊎_ (Halted σ k i p (x ∷ ps)) (Reached σ k i p (x ∷ ps))
+    by : (a : Action) → step σ k i p x ≡ a → _⊎_ (HaltsInside σ k i p (x ∷ ps)) (Reached σ k i p (x ∷ ps))
     by stop e = inl (record { at = i; inside = omega arith; halts = λ ts. parse-stop σ k i p x (ps ++ ts) e })
     by (move τ q) e = go (f τ k (suc i) q)
       where
-        go : _⊎_ (Halted τ k (suc i) q ps) (Reached τ k (suc i) q ps) → _⊎_ (Halted σ k i p (x ∷ ps)) (Reached σ k i p (x ∷ ps))
+        go : _⊎_ (HaltsInside τ k (suc i) q ps) (Reached τ k (suc i) q ps) → _⊎_ (HaltsInside σ k i p (x ∷ ps)) (Reached σ k i p (x ∷ ps))
         go (inl h) = inl (record { at = h .at; inside = omega (arith, h .inside); halts = λ ts. parse-move σ τ k i p q x (ps ++ ts) e ∙ h .halts ts })
         go (inr r) = inr (record { stack = r .stack; count = r .count; phase = r .phase; before = r .before; goes = λ ts. parse-move σ τ k i p q x (ps ++ ts) e ∙ (r .goes ts ∙ ap (mapOutcome (r .before)) (at-number (r .stack) (r .count) (suc i + length ps) (i + suc (length ps)) (r .phase) ts (omega arith))) })
     by (note d τ q) e = go (f τ (suc k) (suc i) q)
       where
-        go : _⊎_ (Halted τ (suc k) (suc i) q ps) (Reached τ (suc k) (suc i) q ps) → _⊎_ (Halted σ k i p (x ∷ ps)) (Reached σ k i p (x ∷ ps))
+        go : _⊎_ (HaltsInside τ (suc k) (suc i) q ps) (Reached τ (suc k) (suc i) q ps) → _⊎_ (HaltsInside σ k i p (x ∷ ps)) (Reached σ k i p (x ∷ ps))
         go (inl h) = inl (record { at = h .at; inside = omega (arith, h .inside); halts = λ ts. parse-note σ τ k i p q x (ps ++ ts) d e ∙ (ap (mapOutcome (λ r. d ∷ r)) (h .halts ts) ∙ map-stuck (λ r. d ∷ r) (h .at)) })
         go (inr r) = inr (record { stack = r .stack; count = r .count; phase = r .phase; before = λ l. d ∷ r .before l; goes = λ ts. parse-note σ τ k i p q x (ps ++ ts) d e ∙ (ap (mapOutcome (λ r. d ∷ r)) (r .goes ts ∙ ap (mapOutcome (r .before)) (at-number (r .stack) (r .count) (suc i + length ps) (i + suc (length ps)) (r .phase) ts (omega arith))) ∙ map-twice (λ l. d ∷ l) (r .before) _) })
 
-over : (ps : List TextToken) → Over ps
+over : (ps : List TextToken) → HaltsOrReaches ps
 over [] σ k i p = inr (record { stack = σ; count = k; phase = p; before = λ r. r; goes = λ ts. at-number σ k i (i + 0) p ts (omega arith) ∙ sym (map-same _) })
 over (x ∷ ps) σ k i p = over-step x ps (over ps) σ k i p
 
@@ -190,7 +190,7 @@ reached-viable ps r =
 viable-reached : {X : Type 0} (ps : List TextToken) → Viable ps → (Start ps → X) → X
 viable-reached {X} ps v k = by (over ps [] 0 0 atStart)
   where
-    by : _⊎_ (Halted [] 0 0 atStart ps) (Start ps) → X
+    by : _⊎_ (HaltsInside [] 0 0 atStart ps) (Start ps) → X
     by (inl h) = let f = fits-complete (ps ++ v .0) (v .1) in stuck-complete (sym (h .halts (v .0)) ∙ f .1)
     by (inr r) = k r
 
@@ -225,7 +225,7 @@ fate-on ps t ts (passes r) = passes (subst Start (append-assoc ps (t ∷ []) ts)
 one-more : (ps : List TextToken) (t : TextToken) (r : Start ps) (a : Action) → step (r .stack) (r .count) (0 + length ps) (r .phase) t ≡ a → (a ≡ stop → ⊥) → Start (ps ++ (t ∷ []))
 one-more ps t r a e n = by (over (ps ++ (t ∷ [])) [] 0 0 atStart)
   where
-    by : _⊎_ (Halted [] 0 0 atStart (ps ++ (t ∷ []))) (Start (ps ++ (t ∷ []))) → Start (ps ++ (t ∷ []))
+    by : _⊎_ (HaltsInside [] 0 0 atStart (ps ++ (t ∷ []))) (Start (ps ++ (t ∷ []))) → Start (ps ++ (t ∷ []))
     by (inr s) = s
     by (inl h) = absurd (go a e n)
       where

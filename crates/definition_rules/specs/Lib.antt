@@ -4,6 +4,7 @@ pub mod Scan
 pub mod Cut
 pub mod Forms
 pub mod Declarations
+pub mod Spots
 -- The compiled table
 pub mod Records
 pub mod Table

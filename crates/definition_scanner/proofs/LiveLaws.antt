@@ -43,12 +43,12 @@ deep-live d (item p (mark n) ∷ r) = ap (placeIf (isDeepBrace d n) p) (deep-liv
 
 -- ---- places only rise
 
-unfoldable Holds : ℕ → ScanState → Type 0
-Holds k outside = Unit {0}
-Holds k lineComment = Unit {0}
-Holds k (opening q) = k ≤ q
-Holds k (comment q) = k ≤ q
-Holds k (star q) = k ≤ q
+unfoldable OpensFrom : ℕ → ScanState → Type 0
+OpensFrom k outside = Unit {0}
+OpensFrom k lineComment = Unit {0}
+OpensFrom k (opening q) = k ≤ q
+OpensFrom k (comment q) = k ≤ q
+OpensFrom k (star q) = k ≤ q
 
 ahead-join : (k b p : ℕ) (is : List Item) → k ≤ p → Ahead k is → Ahead k (joinRun b p is)
 unfolding joinRun Ahead
@@ -63,12 +63,12 @@ unfolding pick
 ahead-pick k true x y a b = a
 ahead-pick k false x y a b = b
 
-ahead : (k : ℕ) (st : ScanState) (p : ℕ) (s : List ℕ) → k ≤ p → Holds k st → Ahead k (scan st p s)
-unfolding scan Ahead Holds
+ahead : (k : ℕ) (st : ScanState) (p : ℕ) (s : List ℕ) → k ≤ p → OpensFrom k st → Ahead k (scan st p s)
+unfolding scan Ahead OpensFrom
 ahead k outside p [] h c = tt
 ahead k outside p (b ∷ s) h c = by (classOf b) refl (λ st g. ahead k st (suc p) s (omega arith) g)
   where
-    by : (x : ByteClass) → classOf b ≡ x → ((st : ScanState) → Holds k st → Ahead k (scan st (suc p) s)) → Ahead k (scan outside p (b ∷ s))
+    by : (x : ByteClass) → classOf b ≡ x → ((st : ScanState) → OpensFrom k st → Ahead k (scan st (suc p) s)) → Ahead k (scan outside p (b ∷ s))
     by inRun e f = rw (at-run b p s e) (ahead-join k b p (scan outside (suc p) s) h (f outside tt))
     by blank e f = rw (at-blank b p s e) (f outside tt)
     by single e f = rw (at-single b p s e) (h, f outside tt)
@@ -92,7 +92,7 @@ ahead-live k (item p t ∷ r) a = (a .0, ahead-live k r (a .1))
 
 -- "items of a scan from p have places ≥ p"
 pub live-ahead : (k : ℕ) (text : List ℕ) (at : ℕ) → k ≤ at → Ahead k (liveFrom text at)
-live-ahead k text at h = ahead-live k (scan outside at (drop at text)) (ahead k outside at (drop at text) h (unfold Holds in tt))
+live-ahead k text at h = ahead-live k (scan outside at (drop at text)) (ahead k outside at (drop at text) h (unfold OpensFrom in tt))
 
 abbrev pub AtLeast : ℕ → List ℕ → Type 0
 AtLeast k = All (λ q. k ≤ q)

@@ -19,7 +19,7 @@ use Rattle.message_lookup.proofs.Steps.{where-true, where-false}
 -- ---- numbers of records for which a test holds
 
 -- the first is q: where it stands, and what comes behind it
-pub record Next (f : Record → Bool) (i : ℕ) (rs : List Record) (q : ℕ) : Type 0 where
+pub record NextNumber (f : Record → Bool) (i : ℕ) (rs : List Record) (q : ℕ) : Type 0 where
   pub from : i ≤ q
   pub below : q < i + length rs
   pub rest : numbersWhere f i rs ≡ q ∷ numbersWhere f (q + 1) (drop (q + 1 - i) rs)
@@ -30,7 +30,7 @@ found-same p q e = cc
 not-found : {X : Type 0} (q : ℕ) → nowhere ≡ found q → X
 not-found q e = let z : _≡_ {A = ℕ} 0 1 = cc in absurd (omega arith)
 
-next-here : (f : Record → Bool) (i : ℕ) (r : Record) (rs : List Record) → f r ≡ true → Next f i (r ∷ rs) i
+next-here : (f : Record → Bool) (i : ℕ) (r : Record) (rs : List Record) → f r ≡ true → NextNumber f i (r ∷ rs) i
 next-here f i r rs e = record {
   from = omega arith;
   below = omega arith;
@@ -40,7 +40,7 @@ next-here f i r rs e = record {
     g : i + 1 - i ≡ 1
     g = omega arith
 
-next-later : (f : Record → Bool) (i : ℕ) (r : Record) (rs : List Record) (q : ℕ) → f r ≡ false → Next f (suc i) rs q → Next f i (r ∷ rs) q
+next-later : (f : Record → Bool) (i : ℕ) (r : Record) (rs : List Record) (q : ℕ) → f r ≡ false → NextNumber f (suc i) rs q → NextNumber f i (r ∷ rs) q
 next-later f i r rs q e n = record {
   from = omega (arith, n .from);
   below = omega (arith, n .below);
@@ -50,13 +50,13 @@ next-later f i r rs q e n = record {
     g : q + 1 - i ≡ suc (q + 1 - suc i)
     g = omega (arith, n .from)
 
-pub next-in : (f : Record → Bool) (i : ℕ) (rs : List Record) (q : ℕ) → first (numbersWhere f i rs) ≡ found q → Next f i rs q
+pub next-in : (f : Record → Bool) (i : ℕ) (rs : List Record) (q : ℕ) → first (numbersWhere f i rs) ≡ found q → NextNumber f i rs q
 unfolding first numbersWhere
 next-in f i [] q e = not-found q e
 next-in f i (r ∷ rs) q e = go (λ h. next-in f (suc i) rs q h) (f r) refl
   where
-    go : (first (numbersWhere f (suc i) rs) ≡ found q → Next f (suc i) rs q) → (b : Bool) → f r ≡ b → Next f i (r ∷ rs) q
-    go later true h = subst (λ (k : ℕ). Next f i (r ∷ rs) k) (found-same i q (sym (ap first (where-true f i r rs h)) ∙ e)) (next-here f i r rs h)
+    go : (first (numbersWhere f (suc i) rs) ≡ found q → NextNumber f (suc i) rs q) → (b : Bool) → f r ≡ b → NextNumber f i (r ∷ rs) q
+    go later true h = subst (λ (k : ℕ). NextNumber f i (r ∷ rs) k) (found-same i q (sym (ap first (where-true f i r rs h)) ∙ e)) (next-here f i r rs h)
     go later false h = next-later f i r rs q h (later (sym (ap first (where-false f i r rs h)) ∙ e))
 
 pub none-in : (f : Record → Bool) (i : ℕ) (rs : List Record) → first (numbersWhere f i rs) ≡ nowhere → numbersWhere f i rs ≡ []
@@ -74,7 +74,7 @@ unfolding schemaOf withFind
 untagged-all t unpacked n p = refl
 
 module _ (t unpacked : List ℕ) (n p i q : ℕ) (e : first (untaggedFrom t unpacked n p i) ≡ found q) where
-  next : Next (isUntaggedOf p) i (drop i (recordsAt t unpacked n)) q
+  next : NextNumber (isUntaggedOf p) i (drop i (recordsAt t unpacked n)) q
   next = next-in (isUntaggedOf p) i (drop i (recordsAt t unpacked n)) q e
 
   pub untagged-next : untaggedFrom t unpacked n p i ≡ q ∷ untaggedFrom t unpacked n p (q + 1)

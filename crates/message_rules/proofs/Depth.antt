@@ -13,35 +13,35 @@ use Rattle.reading_rules.specs.Reading.{TreeSort, Tree, unknownWord, unknownStr
 use Rattle.message_rules.specs.Scan.{openAfter, isOpening, shallow}
 use Rattle.reading_rules.proofs.Complete.{deep}
 
-abbrev pub Shallow : ℕ → ℕ → List Token → Type 0
-Shallow limit n x = shallow limit n x ≡ true
+abbrev pub IsShallow : ℕ → ℕ → List Token → Type 0
+IsShallow limit n x = shallow limit n x ≡ true
 
-pub shallow-word : (limit n : ℕ) (w : List ℕ) (x : List Token) → Shallow limit n (word w ∷ x) → Shallow limit n x
+pub shallow-word : (limit n : ℕ) (w : List ℕ) (x : List Token) → IsShallow limit n (word w ∷ x) → IsShallow limit n x
 unfolding shallow isOpening openAfter
 shallow-word limit n w x h = h
 
-pub shallow-string : (limit n : ℕ) (w : List ℕ) (x : List Token) → Shallow limit n (string w ∷ x) → Shallow limit n x
+pub shallow-string : (limit n : ℕ) (w : List ℕ) (x : List Token) → IsShallow limit n (string w ∷ x) → IsShallow limit n x
 unfolding shallow isOpening openAfter
 shallow-string limit n w x h = h
 
-pub shallow-equals : (limit n : ℕ) (x : List Token) → Shallow limit n (equals ∷ x) → Shallow limit n x
+pub shallow-equals : (limit n : ℕ) (x : List Token) → IsShallow limit n (equals ∷ x) → IsShallow limit n x
 unfolding shallow isOpening openAfter
 shallow-equals limit n x h = h
 
-pub shallow-comma : (limit n : ℕ) (x : List Token) → Shallow limit n (comma ∷ x) → Shallow limit n x
+pub shallow-comma : (limit n : ℕ) (x : List Token) → IsShallow limit n (comma ∷ x) → IsShallow limit n x
 unfolding shallow isOpening openAfter
 shallow-comma limit n x h = h
 
-pub shallow-opening : (limit n : ℕ) (x : List Token) → Shallow limit n (opening ∷ x) → (n < limit) × Shallow limit (suc n) x
+pub shallow-opening : (limit n : ℕ) (x : List Token) → IsShallow limit n (opening ∷ x) → (n < limit) × IsShallow limit (suc n) x
 unfolding shallow isOpening openAfter
 shallow-opening limit n x h = and-both (not (leb limit n)) (shallow limit (suc n) x) h (λ a b. (leb-false limit n (not-true (leb limit n) a), b))
 
-pub shallow-closing : (limit n : ℕ) (x : List Token) → Shallow limit (suc n) (closing ∷ x) → Shallow limit n x
+pub shallow-closing : (limit n : ℕ) (x : List Token) → IsShallow limit (suc n) (closing ∷ x) → IsShallow limit n x
 unfolding shallow isOpening openAfter
 shallow-closing limit n x h = let e : suc n - 1 ≡ n = omega arith in rw e at h
 
 -- after balanced tokens and the brace that closes them as many are open as before it
-pub braces-shallow : (limit n : ℕ) (ts : List Token) (k : ℕ) (r : List Token) → balancedFrom ts k ≡ true → Shallow limit (suc (k + n)) (ts ++ closing ∷ r) → Shallow limit n r
+pub braces-shallow : (limit n : ℕ) (ts : List Token) (k : ℕ) (r : List Token) → balancedFrom ts k ≡ true → IsShallow limit (suc (k + n)) (ts ++ closing ∷ r) → IsShallow limit n r
 unfolding balancedFrom
 braces-shallow limit n [] k r e h =
     let z = eqb-true k 0 e in
@@ -59,7 +59,7 @@ braces-shallow limit n (closing ∷ ts) (suc k) r e h =
     let y : suc k + n ≡ suc (k + n) = omega arith in
     braces-shallow limit n ts k r e (shallow-closing limit (suc (k + n)) (ts ++ closing ∷ r) (rw y at h))
 
-text-shallow : (limit n : ℕ) (t : Token) (r : List Token) → isText t ≡ true → Shallow limit n (t ∷ r) → Shallow limit n r
+text-shallow : (limit n : ℕ) (t : Token) (r : List Token) → isText t ≡ true → IsShallow limit n (t ∷ r) → IsShallow limit n r
 unfolding isText
 text-shallow limit n (word w) r e h = shallow-word limit n w r h
 text-shallow limit n (string w) r e h = shallow-string limit n w r h
@@ -69,7 +69,7 @@ text-shallow limit n opening r e h = clash-bool e
 text-shallow limit n closing r e h = clash-bool e
 
 -- a lawful tree is no deeper than its leaves' braces, and after it as many are open as before
-pub tree-shallow : {s : TreeSort} (S : Schema) → WellFormed S → (limit n : ℕ) (c : For s) (t : Tree s) (r : List Token) → Law S c t → Shallow limit n (leavesThen t r) → (deep t ≤ limit - n) × Shallow limit n r
+pub tree-shallow : {s : TreeSort} (S : Schema) → WellFormed S → (limit n : ℕ) (c : For s) (t : Tree s) (r : List Token) → Law S c t → IsShallow limit n (leavesThen t r) → (deep t ≤ limit - n) × IsShallow limit n r
 unfolding leavesThen Law deep
 tree-shallow S W m n c (unknownWord w) r l h = (omega arith, shallow-word m n w r h)
 tree-shallow S W m n c (unknownString w) r l h = (omega arith, shallow-string m n w r h)

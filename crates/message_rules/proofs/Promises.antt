@@ -48,8 +48,8 @@ either-none nowhere b e = (refl, e)
 either-none (found n) b e = let z : _≡_ {A = ℕ} 0 1 = cc in absurd (omega arith)
 
 -- a reading of the message within the limits, and its rows
-abbrev pub Outcome : List Record → List ℕ → List Row → Type 0
-Outcome table message rs = (ls : List Lexeme) × (t : Tree body) × LawfulReading table message ls t × Within message ls × (rs ≡ messageRows message ls t)
+abbrev pub ReadingRows : List Record → List ℕ → List Row → Type 0
+ReadingRows table message rs = (ls : List Lexeme) × (t : Tree body) × LawfulReading table message ls t × Within message ls × (rs ≡ messageRows message ls t)
 
 -- tokens that the message spells are those of its cut
 spelled-is : (message : List ℕ) (ls : List Lexeme) → Spelled 0 message ls → cut message ≡ record { lexemes = ls; bad = nowhere }
@@ -119,7 +119,7 @@ module _ (table : List Record) (R : ReadingRules table) where
       let e = spelled-once message ls ms (la .spelled) (lb .spelled) in
       (e, unique (schemaOf table) (well-formed table R) a b (la .lawful) (lb .lawful) (la .all ∙ (ap tokensOf e ∙ sym (lb .all))))
 
-  outcome-rows : (message : List ℕ) → length message ≤ messageLimit → scanFault (cut message) ≡ nowhere → (p : Result (Tree body)) → parse (schemaOf table) openLimit (tokensOf (cut message .lexemes)) ≡ p → (rs : List Row) → outcome message (cut message .lexemes) p ≡ rows rs → Outcome table message rs
+  outcome-rows : (message : List ℕ) → length message ≤ messageLimit → scanFault (cut message) ≡ nowhere → (p : Result (Tree body)) → parse (schemaOf table) openLimit (tokensOf (cut message .lexemes)) ≡ p → (rs : List Row) → outcome message (cut message .lexemes) p ≡ rows rs → ReadingRows table message rs
   unfolding outcome scanFault
   outcome-rows message m f (refused n r) e rs o = let z : _≡_ {A = ℕ} 0 1 = cc in absurd (omega arith)
   outcome-rows message m f (got t r) e rs o =
@@ -128,17 +128,17 @@ module _ (table : List Record) (R : ReadingRules table) where
       let q : messageRows message (cut message .lexemes) t ≡ rs = cc in
       (cut message .lexemes, t, record { spelled = message-spelled message (s .1); lawful = g .0; all = g .1 }, record { short = m; flat = flat-tokens 0 (cut message .lexemes) (s .0) }, sym q)
 
-  scan-rows : (message : List ℕ) → length message ≤ messageLimit → (f : Found) → scanFault (cut message) ≡ f → (rs : List Row) → afterScan (schemaOf table) message (cut message .lexemes) f ≡ rows rs → Outcome table message rs
+  scan-rows : (message : List ℕ) → length message ≤ messageLimit → (f : Found) → scanFault (cut message) ≡ f → (rs : List Row) → afterScan (schemaOf table) message (cut message .lexemes) f ≡ rows rs → ReadingRows table message rs
   unfolding afterScan
   scan-rows message m (found p) f rs o = let z : _≡_ {A = ℕ} 0 1 = cc in absurd (omega arith)
   scan-rows message m nowhere f rs o = outcome-rows message m f (parse (schemaOf table) openLimit (tokensOf (cut message .lexemes))) refl rs o
 
   -- rows come only from a lawful reading within the limits
-  pub rows-lawful : (message : List ℕ) (rs : List Row) → roomFree table message ≡ rows rs → Outcome table message rs
+  pub rows-lawful : (message : List ℕ) (rs : List Row) → roomFree table message ≡ rows rs → ReadingRows table message rs
   unfolding roomFree
   rows-lawful message rs e = go (leb (length message) messageLimit) refl e
     where
-      go : (b : Bool) → leb (length message) messageLimit ≡ b → elim b [ true ↦ afterScan (schemaOf table) message (cut message .lexemes) (scanFault (cut message)) | false ↦ fault 21 messageLimit ] ≡ rows rs → Outcome table message rs
+      go : (b : Bool) → leb (length message) messageLimit ≡ b → elim b [ true ↦ afterScan (schemaOf table) message (cut message .lexemes) (scanFault (cut message)) | false ↦ fault 21 messageLimit ] ≡ rows rs → ReadingRows table message rs
       go true a o = scan-rows message (leb-true (length message) messageLimit a) (scanFault (cut message)) refl rs o
       go false a o = let z : _≡_ {A = ℕ} 0 1 = cc in absurd (omega arith)
 

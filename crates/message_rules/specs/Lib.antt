@@ -5,3 +5,5 @@ pub mod RowBytes
 -- Refusals of a message
 pub mod Verdict
 pub mod Promise
+-- The cases of 01 that are marked
+pub mod Starred

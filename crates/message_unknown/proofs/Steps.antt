@@ -305,25 +305,25 @@ module _ (base : ℕ) (s : List ℕ) (i : ℕ) (l : Passed) (r : PassesTo (unkno
       record { rest = p .rest; is = list-stuck fuel (tokensAt base s i) (tokensOf (p .rest)) n (p .is); along = p .along; place = p .place }
 
 -- where the loop over a list stands
-pub record Listed (base : ℕ) (s : List ℕ) (lo i : ℕ) : Type 0 where
+pub record UnknownListed (base : ℕ) (s : List ℕ) (lo i : ℕ) : Type 0 where
   pub fuel : ℕ
   pub enough : length (tokensAt base s i) < fuel
   pub went : Went (unknownsFrom base s lo) (leftOf (unknownsAt fuel (tokensAt base s i))) base s lo i
 
-pub listed-start : (base : ℕ) (s : List ℕ) (lo : ℕ) → Listed base s lo lo
+pub listed-start : (base : ℕ) (s : List ℕ) (lo : ℕ) → UnknownListed base s lo lo
 listed-start base s lo = record { fuel = suc (length (tokensAt base s lo)); enough = omega arith; went = went-start (unknownsFrom base s lo) base s lo }
 
 pub list-go : (base : ℕ) (s : List ℕ) (i : ℕ) (l : Turn) (u : Cursor) (n : ℕ) → ListTurn base s i l → l ≡ On u n → ListOn base s i (u .at)
 list-go base s i l u n r q = subst (ListTurn base s i) q r
 
-pub listed-on : (base : ℕ) (s : List ℕ) (lo i j : ℕ) → Listed base s lo i → ListOn base s i j → Listed base s lo j
+pub listed-on : (base : ℕ) (s : List ℕ) (lo i j : ℕ) → UnknownListed base s lo i → ListOn base s i j → UnknownListed base s lo j
 listed-on base s lo i j a b = go (a .fuel) (a .enough) (a .went)
   where
-    go : (fuel : ℕ) → length (tokensAt base s i) < fuel → Went (unknownsFrom base s lo) (leftOf (unknownsAt fuel (tokensAt base s i))) base s lo i → Listed base s lo j
+    go : (fuel : ℕ) → length (tokensAt base s i) < fuel → Went (unknownsFrom base s lo) (leftOf (unknownsAt fuel (tokensAt base s i))) base s lo i → UnknownListed base s lo j
     go zero e w = absurd (omega arith)
     go (suc fuel) e w = record { fuel = fuel; enough = omega (arith, b .short); went = went-on w (b .is fuel) (b .moved) }
 
-pub listed-out : (base : ℕ) (s : List ℕ) (lo i : ℕ) (l : Turn) (g : Passed) → Listed base s lo i → ListTurn base s i l → l ≡ Out g → PassesTo (unknownsFrom base s lo) base s lo g
+pub listed-out : (base : ℕ) (s : List ℕ) (lo i : ℕ) (l : Turn) (g : Passed) → UnknownListed base s lo i → ListTurn base s i l → l ≡ Out g → PassesTo (unknownsFrom base s lo) base s lo g
 listed-out base s lo i l g a r q = go (a .fuel) (a .enough) (a .went)
   where
     go : (fuel : ℕ) → length (tokensAt base s i) < fuel → Went (unknownsFrom base s lo) (leftOf (unknownsAt fuel (tokensAt base s i))) base s lo i → PassesTo (unknownsFrom base s lo) base s lo g

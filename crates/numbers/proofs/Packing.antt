@@ -15,11 +15,11 @@ either {X} p q f g = go (ltb p q) refl
     go true e = f (ltb-true p q e)
     go false e = g (ltb-false p q e)
 
-record Ordered (n p m q : ℕ) : Type 0 where
+record KeepsOrder (n p m q : ℕ) : Type 0 where
   less : p < q → n < m
   same : p ≡ q → n ≡ m
 
-zero-first : {m q : ℕ} → Packed m q → Ordered 0 0 m q
+zero-first : {m q : ℕ} → Packed m q → KeepsOrder 0 0 m q
 zero-first none = record { less = λ h. h; same = λ e. refl }
 zero-first (more {n = m} {p = q} d k r) =
     let z = zero-first r in
@@ -28,7 +28,7 @@ zero-first (more {n = m} {p = q} d k r) =
       same = λ e. let i = z .same (omega arith) in omega arith;
     }
 
-ordered : {n p m q : ℕ} → Packed n p → Packed m q → Ordered n p m q
+ordered : {n p m q : ℕ} → Packed n p → Packed m q → KeepsOrder n p m q
 ordered r none = record { less = λ h. absurd (omega arith); same = λ e. sym (zero-first r .same (sym e)) }
 ordered none (more d k r) = zero-first (more d k r)
 ordered (more {n = n} {p = p} d h r) (more {n = m} {p = q} e k t) =

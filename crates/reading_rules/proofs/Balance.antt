@@ -8,25 +8,7 @@ use lib.ListN.{take}
 use borrow.Author.Tests.{eqb-true, eq-eqb}
 use Rattle.reading_rules.specs.Token.{Token, word, string, equals, comma, opening, closing}
 use Rattle.reading_rules.proofs.CountLaws.{clash-bool}
-use Rattle.reading_rules.specs.Reading.{balancedFrom, Balanced}
-
-unfoldable pub opened : List Token → ℕ
-opened [] = 0
-opened (word w ∷ r) = opened r
-opened (string w ∷ r) = opened r
-opened (equals ∷ r) = opened r
-opened (comma ∷ r) = opened r
-opened (opening ∷ r) = suc (opened r)
-opened (closing ∷ r) = opened r
-
-unfoldable pub closed : List Token → ℕ
-closed [] = 0
-closed (word w ∷ r) = closed r
-closed (string w ∷ r) = closed r
-closed (equals ∷ r) = closed r
-closed (comma ∷ r) = closed r
-closed (opening ∷ r) = closed r
-closed (closing ∷ r) = suc (closed r)
+use Rattle.reading_rules.specs.Reading.{balancedFrom, Balanced, opened, closed}
 
 -- with k open before
 abbrev pub EvenFrom : List Token → ℕ → Type 0

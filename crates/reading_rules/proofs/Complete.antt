@@ -16,7 +16,7 @@ use Rattle.reading_rules.specs.Count.{times, In, allIn}
 use Rattle.reading_rules.proofs.CountLaws.{clash-bool, in-all, out-hasnt, was-new}
 use Rattle.reading_rules.specs.Reading.{TreeSort, unknownValue, unknownList, value, list, body, items, Tree, unknownWord, unknownString, unknownBraces, unknownPair, unknownLast, unknownMore, leaf, braced, chosenVoid, chosen, chosenInt, last, more, listed, stopped, itemized, noItem, voidItem, listItem, unknownItem, unknownListItem, leavesThen, balancedFrom, count, fieldsOf, InRange, Law}
 use Rattle.reading_rules.specs.Parse.{Result, got, then, need, whether, onEquals, afterToken, pairWith, bracesAt, unknownAt, afterUnknown, unknownsAt, judged, simpleAt, shut, structAt, alternative, bareFor, choose, unionAt, byKind, valueAt, mayGrow, listEnds, afterValue, listAt, wholeList, requiredOf, endNumber, bodyEnds, unknownAfter, itemAt, itemsAt, listThen, listsAt, wholeValue, bodyAt}
-use Rattle.reading_rules.proofs.Inverse.{required-is, Ends}
+use Rattle.reading_rules.proofs.Inverse.{required-is, BodyMayEnd}
 use Rattle.reading_rules.specs.Reading.{width}
 
 -- how many braces of structs stand open at once
@@ -106,14 +106,14 @@ count-pos (more v l) = omega arith
 pub data Column : Type 0 where
   nothing text brace sign separator end : Column
 
-unfoldable pub columnOf : List Token → Column
-columnOf [] = nothing
-columnOf (word w ∷ r) = text
-columnOf (string w ∷ r) = text
-columnOf (opening ∷ r) = brace
-columnOf (equals ∷ r) = sign
-columnOf (comma ∷ r) = separator
-columnOf (closing ∷ r) = end
+unfoldable pub columnFor : List Token → Column
+columnFor [] = nothing
+columnFor (word w ∷ r) = text
+columnFor (string w ∷ r) = text
+columnFor (opening ∷ r) = brace
+columnFor (equals ∷ r) = sign
+columnFor (comma ∷ r) = separator
+columnFor (closing ∷ r) = end
 
 -- no `=`; no `,`; a value
 unfoldable pub noSign : Column → Bool
@@ -141,10 +141,10 @@ isValue separator = false
 isValue end = false
 
 abbrev pub Calm : List Token → Type 0
-Calm r = (noSign (columnOf r) ≡ true) × (noSeparator (columnOf r) ≡ true)
+Calm r = (noSign (columnFor r) ≡ true) × (noSeparator (columnFor r) ≡ true)
 
-value-calm : (x : List Token) → isValue (columnOf x) ≡ true → Calm x
-unfolding columnOf isValue noSign noSeparator
+value-calm : (x : List Token) → isValue (columnFor x) ≡ true → Calm x
+unfolding columnFor isValue noSign noSeparator
 value-calm [] e = (refl, refl)
 value-calm (word w ∷ x) e = (refl, refl)
 value-calm (string w ∷ x) e = (refl, refl)
@@ -153,13 +153,13 @@ value-calm (equals ∷ x) e = clash-bool e
 value-calm (comma ∷ x) e = clash-bool e
 value-calm (closing ∷ x) e = (refl, refl)
 
-ends-calm : (inside : Bool) (r : List Token) → Ends inside r → Calm r
-unfolding Ends columnOf noSign noSeparator
+ends-calm : (inside : Bool) (r : List Token) → BodyMayEnd inside r → Calm r
+unfolding BodyMayEnd columnFor noSign noSeparator
 ends-calm false r e = rw e (refl, refl)
 ends-calm true r e = rw (e .1) (refl, refl)
 
-items-calm : (inside : Bool) (t : Tree items) (r : List Token) → Ends inside r → Calm (leavesThen t r)
-unfolding leavesThen columnOf noSign noSeparator
+items-calm : (inside : Bool) (t : Tree items) (r : List Token) → BodyMayEnd inside r → Calm (leavesThen t r)
+unfolding leavesThen columnFor noSign noSeparator
 items-calm inside noItem r e = ends-calm inside r e
 items-calm inside (voidItem q w i) r e = (refl, refl)
 items-calm inside (listItem q w l i) r e = (refl, refl)
@@ -179,8 +179,8 @@ braces-complete (opening ∷ ts) k r e = rw (braces-complete ts (suc k) r e)
 braces-complete (closing ∷ ts) zero r e = clash-bool e
 braces-complete (closing ∷ ts) (suc k) r e = rw (braces-complete ts k r e)
 
-word-alone : (w : List ℕ) (r : List Token) → noSign (columnOf r) ≡ true → unknownAt (word w ∷ r) ≡ got (unknownWord w) r
-unfolding unknownAt columnOf noSign
+word-alone : (w : List ℕ) (r : List Token) → noSign (columnFor r) ≡ true → unknownAt (word w ∷ r) ≡ got (unknownWord w) r
+unfolding unknownAt columnFor noSign
 word-alone w [] e = refl
 word-alone w (word v ∷ r) e = refl
 word-alone w (string v ∷ r) e = refl
@@ -190,15 +190,15 @@ word-alone w (comma ∷ r) e = refl
 word-alone w (closing ∷ r) e = refl
 
 module _ (S : Schema) where
-  unknown-complete : (t : Tree unknownValue) (r : List Token) → Law S tt t → noSign (columnOf r) ≡ true → unknownAt (leavesThen t r) ≡ got t r
+  unknown-complete : (t : Tree unknownValue) (r : List Token) → Law S tt t → noSign (columnFor r) ≡ true → unknownAt (leavesThen t r) ≡ got t r
   unfolding leavesThen Law unknownAt pairWith then
   unknown-complete (unknownWord w) r l c = word-alone w r c
   unknown-complete (unknownString w) r l c = refl
   unknown-complete (unknownBraces ts) r l c = rw (braces-complete ts 0 r l)
   unknown-complete (unknownPair w v) r l c = rw (unknown-complete v r l c)
 
-  unknown-last : (next : List Token → Result (Tree unknownList)) (v : Tree unknownValue) (r : List Token) → noSeparator (columnOf r) ≡ true → afterUnknown next v r ≡ got (unknownLast v) r
-  unfolding afterUnknown columnOf noSeparator
+  unknown-last : (next : List Token → Result (Tree unknownList)) (v : Tree unknownValue) (r : List Token) → noSeparator (columnFor r) ≡ true → afterUnknown next v r ≡ got (unknownLast v) r
+  unfolding afterUnknown columnFor noSeparator
   unknown-last next v [] e = refl
   unknown-last next v (word w ∷ r) e = refl
   unknown-last next v (string w ∷ r) e = refl
@@ -208,14 +208,14 @@ module _ (S : Schema) where
   unknown-last next v (closing ∷ r) e = refl
 
   unknowns-complete : (fuel : ℕ) (t : Tree unknownList) (r : List Token) → Law S tt t → Calm r → width t ≤ fuel → unknownsAt fuel (leavesThen t r) ≡ got t r
-  unfolding leavesThen Law unknownsAt then afterUnknown width columnOf noSign
+  unfolding leavesThen Law unknownsAt then afterUnknown width columnFor noSign
   unknowns-complete zero t r l c m = absurd (omega (arith, unknowns-wide t))
   unknowns-complete (suc fuel) (unknownLast v) r l c m = rw (unknown-complete v r l (c .0)) (unknown-last (unknownsAt fuel) v r (c .1))
   unknowns-complete (suc fuel) (unknownMore v t) r l c m = rw (unknown-complete v (comma ∷ leavesThen t r) (l .0) refl, unknowns-complete fuel t r (l .1) c (omega (arith, unknown-wide v)))
 
   -- values
   abbrev pub BodyComplete : ℕ → (ℕ → List Token → Result (Tree body)) → Type 0
-  BodyComplete d bodyOf = (p : ℕ) (b : Tree body) (r : List Token) → Law S (p, S .untagged p) b → Ends true r → deep b < d → bodyOf p (leavesThen b r) ≡ got b r
+  BodyComplete d bodyOf = (p : ℕ) (b : Tree body) (r : List Token) → Law S (p, S .untagged p) b → BodyMayEnd true r → deep b < d → bodyOf p (leavesThen b r) ≡ got b r
 
   abbrev pub ValueComplete : ℕ → (ℕ → List Token → Result (Tree value)) → Type 0
   ValueComplete d valueOf = (q : ℕ) (t : Tree value) (r : List Token) → Law S q t → deep t ≤ d → valueOf q (leavesThen t r) ≡ got t r
@@ -238,8 +238,8 @@ module _ (S : Schema) where
     simple-complete u opening r e = clash-bool (W .spoken u opening e)
     simple-complete u closing r e = clash-bool (W .spoken u closing e)
 
-    pub value-starts : (q : ℕ) (t : Tree value) (r : List Token) → Law S q t → isValue (columnOf (leavesThen t r)) ≡ true
-    unfolding leavesThen Law columnOf isValue isText
+    pub value-starts : (q : ℕ) (t : Tree value) (r : List Token) → Law S q t → isValue (columnFor (leavesThen t r)) ≡ true
+    unfolding leavesThen Law columnFor isValue isText
     value-starts q (leaf (word w)) r l = refl
     value-starts q (leaf (string w)) r l = refl
     value-starts q (leaf equals) r l = clash-bool (W .spoken (S .core q) equals (l .1))
@@ -251,14 +251,14 @@ module _ (S : Schema) where
     value-starts q (chosen k w v) r l = refl
     value-starts q (chosenInt k w) r l = refl
 
-    pub list-starts : (q : ℕ) (t : Tree list) (r : List Token) → Law S q t → isValue (columnOf (leavesThen t r)) ≡ true
+    pub list-starts : (q : ℕ) (t : Tree list) (r : List Token) → Law S q t → isValue (columnFor (leavesThen t r)) ≡ true
     unfolding leavesThen Law
     list-starts q (last v) r l = value-starts q v r l
     list-starts q (more v t) r l = value-starts q v (comma ∷ leavesThen t r) (l .0)
 
     module _ (d : ℕ) (bodyOf : ℕ → List Token → Result (Tree body)) (hb : BodyComplete d bodyOf) where
       value-complete : (fuel q : ℕ) (t : Tree value) (r : List Token) → Law S q t → deep t ≤ d → width t ≤ fuel → valueAt S bodyOf fuel q (leavesThen t r) ≡ got t r
-      unfolding leavesThen Law valueAt byKind structAt shut unionAt choose alternative whether onEquals then judged need bareFor deep width Ends
+      unfolding leavesThen Law valueAt byKind structAt shut unionAt choose alternative whether onEquals then judged need bareFor deep width BodyMayEnd
       value-complete zero q t r l d m = absurd (omega (arith, value-wide t))
       value-complete (suc fuel) q (leaf t) r l d m = rw (l .0) (simple-complete (S .core q) t r (l .1))
       value-complete (suc fuel) q (braced b) r l d m = rw (l .0, hb (S .core q) b (closing ∷ r) (l .1) (r, refl) (omega arith))
@@ -274,8 +274,8 @@ module _ (S : Schema) where
     unfolding atMost mayGrow
     grows h c n e m = or-case (eqb h noLimit) (leb n h) e (λ a. or-left (eqb h noLimit) (ltb c h) a) (λ a. or-right (eqb h noLimit) (ltb c h) (lt-ltb c h (omega (arith, leb-true n h a))))
 
-    list-last : (q c : ℕ) (next : List Token → Result (Tree list)) (v : Tree value) (r : List Token) → noSeparator (columnOf r) ≡ true → S .lo q ≤ c → afterValue S q c next v r ≡ got (last v) r
-    unfolding afterValue listEnds need columnOf noSeparator
+    list-last : (q c : ℕ) (next : List Token → Result (Tree list)) (v : Tree value) (r : List Token) → noSeparator (columnFor r) ≡ true → S .lo q ≤ c → afterValue S q c next v r ≡ got (last v) r
+    unfolding afterValue listEnds need columnFor noSeparator
     list-last q c next v [] e m = rw (le-leb (S .lo q) c m)
     list-last q c next v (word w ∷ r) e m = rw (le-leb (S .lo q) c m)
     list-last q c next v (string w ∷ r) e m = rw (le-leb (S .lo q) c m)
@@ -285,7 +285,7 @@ module _ (S : Schema) where
     list-last q c next v (closing ∷ r) e m = rw (le-leb (S .lo q) c m)
 
     module _ (d : ℕ) (valueOf : ℕ → List Token → Result (Tree value)) (hv : ValueComplete d valueOf) where
-      list-complete : (fuel q c : ℕ) (t : Tree list) (r : List Token) → Law S q t → noSeparator (columnOf r) ≡ true → S .lo q ≤ c + count t → atMost (S .hi q) (c + count t) ≡ true → deep t ≤ d → width t ≤ fuel → listAt S valueOf fuel q c (leavesThen t r) ≡ got t r
+      list-complete : (fuel q c : ℕ) (t : Tree list) (r : List Token) → Law S q t → noSeparator (columnFor r) ≡ true → S .lo q ≤ c + count t → atMost (S .hi q) (c + count t) ≡ true → deep t ≤ d → width t ≤ fuel → listAt S valueOf fuel q c (leavesThen t r) ≡ got t r
       unfolding leavesThen Law listAt then afterValue need deep width count
       list-complete zero q c t r l e a b d m = absurd (omega (arith, list-wide t))
       list-complete (suc fuel) q c (last v) r l e a b d m = rw (hv q v r l d) (list-last q (suc c) (listAt S valueOf fuel q (suc c)) v r e (omega arith))
@@ -297,19 +297,19 @@ module _ (S : Schema) where
             list-complete fuel q (suc c) t r (l .1) e (omega arith) (rw n at b) (omega arith) (omega (arith, value-wide v)),
           )
 
-      whole-list : (q : ℕ) (t : Tree list) (r : List Token) → Law S q t → noSeparator (columnOf r) ≡ true → InRange S q (count t) → deep t ≤ d → wholeList S valueOf q (leavesThen t r) ≡ got t r
+      whole-list : (q : ℕ) (t : Tree list) (r : List Token) → Law S q t → noSeparator (columnFor r) ≡ true → InRange S q (count t) → deep t ≤ d → wholeList S valueOf q (leavesThen t r) ≡ got t r
       whole-list q t r l e i d =
           let n : 0 + count t ≡ count t = omega arith in
           list-complete (suc (length (leavesThen t r))) q 0 t r l e (omega (arith, i .0)) (rw n (i .1)) d (omega (arith, leaves-width t r))
 
       -- items
-      items-end : (inside : Bool) (p fuel : ℕ) (z : List ℕ) (r : List Token) → Ends inside r → allIn (requiredOf S (S .tagged p)) z ≡ true → itemsAt S valueOf inside p (suc fuel) z r ≡ got noItem r
-      unfolding Ends itemsAt bodyEnds endNumber need
+      items-end : (inside : Bool) (p fuel : ℕ) (z : List ℕ) (r : List Token) → BodyMayEnd inside r → allIn (requiredOf S (S .tagged p)) z ≡ true → itemsAt S valueOf inside p (suc fuel) z r ≡ got noItem r
+      unfolding BodyMayEnd itemsAt bodyEnds endNumber need
       items-end false p fuel z r e a = rw e (rw a)
       items-end true p fuel z r e a = rw (e .1) (rw a)
 
-      unknown-alone : (next : List Token → Result (Tree items)) (w : List ℕ) (x : List Token) → noSign (columnOf x) ≡ true → unknownAfter next w x ≡ then (next x) (λ i s. got (unknownItem w i) s)
-      unfolding unknownAfter columnOf noSign
+      unknown-alone : (next : List Token → Result (Tree items)) (w : List ℕ) (x : List Token) → noSign (columnFor x) ≡ true → unknownAfter next w x ≡ then (next x) (λ i s. got (unknownItem w i) s)
+      unfolding unknownAfter columnFor noSign
       unknown-alone next w [] e = refl
       unknown-alone next w (word v ∷ x) e = refl
       unknown-alone next w (string v ∷ x) e = refl
@@ -318,7 +318,7 @@ module _ (S : Schema) where
       unknown-alone next w (comma ∷ x) e = refl
       unknown-alone next w (closing ∷ x) e = refl
 
-      items-complete : (inside : Bool) (p fuel : ℕ) (z : List ℕ) (t : Tree items) (r : List Token) → Law S p t → Ends inside r → ((k : ℕ) → times k z + times k (fieldsOf t) ≤ 1) → ((k : ℕ) → In k (requiredOf S (S .tagged p)) → 1 ≤ times k z + times k (fieldsOf t)) → deep t ≤ d → width t < fuel → itemsAt S valueOf inside p fuel z (leavesThen t r) ≡ got t r
+      items-complete : (inside : Bool) (p fuel : ℕ) (z : List ℕ) (t : Tree items) (r : List Token) → Law S p t → BodyMayEnd inside r → ((k : ℕ) → times k z + times k (fieldsOf t) ≤ 1) → ((k : ℕ) → In k (requiredOf S (S .tagged p)) → 1 ≤ times k z + times k (fieldsOf t)) → deep t ≤ d → width t < fuel → itemsAt S valueOf inside p fuel z (leavesThen t r) ≡ got t r
       unfolding leavesThen Law itemsAt itemAt unknownAfter need whether onEquals then deep width fieldsOf times
       items-complete inside p zero z t r l e a b d m = absurd (omega arith)
       items-complete inside p (suc fuel) z noItem r l e a b d m = items-end inside p fuel z r e (in-all (requiredOf S (S .tagged p)) z (λ k h. omega (arith, b k h)))
@@ -347,14 +347,14 @@ module _ (S : Schema) where
           )
 
       -- bodies
-      body-calm : (inside : Bool) (p : ℕ) (qs : List ℕ) (t : Tree body) (r : List Token) → Law S (p, qs) t → Ends inside r → noSeparator (columnOf (leavesThen t r)) ≡ true
+      body-calm : (inside : Bool) (p : ℕ) (qs : List ℕ) (t : Tree body) (r : List Token) → Law S (p, qs) t → BodyMayEnd inside r → noSeparator (columnFor (leavesThen t r)) ≡ true
       unfolding leavesThen Law
       body-calm inside p qs (listed q l b) r h e = value-calm (leavesThen l (leavesThen b r)) (list-starts q l (leavesThen b r) (h .2)) .1
       body-calm inside p qs stopped r h e = ends-calm inside r e .1
       body-calm inside p qs (itemized i) r h e = items-calm inside i r e .1
 
-      lists-more : (inside : Bool) (p q : ℕ) (qs : List ℕ) (x : List Token) → isValue (columnOf x) ≡ true → listsAt S valueOf inside p (q ∷ qs) x ≡ listThen S valueOf (listsAt S valueOf inside p qs) q x
-      unfolding listsAt columnOf isValue
+      lists-more : (inside : Bool) (p q : ℕ) (qs : List ℕ) (x : List Token) → isValue (columnFor x) ≡ true → listsAt S valueOf inside p (q ∷ qs) x ≡ listThen S valueOf (listsAt S valueOf inside p qs) q x
+      unfolding listsAt columnFor isValue
       lists-more inside p q qs [] e = clash-bool e
       lists-more inside p q qs (word w ∷ x) e = refl
       lists-more inside p q qs (string w ∷ x) e = refl
@@ -363,12 +363,12 @@ module _ (S : Schema) where
       lists-more inside p q qs (comma ∷ x) e = refl
       lists-more inside p q qs (closing ∷ x) e = clash-bool e
 
-      lists-stop : (inside : Bool) (p q : ℕ) (qs : List ℕ) (r : List Token) → Ends inside r → S .lo q ≡ 0 → listsAt S valueOf inside p (q ∷ qs) r ≡ got stopped r
-      unfolding Ends listsAt bodyEnds endNumber need
+      lists-stop : (inside : Bool) (p q : ℕ) (qs : List ℕ) (r : List Token) → BodyMayEnd inside r → S .lo q ≡ 0 → listsAt S valueOf inside p (q ∷ qs) r ≡ got stopped r
+      unfolding BodyMayEnd listsAt bodyEnds endNumber need
       lists-stop false p q qs r e a = rw e (rw a)
       lists-stop true p q qs r e a = rw (e .1) (rw a)
 
-      lists-complete : (inside : Bool) (p : ℕ) (qs : List ℕ) (t : Tree body) (r : List Token) → Law S (p, qs) t → Ends inside r → deep t ≤ d → listsAt S valueOf inside p qs (leavesThen t r) ≡ got t r
+      lists-complete : (inside : Bool) (p : ℕ) (qs : List ℕ) (t : Tree body) (r : List Token) → Law S (p, qs) t → BodyMayEnd inside r → deep t ≤ d → listsAt S valueOf inside p qs (leavesThen t r) ≡ got t r
       unfolding leavesThen Law listsAt listThen then deep times
       lists-complete inside p qs (listed q l b) r h e m =
           rw (h .1) (lists-more inside p q (h .0) (leavesThen l (leavesThen b r)) (list-starts q l (leavesThen b r) (h .2))
@@ -378,7 +378,7 @@ module _ (S : Schema) where
           rw (h .0, items-complete inside p (suc (length (leavesThen i r))) [] i r (h .1) e (λ k. omega (arith, h .2 k)) (λ k j. let g = required-is S k (S .tagged p) j in omega (arith, h .3 k (g .0) (g .1) (g .2))) m (omega (arith, leaves-width i r)))
 
     -- a lawful body is read at every depth over its own
-    pub body-complete : (depth : ℕ) (inside : Bool) (p : ℕ) (t : Tree body) (r : List Token) → Law S (p, S .untagged p) t → Ends inside r → deep t < depth → bodyAt S depth inside p (leavesThen t r) ≡ got t r
+    pub body-complete : (depth : ℕ) (inside : Bool) (p : ℕ) (t : Tree body) (r : List Token) → Law S (p, S .untagged p) t → BodyMayEnd inside r → deep t < depth → bodyAt S depth inside p (leavesThen t r) ≡ got t r
     unfolding bodyAt
     body-complete zero inside p t r l e m = absurd (omega arith)
     body-complete (suc depth) inside p t r l e m =

@@ -69,22 +69,22 @@ unfolding judged
 judged-got n t k r e f = need-got (eqb n 0) n (k ∷ r) (got t) r e (λ a e1. f (eqb-true n 0 a) e1)
 
 -- where a body may end: at the end of the tokens, or inside braces at a `}`
-unfoldable pub Ends : Bool → List Token → Type 0
-Ends false r = r ≡ []
-Ends true r = (q : List Token) × (r ≡ closing ∷ q)
+unfoldable pub BodyMayEnd : Bool → List Token → Type 0
+BodyMayEnd false r = r ≡ []
+BodyMayEnd true r = (q : List Token) × (r ≡ closing ∷ q)
 
 nought : {X : Type 0} {n : ℕ} → suc n ≡ 0 → X
 nought e = absurd (omega arith)
 
-pub end-nil : (inside complete : Bool) → endNumber inside complete [] ≡ 0 → (complete ≡ true) × Ends inside []
-unfolding endNumber Ends
+pub end-nil : (inside complete : Bool) → endNumber inside complete [] ≡ 0 → (complete ≡ true) × BodyMayEnd inside []
+unfolding endNumber BodyMayEnd
 end-nil true true e = nought e
 end-nil true false e = nought e
 end-nil false true e = (refl, refl)
 end-nil false false e = nought e
 
-pub end-closing : (inside complete : Bool) (r : List Token) → endNumber inside complete (closing ∷ r) ≡ 0 → (complete ≡ true) × Ends inside (closing ∷ r)
-unfolding endNumber Ends
+pub end-closing : (inside complete : Bool) (r : List Token) → endNumber inside complete (closing ∷ r) ≡ 0 → (complete ≡ true) × BodyMayEnd inside (closing ∷ r)
+unfolding endNumber BodyMayEnd
 end-closing true true r e = (refl, (r, refl))
 end-closing true false r e = nought e
 end-closing false true r e = nought e

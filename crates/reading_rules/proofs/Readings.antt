@@ -8,20 +8,20 @@ use Rattle.reading_rules.specs.Token.{Token}
 use Rattle.reading_rules.specs.Schema.{Schema, WellFormed}
 use Rattle.reading_rules.specs.Reading.{body, Tree, leavesThen, leaves, Lawful}
 use Rattle.reading_rules.specs.Parse.{got, parse}
-use Rattle.reading_rules.proofs.Inverse.{Ends}
+use Rattle.reading_rules.proofs.Inverse.{BodyMayEnd}
 use Rattle.reading_rules.proofs.Sound.{body-sound}
 use Rattle.reading_rules.proofs.Complete.{deep, body-complete}
 
 -- what is read is lawful, and all the tokens are its leaves
 pub parse-sound : (S : Schema) → WellFormed S → (depth : ℕ) (x : List Token) (t : Tree body) (r : List Token) → parse S depth x ≡ got t r → Lawful S t × (leaves t ≡ x) × (r ≡ [])
-unfolding Ends
+unfolding BodyMayEnd
 parse-sound S W depth x t r e =
     let g = body-sound S W (suc depth) false 0 x t r e in
     (g .0, ap (leavesThen t) (sym (g .2)) ∙ g .1, g .2)
 
 -- a lawful reading is read, at every depth that it has
 pub parse-complete : (S : Schema) → WellFormed S → (depth : ℕ) (t : Tree body) → Lawful S t → deep t ≤ depth → parse S depth (leaves t) ≡ got t []
-unfolding Ends
+unfolding BodyMayEnd
 parse-complete S W depth t l m = body-complete S W (suc depth) false 0 t [] l refl (omega arith)
 
 -- two lawful readings of the same tokens are one

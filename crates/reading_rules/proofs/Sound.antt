@@ -16,7 +16,7 @@ use Rattle.reading_rules.specs.Count.{times, In, Once, has, allIn}
 use Rattle.reading_rules.proofs.CountLaws.{clash-bool, all-in, hasnt-in, once-more, once-nil, in-head, in-tail, in-cons, in-nil}
 use Rattle.reading_rules.specs.Reading.{TreeSort, unknownValue, unknownList, value, list, body, items, Tree, stopped, noItem, unknownItem, leavesThen, balancedFrom, count, fieldsOf, InRange, For, Law}
 use Rattle.reading_rules.specs.Parse.{Result, got, then, bracesAt, unknownAt, afterUnknown, unknownsAt, simpleAt, shut, structAt, alternative, bareFor, choose, unionAt, noneAt, byKind, valueAt, mayGrow, listEnds, afterValue, listAt, wholeList, requiredOf, endNumber, bodyEnds, unknownAfter, itemAt, itemsAt, listThen, listsAt, wholeValue, bodyAt}
-use Rattle.reading_rules.proofs.Inverse.{clash, got-to, then-got, need-got, whether-got, equals-got, after-got, pair-got, judged-got, Ends, end-nil, end-closing, ends-got}
+use Rattle.reading_rules.proofs.Inverse.{clash, got-to, then-got, need-got, whether-got, equals-got, after-got, pair-got, judged-got, BodyMayEnd, end-nil, end-closing, ends-got}
 
 -- the required ones, as the parser lists them, are those that must appear
 pub required-in : (S : Schema) (k : ℕ) (l : List ℕ) → In k l → S .optional k ≡ false → 1 ≤ S .lo k → In k (requiredOf S l)
@@ -217,7 +217,7 @@ module _ (S : Schema) where
 
     -- items of p, of which those seen were read before
     abbrev pub ItemsRight : Bool → ℕ → List ℕ → List Token → Tree items → List Token → Type 0
-    ItemsRight inside p z x t r = Law S p t × ((k : ℕ) → times k z + times k (fieldsOf t) ≤ 1) × ((k : ℕ) → In k (requiredOf S (S .tagged p)) → 1 ≤ times k z + times k (fieldsOf t)) × (leavesThen t r ≡ x) × Ends inside r
+    ItemsRight inside p z x t r = Law S p t × ((k : ℕ) → times k z + times k (fieldsOf t) ≤ 1) × ((k : ℕ) → In k (requiredOf S (S .tagged p)) → 1 ≤ times k z + times k (fieldsOf t)) × (leavesThen t r ≡ x) × BodyMayEnd inside r
 
     abbrev ItemsSound : Bool → ℕ → (List ℕ → List Token → Result (Tree items)) → Type 0
     ItemsSound inside p next = (z : List ℕ) → Once z → (x : List Token) (t : Tree items) (r : List Token) → next z x ≡ got t r → ItemsRight inside p z x t r
@@ -255,7 +255,7 @@ module _ (S : Schema) where
           let g = hn (q ∷ z) new s u v c1 in
           got-to (ItemsRight inside p z (word w ∷ x)) d1 ((ef, c, k .0, k .1, g .0), (λ j. omega (arith, g .1 j)), (λ j h. omega (arith, g .2 j h)), rw (g .3, k .2, ← ey), g .4))))))
 
-    items-end : (inside : Bool) (p : ℕ) (z : List ℕ) → Once z → (x : List Token) (t : Tree items) (r : List Token) → (endNumber inside (allIn (requiredOf S (S .tagged p)) z) x ≡ 0 → (allIn (requiredOf S (S .tagged p)) z ≡ true) × Ends inside x) → bodyEnds inside (allIn (requiredOf S (S .tagged p)) z) noItem x ≡ got t r → ItemsRight inside p z x t r
+    items-end : (inside : Bool) (p : ℕ) (z : List ℕ) → Once z → (x : List Token) (t : Tree items) (r : List Token) → (endNumber inside (allIn (requiredOf S (S .tagged p)) z) x ≡ 0 → (allIn (requiredOf S (S .tagged p)) z ≡ true) × BodyMayEnd inside x) → bodyEnds inside (allIn (requiredOf S (S .tagged p)) z) noItem x ≡ got t r → ItemsRight inside p z x t r
     unfolding Law leavesThen fieldsOf times
     items-end inside p z o x t r h e = ends-got inside _ noItem x e (λ a b.
         let g = h a in
@@ -273,7 +273,7 @@ module _ (S : Schema) where
     items-sound inside p (suc fuel) z o (closing ∷ x) t r e = items-end inside p z o (closing ∷ x) t r (end-closing inside _ x) e
 
     abbrev pub BodyRight : Bool → ℕ → List ℕ → List Token → Tree body → List Token → Type 0
-    BodyRight inside p qs x t r = Law S (p, qs) t × (leavesThen t r ≡ x) × Ends inside r
+    BodyRight inside p qs x t r = Law S (p, qs) t × (leavesThen t r ≡ x) × BodyMayEnd inside r
 
     list-then : (inside : Bool) (p q : ℕ) (qs : List ℕ) (next : List Token → Result (Tree body)) → ((y : List Token) (b : Tree body) (s : List Token) → next y ≡ got b s → BodyRight inside p qs y b s) → (x : List Token) (t : Tree body) (r : List Token) → listThen S valueOf next q x ≡ got t r → BodyRight inside p (q ∷ qs) x t r
     unfolding listThen Law leavesThen
@@ -282,7 +282,7 @@ module _ (S : Schema) where
         let g = h y u s c in
         got-to (BodyRight inside p (q ∷ qs) x) d ((qs, refl, k .0, k .1, g .0), rw (g .1, k .2), g .2)))
 
-    stop-sound : (inside : Bool) (p q : ℕ) (qs : List ℕ) (x : List Token) (t : Tree body) (r : List Token) → (endNumber inside (eqb (S .lo q) 0) x ≡ 0 → (eqb (S .lo q) 0 ≡ true) × Ends inside x) → bodyEnds inside (eqb (S .lo q) 0) stopped x ≡ got t r → BodyRight inside p (q ∷ qs) x t r
+    stop-sound : (inside : Bool) (p q : ℕ) (qs : List ℕ) (x : List Token) (t : Tree body) (r : List Token) → (endNumber inside (eqb (S .lo q) 0) x ≡ 0 → (eqb (S .lo q) 0 ≡ true) × BodyMayEnd inside x) → bodyEnds inside (eqb (S .lo q) 0) stopped x ≡ got t r → BodyRight inside p (q ∷ qs) x t r
     unfolding Law leavesThen
     stop-sound inside p q qs x t r h e = ends-got inside _ stopped x e (λ a b.
         let g = h a in
@@ -302,7 +302,7 @@ module _ (S : Schema) where
     lists-sound inside p (q ∷ qs) (closing ∷ x) t r e = stop-sound inside p q qs (closing ∷ x) t r (end-closing inside _ x) e
 
   -- every body that is read is lawful, at any depth
-  pub body-sound : WellFormed S → (depth : ℕ) (inside : Bool) (p : ℕ) (x : List Token) (t : Tree body) (r : List Token) → bodyAt S depth inside p x ≡ got t r → Law S (p, S .untagged p) t × (leavesThen t r ≡ x) × Ends inside r
+  pub body-sound : WellFormed S → (depth : ℕ) (inside : Bool) (p : ℕ) (x : List Token) (t : Tree body) (r : List Token) → bodyAt S depth inside p x ≡ got t r → Law S (p, S .untagged p) t × (leavesThen t r ≡ x) × BodyMayEnd inside r
   unfolding bodyAt
   body-sound W zero inside p x t r e = clash e
   body-sound W (suc depth) inside p x t r e =

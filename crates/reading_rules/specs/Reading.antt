@@ -111,6 +111,25 @@ balancedFrom (closing ∷ r) (suc k) = balancedFrom r k
 abbrev pub Balanced : List Token → Type 0
 Balanced ts = balancedFrom ts 0 ≡ true
 
+-- how many `{`, and how many `}`, a row of tokens has
+unfoldable pub opened : List Token → ℕ
+opened [] = 0
+opened (word w ∷ r) = opened r
+opened (string w ∷ r) = opened r
+opened (equals ∷ r) = opened r
+opened (comma ∷ r) = opened r
+opened (opening ∷ r) = suc (opened r)
+opened (closing ∷ r) = opened r
+
+unfoldable pub closed : List Token → ℕ
+closed [] = 0
+closed (word w ∷ r) = closed r
+closed (string w ∷ r) = closed r
+closed (equals ∷ r) = closed r
+closed (comma ∷ r) = closed r
+closed (opening ∷ r) = closed r
+closed (closing ∷ r) = suc (closed r)
+
 -- how many values a list has
 unfoldable pub count : Tree list → ℕ
 count (last v) = 1

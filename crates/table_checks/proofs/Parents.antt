@@ -16,29 +16,29 @@ use Rattle.table_records.proofs.Laws.{record-at, record-past}
 -- ---- any parent that a number gives
 
 -- a number of a parent is none's, and the parent none, or its own
-data Read : ℕ → Up → Type 0 where
-  none : Read none16 top
-  some : {x : ℕ} → (x ≡ none16 → ⊥) → Read x (under x)
+data ParentRead : ℕ → Up → Type 0 where
+  none : ParentRead none16 top
+  some : {x : ℕ} → (x ≡ none16 → ⊥) → ParentRead x (under x)
 
-read : (x : ℕ) → Read x (numberUp x)
+read : (x : ℕ) → ParentRead x (numberUp x)
 unfolding numberUp
 read x = go (eqb x none16) refl
   where
-    go : (b : Bool) → eqb x none16 ≡ b → Read x (pick b top (under x))
+    go : (b : Bool) → eqb x none16 ≡ b → ParentRead x (pick b top (under x))
     go true e = unfold pick in (rw (eqb-true x none16 e) none)
     go false e = unfold pick in (some (eqb-false x none16 e))
 
-number-of : {x : ℕ} {u : Up} → Read x u → upNumber u ≡ x
+number-of : {x : ℕ} {u : Up} → ParentRead x u → upNumber u ≡ x
 unfolding upNumber
 number-of none = refl
 number-of (some h) = refl
 
-read-top : {x : ℕ} {u : Up} → Read x u → eqb x none16 ≡ isTop u
+read-top : {x : ℕ} {u : Up} → ParentRead x u → eqb x none16 ≡ isTop u
 unfolding isTop
 read-top none = refl
 read-top {x} (some h) = ne-eqb x none16 h
 
-read-same : {x y : ℕ} {u v : Up} → Read x u → Read y v → eqb x y ≡ sameUp u v
+read-same : {x y : ℕ} {u v : Up} → ParentRead x u → ParentRead y v → eqb x y ≡ sameUp u v
 unfolding sameUp
 read-same none none = refl
 read-same {y = y} none (some h) = ne-eqb none16 y (λ e. h (sym e))
@@ -47,7 +47,7 @@ read-same (some h) (some k) = refl
 
 -- ---- the parents of records
 
-parent-read : (t unpacked : List ℕ) (i p : ℕ) → p ≡ upNumber (recordIn t unpacked i .parent) → Read p (recordIn t unpacked i .parent)
+parent-read : (t unpacked : List ℕ) (i p : ℕ) → p ≡ upNumber (recordIn t unpacked i .parent) → ParentRead p (recordIn t unpacked i .parent)
 unfolding recordIn
 parent-read t unpacked i p e = let r = read _ in rw (e ∙ number-of r) r
 
@@ -66,14 +66,14 @@ module _ (t unpacked : List ℕ) where
   pub parent-top : (i p : ℕ) → p ≡ upNumber (recordIn t unpacked i .parent) → p ≡ none16 → recordIn t unpacked i .parent ≡ top
   parent-top i p e z = go (parent-read t unpacked i p e) z
     where
-      go : {x : ℕ} {u : Up} → Read x u → x ≡ none16 → u ≡ top
+      go : {x : ℕ} {u : Up} → ParentRead x u → x ≡ none16 → u ≡ top
       go none z = refl
       go (some h) z = absurd (h z)
 
   pub parent-under : (i p : ℕ) → p ≡ upNumber (recordIn t unpacked i .parent) → (p ≡ none16 → ⊥) → recordIn t unpacked i .parent ≡ under p
   parent-under i p e z = go (parent-read t unpacked i p e) z
     where
-      go : {x : ℕ} {u : Up} → Read x u → (x ≡ none16 → ⊥) → u ≡ under x
+      go : {x : ℕ} {u : Up} → ParentRead x u → (x ≡ none16 → ⊥) → u ≡ under x
       go none z = absurd (z refl)
       go (some h) z = refl
 

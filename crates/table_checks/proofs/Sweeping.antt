@@ -23,13 +23,13 @@ use Rattle.table_checks.proofs.Bodies.{over-more, over-marks, step-is}
 
 -- ---- sets of parameters
 
-abbrev pub In : List Bool → List Bool → Type 0
-In s t = (i : ℕ) → getD s i false ≡ true → getD t i false ≡ true
+abbrev pub MarksIn : List Bool → List Bool → Type 0
+MarksIn s t = (i : ℕ) → getD s i false ≡ true → getD t i false ≡ true
 
-abbrev Up : Bool → Bool → Type 0
-Up a b = a ≡ true → b ≡ true
+abbrev MarkImplies : Bool → Bool → Type 0
+MarkImplies a b = a ≡ true → b ≡ true
 
-set-keeps : (s : List Bool) (k : ℕ) → In s (set s k true)
+set-keeps : (s : List Bool) (k : ℕ) → MarksIn s (set s k true)
 set-keeps [] k i e = e
 set-keeps (a ∷ s) zero zero e = refl
 set-keeps (a ∷ s) zero (suc i) e = e
@@ -70,17 +70,17 @@ module _ (rs : List Record) where
   unfolding recordAt
   round-step have k h = round-at rs have 0 rs k h ∙ ap (λ (j : ℕ). finiteStep rs have j (getD rs k blank)) (omega arith)
 
-  pub closed-at : (k : ℕ) → k < length rs → Up (stepAt (finites rs) k) (getD (finites rs) k false)
+  pub closed-at : (k : ℕ) → k < length rs → MarkImplies (stepAt (finites rs) k) (getD (finites rs) k false)
   closed-at k h e = sub-at _ _ (finites-closed rs) k (round-step (finites rs) k h ∙ e)
 
   -- ---- one parameter
 
   module _ (have : List Bool) (i : ℕ) where
-    not-added : isAdded rs have i ≡ false → (added rs have i ≡ have) × Up (stepAt have i) (getD have i false)
+    not-added : isAdded rs have i ≡ false → (added rs have i ≡ have) × MarkImplies (stepAt have i) (getD have i false)
     unfolding added addIf
     not-added e = (unfold pick in (rw e), unfold isAdded in (go (getD have i false) e))
       where
-        go : (b : Bool) → pick b false (stepAt have i) ≡ false → Up (stepAt have i) b
+        go : (b : Bool) → pick b false (stepAt have i) ≡ false → MarkImplies (stepAt have i) b
         go true z s = refl
         go false z s = unfold pick in (clash-bool (sym z ∙ s))
 
@@ -92,15 +92,15 @@ module _ (rs : List Record) where
         go true = unfold pick in (length-set have i true)
         go false = unfold pick in refl
 
-    added-grows : In have (added rs have i)
+    added-grows : MarksIn have (added rs have i)
     unfolding added addIf
     added-grows = go (isAdded rs have i)
       where
-        go : (b : Bool) → In have (pick b (set have i true) have)
+        go : (b : Bool) → MarksIn have (pick b (set have i true) have)
         go true = unfold pick in (set-keeps have i)
         go false = unfold pick in (λ k e. e)
 
-    added-got : i < length have → Up (stepAt have i) (getD (added rs have i) i false)
+    added-got : i < length have → MarkImplies (stepAt have i) (getD (added rs have i) i false)
     unfolding added addIf isAdded
     added-got h e = go (getD have i false) (stepAt have i) refl e
       where
@@ -109,7 +109,7 @@ module _ (rs : List Record) where
         go false true z f = unfold pick in (getD-set-same have i true false h)
         go false false z f = clash-bool f
 
-    added-within : i < length rs → In have (finites rs) → In (added rs have i) (finites rs)
+    added-within : i < length rs → MarksIn have (finites rs) → MarksIn (added rs have i) (finites rs)
     unfolding added addIf isAdded
     added-within h w = go (getD have i false) (stepAt have i) refl
       where
@@ -117,19 +117,19 @@ module _ (rs : List Record) where
         new e k (inl z) = rw z (closed-at i h (step-grows have (finites rs) w rs i (recordAt rs i) e))
         new e k (inr z) = w k z
 
-        go : (b d : Bool) → stepAt have i ≡ d → In (pick (pick b false d) (set have i true) have) (finites rs)
+        go : (b d : Bool) → stepAt have i ≡ d → MarksIn (pick (pick b false d) (set have i true) have) (finites rs)
         go true d e = unfold pick in w
         go false true e = unfold pick in (λ k z. new e k (set-case have i k z))
         go false false e = unfold pick in w
 
   -- ---- a sweep
 
-  swept-grows : (i : ℕ) (have : List Bool) → In have (swept rs i have)
+  swept-grows : (i : ℕ) (have : List Bool) → MarksIn have (swept rs i have)
   unfolding swept
   swept-grows zero have k e = e
   swept-grows (suc i) have k e = swept-grows i (added rs have i) k (added-grows have i k e)
 
-  swept-got : (i : ℕ) (have : List Bool) (k : ℕ) → k < i → i ≤ length have → Up (stepAt have k) (getD (swept rs i have) k false)
+  swept-got : (i : ℕ) (have : List Bool) (k : ℕ) → k < i → i ≤ length have → MarkImplies (stepAt have k) (getD (swept rs i have) k false)
   unfolding swept
   swept-got zero have k h l e = absurd (omega arith)
   swept-got (suc i) have k h l e = go (eqb k i) refl (λ m. swept-got i (added rs have i) k m (rw (added-length have i) (omega arith)) (step-grows have (added rs have i) (added-grows have i) rs k (recordAt rs k) e))
@@ -138,7 +138,7 @@ module _ (rs : List Record) where
       go true z f = let q = eqb-true k i z in swept-grows i (added rs have i) k (rw q (added-got have i (omega arith) (rw q at e)))
       go false z f = let q = eqb-false k i z in f (omega arith)
 
-  swept-within : (i : ℕ) (have : List Bool) → i ≤ length rs → In have (finites rs) → In (swept rs i have) (finites rs)
+  swept-within : (i : ℕ) (have : List Bool) → i ≤ length rs → MarksIn have (finites rs) → MarksIn (swept rs i have) (finites rs)
   unfolding swept
   swept-within zero have h w = w
   swept-within (suc i) have h w = swept-within i (added rs have i) (omega arith) (added-within have i (omega arith) w)
@@ -147,40 +147,40 @@ module _ (rs : List Record) where
   none = replicate (length rs) false
 
   -- as far as one round more
-  swept-ahead : (m : ℕ) (have : List Bool) → length rs ≤ length have → In (rounds m rs none) have → In (rounds (suc m) rs none) (swept rs (length rs) have)
+  swept-ahead : (m : ℕ) (have : List Bool) → length rs ≤ length have → MarksIn (rounds m rs none) have → MarksIn (rounds (suc m) rs none) (swept rs (length rs) have)
   swept-ahead m have l w k e =
       let z = rw (rounds-more m rs none) at e in
       let h = round-in rs (rounds m rs none) 0 rs k z in
       swept-got (length rs) have k h l (step-grows (rounds m rs none) have w rs k (recordAt rs k) (sym (round-step (rounds m rs none) k h) ∙ z))
 
   -- where a sweep adds nothing, no step does
-  swept-still : (i : ℕ) (have : List Bool) → sweepAdds rs i have ≡ false → (swept rs i have ≡ have) × ((k : ℕ) → k < i → Up (stepAt have k) (getD have k false))
+  swept-still : (i : ℕ) (have : List Bool) → sweepAdds rs i have ≡ false → (swept rs i have ≡ have) × ((k : ℕ) → k < i → MarkImplies (stepAt have k) (getD have k false))
   unfolding swept sweepAdds
   swept-still zero have e = (refl, λ k h s. absurd (omega arith))
   swept-still (suc i) have e = go (isAdded rs have i) refl e (swept-still i have)
     where
-      one : (k : ℕ) (b : Bool) → eqb k i ≡ b → stepAt have k ≡ true → (k < i → getD have k false ≡ true) → Up (stepAt have i) (getD have i false) → k < suc i → getD have k false ≡ true
+      one : (k : ℕ) (b : Bool) → eqb k i ≡ b → stepAt have k ≡ true → (k < i → getD have k false ≡ true) → MarkImplies (stepAt have i) (getD have i false) → k < suc i → getD have k false ≡ true
       one k true z s f g h = let q = eqb-true k i z in rw q (g (rw q at s))
       one k false z s f g h = let q = eqb-false k i z in f (omega arith)
 
-      go : (b : Bool) → isAdded rs have i ≡ b → b || sweepAdds rs i (added rs have i) ≡ false → (sweepAdds rs i have ≡ false → (swept rs i have ≡ have) × ((k : ℕ) → k < i → Up (stepAt have k) (getD have k false))) → (swept rs i (added rs have i) ≡ have) × ((k : ℕ) → k < suc i → Up (stepAt have k) (getD have k false))
+      go : (b : Bool) → isAdded rs have i ≡ b → b || sweepAdds rs i (added rs have i) ≡ false → (sweepAdds rs i have ≡ false → (swept rs i have ≡ have) × ((k : ℕ) → k < i → MarkImplies (stepAt have k) (getD have k false))) → (swept rs i (added rs have i) ≡ have) × ((k : ℕ) → k < suc i → MarkImplies (stepAt have k) (getD have k false))
       go true z e r = clash-bool (sym e)
       go false z e r =
           let q = not-added have i z in
           let y = r (rw (q .0) at e) in
           (rw (q .0) (y .0), λ k h s. one k (eqb k i) refl s (λ l. y .1 k l s) (q .1) h)
 
-  rounds-closed : (have : List Bool) → ((k : ℕ) → k < length rs → Up (stepAt have k) (getD have k false)) → (m : ℕ) → In (rounds m rs none) have
+  rounds-closed : (have : List Bool) → ((k : ℕ) → k < length rs → MarkImplies (stepAt have k) (getD have k false)) → (m : ℕ) → MarksIn (rounds m rs none) have
   rounds-closed have c zero k e = unfold rounds in (clash-bool (sym (no-mark (length rs) k) ∙ e))
   rounds-closed have c (suc m) k e =
       let z = rw (rounds-more m rs none) at e in
       let h = round-in rs (rounds m rs none) 0 rs k z in
       c k h (step-grows (rounds m rs none) have (rounds-closed have c m) rs k (recordAt rs k) (sym (round-step (rounds m rs none) k h) ∙ z))
 
-  both-in : (s t : List Bool) → In s t → In t s → (i : ℕ) → getD s i false ≡ getD t i false
+  both-in : (s t : List Bool) → MarksIn s t → MarksIn t s → (i : ℕ) → getD s i false ≡ getD t i false
   both-in s t f g i = go (getD s i false) (getD t i false) (f i) (g i)
     where
-      go : (a b : Bool) → Up a b → Up b a → a ≡ b
+      go : (a b : Bool) → MarkImplies a b → MarkImplies b a → a ≡ b
       go true b f g = sym (f refl)
       go false true f g = g refl
       go false false f g = refl
@@ -188,12 +188,12 @@ module _ (rs : List Record) where
   -- ---- the sweeps
 
   -- after k of them
-  pub record Going (k : ℕ) (have : List Bool) : Type 0 where
+  pub record SweptSoFar (k : ℕ) (have : List Bool) : Type 0 where
     pub room : length rs ≤ length have
-    pub within : In have (finites rs)
-    pub ahead : In (rounds k rs none) have
+    pub within : MarksIn have (finites rs)
+    pub ahead : MarksIn (rounds k rs none) have
 
-  pub going-start : (have : List Bool) → length rs ≤ length have → NoneMarked have → Going 0 have
+  pub going-start : (have : List Bool) → length rs ≤ length have → NoneMarked have → SweptSoFar 0 have
   unfolding rounds
   going-start have r e = record {
     room = r;
@@ -201,8 +201,8 @@ module _ (rs : List Record) where
     ahead = λ i z. clash-bool (sym (no-mark (length rs) i) ∙ z);
   }
 
-  module _ (k : ℕ) (have after : List Bool) (more : Bool) (s : length after ≡ length have) (w : Swept rs have after more) (g : Going k have) where
-    pub going-more : Going (k + 1) after
+  module _ (k : ℕ) (have after : List Bool) (more : Bool) (s : length after ≡ length have) (w : Swept rs have after more) (g : SweptSoFar k have) where
+    pub going-more : SweptSoFar (k + 1) after
     going-more = record {
       room = omega (arith, g .room);
       within = rw (w .marks) (swept-within (length rs) have (omega arith) (g .within));
@@ -215,11 +215,11 @@ module _ (rs : List Record) where
         let q = swept-still (length rs) have (sym (w .adds) ∙ z) in
         rw (w .marks ∙ q .0) (both-in have (rounds (length rs) rs none) (g .within) (rounds-closed have (λ i h. q .1 i h) (length rs)))
 
-  pub going-end : (k : ℕ) (have : List Bool) → k ≡ length rs → Going k have → HasFinites rs have
+  pub going-end : (k : ℕ) (have : List Bool) → k ≡ length rs → SweptSoFar k have → HasFinites rs have
   unfolding finites
   going-end k have e g = both-in have (rounds (length rs) rs none) (g .within) (go (length rs) (sym e))
     where
-      go : (m : ℕ) → m ≡ k → In (rounds m rs none) have
+      go : (m : ℕ) → m ≡ k → MarksIn (rounds m rs none) have
       go m z = rw z (g .ahead)
 
 -- ---- a sweep as it is worked out

@@ -17,7 +17,7 @@ use Rattle.reading_rules.proofs.CountLaws.{clash-bool, and-both}
 use Rattle.reading_rules.proofs.Rules.{ReadingRules}
 use Rattle.definition_rules.specs.Faults.{isUnionAt, voidMany, anyOf, anyBefore, parentKind, beside, misplacedField, misplacedAlternative, misplacedUntagged, numberTag, voidTop, pluginUndotted, rule7Broken, hasWireTag, tagRepeated}
 use Rattle.table_rules.specs.RecordRules.{ordered, kindsOfRecords, recordFine, everyRecord, noneBroken, shownNames, allNew, recordChecks, recordRules}
-use Rattle.table_rules.proofs.RuleFacts.{Fine, fine-of}
+use Rattle.table_rules.proofs.RuleFacts.{FineRecord, fine-of}
 
 -- the rules that concern values: the form of each record, rule 7, "one wire tag twice"; no word of number 10
 pub record Formed (rs : List Record) : Type 0 where
@@ -110,7 +110,7 @@ parent-union rs u p k e = ap (λ v. eqb (parentKind rs v) 9) e ∙ eq-eqb (recor
 -- ---- each record
 
 module _ (rs : List Record) (F : Formed rs) where
-  pub fine-at : (n : ℕ) → n < length rs → Fine rs (isUnionAt (kindsOfRecords rs)) (recordAt rs n)
+  pub fine-at : (n : ℕ) → n < length rs → FineRecord rs (isUnionAt (kindsOfRecords rs)) (recordAt rs n)
   fine-at n h = fine-of rs (isUnionAt (kindsOfRecords rs)) (recordAt rs n) (every-at (recordFine rs (isUnionAt (kindsOfRecords rs))) rs (F .fine) n h)
 
   pub seven-at : (n : ℕ) → n < length rs → (misplacedUntagged rs n (recordAt rs n) ≡ false) × (numberTag rs n (recordAt rs n) ≡ false) × (voidTop (recordAt rs n) ≡ false) × (pluginUndotted (recordAt rs n) ≡ false)

@@ -109,15 +109,15 @@ uniq-twice (noted s d ∷ r) z h o = rw (off-new (nameKey d) z (h .0)) (uniq-twi
 
 -- ---- a test over declarations, and over records
 
-abbrev pub Passes : (Declaration → Bool) → Declaration → Type 0
-Passes f d = f d ≡ false
+abbrev pub Unbroken : (Declaration → Bool) → Declaration → Type 0
+Unbroken f d = f d ≡ false
 
-pub spots-all : (f : Declaration → Bool) (at : Spots → ℕ) (ns : List Noted) → spotsWhere f at ns ≡ [] → All (Passes f) (declarationsOf ns)
+pub spots-all : (f : Declaration → Bool) (at : Spots → ℕ) (ns : List Noted) → spotsWhere f at ns ≡ [] → All (Unbroken f) (declarationsOf ns)
 unfolding spotsWhere declarationsOf All
 spots-all f at [] e = tt
 spots-all f at (noted s d ∷ r) e = let x = place-none (f d) (at s) (spotsWhere f at r) e in (x .0, spots-all f at r (x .1))
 
-pub all-spots : (f : Declaration → Bool) (at : Spots → ℕ) (ns : List Noted) → All (Passes f) (declarationsOf ns) → spotsWhere f at ns ≡ []
+pub all-spots : (f : Declaration → Bool) (at : Spots → ℕ) (ns : List Noted) → All (Unbroken f) (declarationsOf ns) → spotsWhere f at ns ≡ []
 unfolding spotsWhere declarationsOf All placeIf
 all-spots f at [] h = refl
 all-spots f at (noted s d ∷ r) h = rw (h .0) (all-spots f at r (h .1))

@@ -20,7 +20,7 @@ use Rattle.definition_rules.specs.Faults.{nameBroken, referenceBroken, tagBroke
 use Rattle.table_rules.specs.RecordRules.{kindsOfRecords, isSingleValue, showsName, labelFine}
 use Rattle.table_rules.proofs.FreshNames.{fresh, fresh-ok}
 use Rattle.table_rules.proofs.Spelling.{RunBytes}
-use Rattle.table_rules.proofs.Witness.{writeRange, runAt, keywordOf, runOf, typeFor, shows, tagFor, cardFor, rangeFor, DistinctTops, find-at, most-lt, count-is, range-is, declarationFor, RecordOk, type-kind, declarationsFor}
+use Rattle.table_rules.proofs.Witness.{writeRange, nthRun, keywordOf, runBytes, typeFor, shows, tagFor, cardFor, rangeFor, DistinctTops, find-at, most-lt, count-is, range-is, declarationFor, RecordOk, type-kind, declarationsFor}
 use Rattle.table_rules.proofs.GoodTokens.{name-runs, tag-runs, range-runs, count-runs, OptRuns, TagRuns, GoodDeclaration, keyword-runs}
 use Rattle.table_rules.proofs.TextSize.{runLength, SmallRun, SmallTag, SmallHeading, SmallDeclaration, range-length, count-length, keyword-length}
 
@@ -87,7 +87,7 @@ module _ (T : List MaybeRun) (A : ℕ → Bool) (q : ℕ) (o : DistinctTops T) (
         by (explicit v) e = unfold tagBrokenIn TagCase in (rw e)
 
     ref-name : eqb (r .kind) 10 ≡ true → nameForm (typeFor T (r .kind) (r .target)) ≡ true
-    unfolding typeFor pick runOf
+    unfolding typeFor pick runBytes
     ref-name e = let x = s .0 .to e in rw (e, x .1) (x .2)
 
     pub reference-passes : referenceBroken (declarationFor T A q i r) ≡ false
@@ -111,15 +111,15 @@ module _ (T : List MaybeRun) (A : ℕ → Bool) (q : ℕ) (o : DistinctTops T) (
     dangling-passes t l = rw made-type (by (eqb (r .kind) 10) refl)
       where
         by : (b : Bool) → eqb (r .kind) 10 ≡ b → b && eqb (orNone (findTop T 0 (typeFor T (r .kind) (r .target)))) none16 ≡ false
-        by true e = let x = s .0 .to e in unfold typeFor pick runOf orNone in (rw (e, x .1, find-at T 0 (r .target) (x .0) o (x .1)) (ne-eqb (0 + r .target) none16 (λ z. omega (arith, l e))))
+        by true e = let x = s .0 .to e in unfold typeFor pick runBytes orNone in (rw (e, x .1, find-at T 0 (r .target) (x .0) o (x .1)) (ne-eqb (0 + r .target) none16 (λ z. omega (arith, l e))))
         by false e = refl
 
     pub good-made : GoodDeclaration (declarationFor T A q i r)
     unfolding GoodDeclaration declarationFor typeFor rangeFor
     good-made = (ty (eqb (r .kind) 10) refl, rn (kindTakesRange (r .kind)), name-runs _ made-name, ca (isSingleValue A (r .parent)), ta (tagFor (r .parent) (r .untagged) (r .label)) made-tag)
       where
-        ty : (x : Bool) → eqb (r .kind) 10 ≡ x → RunBytes (pick x (runOf (runAt T (r .target))) (keywordOf (r .kind)))
-        ty true e = unfold pick runOf in (let z = s .0 .to e in rw (z .1) (name-runs (z .0) (z .2)))
+        ty : (x : Bool) → eqb (r .kind) 10 ≡ x → RunBytes (pick x (runBytes (nthRun T (r .target))) (keywordOf (r .kind)))
+        ty true e = unfold pick runBytes in (let z = s .0 .to e in rw (z .1) (name-runs (z .0) (z .2)))
         ty false e = unfold pick in keyword-runs (r .kind) (s .0 .kind-lo)
 
         rn : (x : Bool) → OptRuns (pick x (given (writeRange (r .least) (r .most))) absent)
@@ -143,8 +143,8 @@ module _ (T : List MaybeRun) (A : ℕ → Bool) (q : ℕ) (o : DistinctTops T) (
         rg true = unfold pick runLength in (range-length (r .least) (r .most) (omega (arith, s .0 .range-mid, s .0 .range-hi, most-lt (r .kind))) (omega (arith, s .0 .range-hi, most-lt (r .kind))))
         rg false = unfold pick runLength in omega arith
 
-        ty : (x : Bool) → eqb (r .kind) 10 ≡ x → length (pick x (runOf (runAt T (r .target))) (keywordOf (r .kind))) + runLength (rangeFor (r .kind) (r .least) (r .most)) ≤ 63
-        ty true e = unfold pick runOf runLength in (let z = s .0 .to e in rw (z .1, reference-no-range (r .kind) (r .least) (r .most) e) (omega (arith, name-len (z .0) (z .2))))
+        ty : (x : Bool) → eqb (r .kind) 10 ≡ x → length (pick x (runBytes (nthRun T (r .target))) (keywordOf (r .kind))) + runLength (rangeFor (r .kind) (r .least) (r .most)) ≤ 63
+        ty true e = unfold pick runBytes runLength in (let z = s .0 .to e in rw (z .1, reference-no-range (r .kind) (r .least) (r .most) e) (omega (arith, name-len (z .0) (z .2))))
         ty false e = unfold pick rangeFor in (omega (arith, keyword-length (r .kind), rg (kindTakesRange (r .kind))))
 
         ca : (x : Bool) → SmallRun 12 (cardFor x (r .loCount) (r .hiCount))

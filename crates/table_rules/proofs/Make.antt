@@ -24,7 +24,7 @@ use Rattle.table_rules.specs.Endless.{areTokens}
 use Rattle.table_rules.specs.RecordRules.{showsName, labelFine}
 use Rattle.table_rules.proofs.RuleFacts.{flag-of}
 use Rattle.table_rules.proofs.Facts.{Formed, and-off, fine-at, seven-at, apart, untagged-is, tagged-is, bare-at}
-use Rattle.table_rules.proofs.Steps.{where-in, in-where, where-once, put, cut, required, needs, Step, ClosedSet, field-at, untagged-in}
+use Rattle.table_rules.proofs.Steps.{where-in, in-where, where-once, put, noneIf, required, needs, StepGives, ClosedSet, field-at, untagged-in}
 use Rattle.table_rules.proofs.Needed.{required-le, first-in, kind-is, target-at}
 use Rattle.table_rules.proofs.Words.{tag-token, int-value, simple-value}
 use Rattle.reading_rules.proofs.Inverse.{required-is}
@@ -183,7 +183,7 @@ module _ (rs : List Record) (F : Formed rs) where
         plugless false b d e h = refl
 
     mk-body : (us : List ℕ) → ((q : ℕ) → In q us → In q (S .untagged p)) → ((q : ℕ) → In q (needs S (required S p) us) → Have rs q) → (c : Tree body) × Law S (p, us) c × Real c
-    unfolding Law needs cut put leavesThen
+    unfolding Law needs noneIf put leavesThen
     mk-body [] u h =
         let t : (q : ℕ) → In q (required S p) → In q (S .tagged p) = λ q z. required-is S q (S .tagged p) z .0 in
         let g = mk-items (required S p) t (λ q z. required-is S q (S .tagged p) z .2) h in
@@ -191,7 +191,7 @@ module _ (rs : List Record) (F : Formed rs) where
         (itemized (g .0), (refl, g .1, (λ k. rw (g .2) (omega (arith, required-le S k (S .tagged p), o k))), (λ k z x y. rw (g .2) (required-in S k (S .tagged p) z x y))), g .3)
     mk-body (q ∷ us) u h = go (eqb (S .lo q) 0) refl (rw (must q (u q (in-head q us)) .0) at h) (λ z. mk-body us (λ k y. u k (in-tail k q us y)) z)
       where
-        go : (t : Bool) → eqb (S .lo q) 0 ≡ t → ((k : ℕ) → In k (cut t (q ∷ needs S (required S p) us)) → Have rs k) → (((k : ℕ) → In k (needs S (required S p) us) → Have rs k) → (c : Tree body) × Law S (p, us) c × Real c) → (c : Tree body) × Law S (p, q ∷ us) c × Real c
+        go : (t : Bool) → eqb (S .lo q) 0 ≡ t → ((k : ℕ) → In k (noneIf t (q ∷ needs S (required S p) us)) → Have rs k) → (((k : ℕ) → In k (needs S (required S p) us) → Have rs k) → (c : Tree body) × Law S (p, us) c × Real c) → (c : Tree body) × Law S (p, q ∷ us) c × Real c
         go true e h r = (stopped, (q, us, refl, eqb-true (S .lo q) 0 e), λ r z. z)
         go false e h r = more-of (h q (in-head q (needs S (required S p) us))) (r (λ k z. h k (in-tail k q (needs S (required S p) us) z)))
           where
@@ -291,8 +291,8 @@ module _ (rs : List Record) (F : Formed rs) where
       go (some v n l a) = some v (rw e) (law-core S p (recordAt rs p .target) (to ∙ sym (own (recordAt rs p .target) no-reference)) v l) a
 
   pub have-closed : ClosedSet rs (Have rs)
-  unfolding Step schemaOf
-  have-closed p h = kind-is (recordAt rs p .kind) (λ k. kindOf (recordAt rs p .kind) ≡ k → Step rs (Have rs) p k → Have rs p)
+  unfolding StepGives schemaOf
+  have-closed p h = kind-is (recordAt rs p .kind) (λ k. kindOf (recordAt rs p .kind) ≡ k → StepGives rs (Have rs) p k → Have rs p)
       (λ k e s. none (unfold isVoid in (ap isVoid e)))
       (λ k e s. has-struct p h k e s)
       (λ k e s. has-union p (s .0) h k e (s .1) (s .2) (s .3))

@@ -16,7 +16,7 @@ use Rattle.classes.specs.Lists.{pick}
 use Rattle.table_rules.specs.RecordRules.{isTopAt, targetFine}
 use Rattle.table_rules.proofs.RuleFacts.{top-lt}
 use Rattle.table_rules.proofs.Facts.{Formed, fine-at}
-use Rattle.table_rules.proofs.Steps.{put, cut}
+use Rattle.table_rules.proofs.Steps.{put, noneIf}
 use Rattle.reading_rules.specs.Parse.{requiredOf}
 
 pub required-le : (S : Schema) (k : ℕ) (l : List ℕ) → times k (requiredOf S l) ≤ times k l
@@ -28,8 +28,8 @@ required-le S k (q ∷ l) = go (S .optional q || eqb (S .lo q) 0) (required-le S
     go true h = omega arith
     go false h = omega arith
 
-pub in-cut : {X : Type 0} (t o : Bool) (k q : ℕ) (l : List ℕ) → In k (cut t (put o q l)) → (q ≡ k → X) → (In k l → X) → X
-unfolding cut put
+pub in-cut : {X : Type 0} (t o : Bool) (k q : ℕ) (l : List ℕ) → In k (noneIf t (put o q l)) → (q ≡ k → X) → (In k l → X) → X
+unfolding noneIf put
 in-cut true o k q l h x y = in-nil k h
 in-cut false true k q l h x y = y h
 in-cut false false k q l h x y = in-cons k q l h x y

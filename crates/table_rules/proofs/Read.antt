@@ -11,7 +11,7 @@ use Rattle.reading_rules.specs.Count.{In}
 use Rattle.reading_rules.proofs.CountLaws.{clash-bool, and-both, in-nil, in-head, in-tail, in-cons}
 use Rattle.reading_rules.specs.Reading.{TreeSort, unknownValue, unknownList, value, list, body, items, Tree, unknownWord, unknownString, unknownBraces, unknownPair, unknownLast, unknownMore, leaf, braced, chosenVoid, chosen, chosenInt, last, more, listed, stopped, itemized, noItem, voidItem, listItem, unknownItem, unknownListItem, fieldsOf, For, Law}
 use Rattle.table_rules.proofs.Facts.{Formed, bare-at, kind-union}
-use Rattle.table_rules.proofs.Steps.{cut, required, needs, Step, ClosedSet, untagged-in}
+use Rattle.table_rules.proofs.Steps.{noneIf, required, needs, StepGives, ClosedSet, untagged-in}
 use Rattle.table_rules.proofs.Needed.{in-cut, first-in, find-is, kind-is, target-at}
 use Rattle.reading_rules.proofs.Inverse.{required-is}
 
@@ -28,28 +28,28 @@ module _ (rs : List Record) (F : Formed rs) (P : ℕ → Type 0) (c : ClosedSet 
   S = schemaOf rs
 
   by-void : (p : ℕ) → p < length rs → isVoid (S .kind p) ≡ true → P p
-  unfolding Step schemaOf
-  by-void p h e = c p h (subst (λ k. Step rs P p k) (sym (void-is (kindOf (recordAt rs p .kind)) e)) tt)
+  unfolding StepGives schemaOf
+  by-void p h e = c p h (subst (λ k. StepGives rs P p k) (sym (void-is (kindOf (recordAt rs p .kind)) e)) tt)
 
   by-simple : (p : ℕ) → p < length rs → S .kind p ≡ simple → P p
-  unfolding Step schemaOf
-  by-simple p h e = c p h (subst (λ k. Step rs P p k) (sym e) tt)
+  unfolding StepGives schemaOf
+  by-simple p h e = c p h (subst (λ k. StepGives rs P p k) (sym e) tt)
 
   by-struct : (p : ℕ) → p < length rs → S .kind p ≡ struct → ((q : ℕ) → In q (needs S (required S p) (S .untagged p)) → P q) → P p
-  unfolding Step schemaOf
-  by-struct p h e g = c p h (subst (λ k. Step rs P p k) (sym e) g)
+  unfolding StepGives schemaOf
+  by-struct p h e g = c p h (subst (λ k. StepGives rs P p k) (sym e) g)
 
   by-union : (p q : ℕ) → p < length rs → S .kind p ≡ union → q < length rs → isUnder p (recordAt rs q .parent) ≡ true → P q → P p
-  unfolding Step schemaOf
-  by-union p q h e i u g = c p h (subst (λ k. Step rs P p k) (sym e) (q, i, u, g))
+  unfolding StepGives schemaOf
+  by-union p q h e i u g = c p h (subst (λ k. StepGives rs P p k) (sym e) (q, i, u, g))
 
   core-below : (p : ℕ) → p < length rs → S .core p < length rs
   unfolding schemaOf coreOf
   core-below p h = kind-is (recordAt rs p .kind) (λ k. coreOf p (recordAt rs p .target) k < length rs) (λ e. h) (λ e. h) (λ e. h) (λ e. target-at rs F p h e .0) (λ a b d e. h)
 
   up : (p : ℕ) → p < length rs → P (S .core p) → P p
-  unfolding schemaOf coreOf Step
-  up p h = kind-is (recordAt rs p .kind) (λ k. P (coreOf p (recordAt rs p .target) k) → P p) (λ e x. x) (λ e x. x) (λ e x. x) (λ e x. c p h (subst (λ k. Step rs P p (kindOf k)) (sym e) (unfold kindOf in x))) (λ a b d e x. x)
+  unfolding schemaOf coreOf StepGives
+  up p h = kind-is (recordAt rs p .kind) (λ k. P (coreOf p (recordAt rs p .target) k) → P p) (λ e x. x) (λ e x. x) (λ e x. x) (λ e x. c p h (subst (λ k. StepGives rs P p (kindOf k)) (sym e) (unfold kindOf in x))) (λ a b d e x. x)
 
   under-of : (p q : ℕ) → isTaggedOf p (recordAt rs q) ≡ true → isUnder p (recordAt rs q .parent) ≡ true
   under-of p q e = and-both (isUnder p (recordAt rs q .parent)) _ e (λ a b. a)
@@ -71,7 +71,7 @@ module _ (rs : List Record) (F : Formed rs) (P : ℕ → Type 0) (c : ClosedSet 
   Goal items p t = p < length rs → (q : ℕ) → In q (fieldsOf t) → P q
 
   read : {s : TreeSort} (x : For s) (t : Tree s) → Law S x t → Goal s x t
-  unfolding Law needs cut fieldsOf
+  unfolding Law needs noneIf fieldsOf
   read x (unknownWord w) l = tt
   read x (unknownString w) l = tt
   read x (unknownBraces ts) l = tt

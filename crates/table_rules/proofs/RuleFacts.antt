@@ -17,12 +17,12 @@ use Rattle.reading_rules.specs.Record.{Up, top, under, Record, isTop}
 use Rattle.definition_rules.specs.Records.{kindLeast, kindMost, isNamed}
 use Rattle.definition_rules.specs.Faults.{Key, key}
 use Rattle.table_rules.specs.RecordRules.{isSingleValue, countsFine, rangeFine, isTopAt, targetFine, showsName, labelFine, topFine, recordFine, everyRecord, keyIf, shownNames}
-use Rattle.table_rules.proofs.Witness.{runAt, NotAmong, DistinctTops, RecordOk, topIf, recordTops}
+use Rattle.table_rules.proofs.Witness.{nthRun, NotAmong, DistinctTops, RecordOk, topIf, recordTops}
 use Rattle.table_rules.proofs.ShownNames.{Off, Uniq}
 
 -- ---- what the test of one record says
 
-pub record Fine (rs : List Record) (A : ℕ → Bool) (r : Record) : Type 0 where
+pub record FineRecord (rs : List Record) (A : ℕ → Bool) (r : Record) : Type 0 where
   pub kind-lo : 1 ≤ r .kind
   pub kind-hi : r .kind ≤ 10
   pub count-lo : r .loCount ≤ countLimit
@@ -41,7 +41,7 @@ not-or : (a b : Bool) → not a || b ≡ true → a ≡ true → b ≡ true
 not-or true b e q = e
 not-or false b e q = clash-bool q
 
-pub fine-of : (rs : List Record) (A : ℕ → Bool) (r : Record) → recordFine rs A r ≡ true → Fine rs A r
+pub fine-of : (rs : List Record) (A : ℕ → Bool) (r : Record) → recordFine rs A r ≡ true → FineRecord rs A r
 unfolding recordFine countsFine rangeFine
 fine-of rs A r e =
     let x1 = both-true (leb 1 (r .kind)) _ e in
@@ -72,7 +72,7 @@ fine-of rs A r e =
       topped = x6 .1;
     }
 
-pub of-fine : (rs : List Record) (A : ℕ → Bool) (r : Record) → Fine rs A r → recordFine rs A r ≡ true
+pub of-fine : (rs : List Record) (A : ℕ → Bool) (r : Record) → FineRecord rs A r → recordFine rs A r ≡ true
 unfolding recordFine countsFine rangeFine
 of-fine rs A r f =
     rw (le-leb 1 (r .kind) (f .kind-lo), le-leb (r .kind) 10 (f .kind-hi), le-leb (r .loCount) countLimit (f .count-lo), le-leb 1 (r .hiCount) (f .count-pos), le-leb (r .loCount) (r .hiCount) (f .count-mid), le-leb (r .hiCount) noLimit (f .count-hi), le-leb (kindLeast (r .kind)) (r .least) (f .range-lo), le-leb (r .least) (r .most) (f .range-mid), le-leb (r .most) (kindMost (r .kind)) (f .range-hi), f .aim, f .named, f .topped) (by (isSingleValue A (r .parent)) (f .alone))
@@ -102,8 +102,8 @@ top-shows : (r : Record) → isTop (r .parent) ≡ true → labelFine r ≡ true
 unfolding labelFine showsName
 top-shows r e f = unfold pick in (rw e at f)
 
-pub top-at : (rs : List Record) (t : ℕ) → All (λ r. labelFine r ≡ true) rs → isTopAt rs t ≡ true → (w : List ℕ) × (runAt (recordTops rs) t ≡ given w) × (nameForm w ≡ true)
-unfolding isTopAt runAt recordTops All
+pub top-at : (rs : List Record) (t : ℕ) → All (λ r. labelFine r ≡ true) rs → isTopAt rs t ≡ true → (w : List ℕ) × (nthRun (recordTops rs) t ≡ given w) × (nameForm w ≡ true)
+unfolding isTopAt nthRun recordTops All
 top-at [] t h e = clash-bool e
 top-at (r ∷ rs) zero h e = (r .label, by (r .parent) e, top-shows r e (h .0))
   where
@@ -152,7 +152,7 @@ flag-of r e q =
     let z = both-true (not (r .plugin)) _ (y .1) in
     (not-true (r .untagged) (y .0), not-true (r .plugin) (z .0), not-true (eqb (r .kind) 10) (z .1))
 
-pub ok-of : (rs : List Record) (A : ℕ → Bool) (r : Record) → All (λ r. labelFine r ≡ true) rs → Fine rs A r → RecordOk (recordTops rs) A r
+pub ok-of : (rs : List Record) (A : ℕ → Bool) (r : Record) → All (λ r. labelFine r ≡ true) rs → FineRecord rs A r → RecordOk (recordTops rs) A r
 ok-of rs A r h f = (
   record {
     kind-lo = f .kind-lo;

@@ -31,8 +31,8 @@ use Rattle.table_rules.proofs.ShownNames.{Uniq, declaredNames, uniq-mad
 use Rattle.table_rules.proofs.GoodTokens.{GoodDeclaration, good-print}
 use Rattle.table_rules.proofs.TextSize.{SmallDeclaration, fits-limit}
 use Rattle.table_rules.proofs.Depth.{LowEnough, nest-print}
-use Rattle.table_rules.proofs.FaultLaws.{new-uniq, unpacked-nil, uniq-twice, Passes, all-spots, none-spots, nil-places}
-use Rattle.table_rules.proofs.RuleFacts.{fine-of, every-all, all-map, top-lt, tops-of, ok-of, Fine}
+use Rattle.table_rules.proofs.FaultLaws.{new-uniq, unpacked-nil, uniq-twice, Unbroken, all-spots, none-spots, nil-places}
+use Rattle.table_rules.proofs.RuleFacts.{fine-of, every-all, all-map, top-lt, tops-of, ok-of, FineRecord}
 use Rattle.table_rules.proofs.Made.{kinds-made, length-made, name-passes, tag-passes, reference-passes, range-passes, count-passes, dangling-passes, good-made, small-made, all-made}
 use Rattle.table_rules.proofs.MadeOrder.{order-made}
 
@@ -43,16 +43,16 @@ spots-length (noted s d ∷ ns) = ap suc (spots-length ns)
 
 -- ---- every check is empty
 
-pub record Passed (ds : List Declaration) (rs : List Record) : Type 0 where
+pub record DeclarationsPass (ds : List Declaration) (rs : List Record) : Type 0 where
   pub few : length ds ≤ 256
-  pub names : All (Passes nameBroken) ds
-  pub references : All (Passes referenceBroken) ds
-  pub tags : All (Passes tagBroken) ds
-  pub ranges : All (Passes rangeBroken) ds
-  pub counts : All (Passes countBroken) ds
-  pub alternatives : All (Passes (countOnAlternative (kindsOf ds))) ds
+  pub names : All (Unbroken nameBroken) ds
+  pub references : All (Unbroken referenceBroken) ds
+  pub tags : All (Unbroken tagBroken) ds
+  pub ranges : All (Unbroken rangeBroken) ds
+  pub counts : All (Unbroken countBroken) ds
+  pub alternatives : All (Unbroken (countOnAlternative (kindsOf ds))) ds
   pub once : Uniq (declaredNames ds)
-  pub aims : All (Passes (dangling (topNames ds))) ds
+  pub aims : All (Unbroken (dangling (topNames ds))) ds
   pub records : recordChecks rs ≡ true
 
 and5 : (a b c d e : Bool) → a && (b && (c && (d && e))) ≡ true → (a ≡ true) × (b ≡ true) × (c ≡ true) × (d ≡ true) × (e ≡ true)
@@ -60,7 +60,7 @@ and5 a b c d e h =
     let x = both-true a _ h in let y = both-true b _ (x .1) in let z = both-true c _ (y .1) in let w = both-true d e (z .1) in
     (x .0, y .0, z .0, w .0, w .1)
 
-pub all-empty : (text : List ℕ) (items : List Item) (ns : List Noted) (rs : List Record) → length text ≤ textLimit → faults2 items ≡ [] → Passed (declarationsOf ns) rs → AllEmpty (checksOf text items (complete ns) ns rs)
+pub all-empty : (text : List ℕ) (items : List Item) (ns : List Noted) (rs : List Record) → length text ≤ textLimit → faults2 items ≡ [] → DeclarationsPass (declarationsOf ns) rs → AllEmpty (checksOf text items (complete ns) ns rs)
 unfolding AllEmpty Empty checksOf faults3 recordChecks
 all-empty text items ns rs h e p =
     let c = and5 (noneBroken voidMany 0 rs) (noneBroken (rule7Broken rs) 0 rs) (noneBroken (tagRepeated rs) 0 rs) (noneBroken rootNoStruct 0 rs) (noneBroken (isEndless (finites rs)) 0 rs) (p .records) in
@@ -102,7 +102,7 @@ pub record Ruled (rs : List Record) : Type 0 where
   pub nonempty : 1 ≤ length rs
   pub few : length rs ≤ 256
   pub inOrder : ordered [] 0 rs ≡ true
-  pub fine : All (Fine rs (isUnionAt (kindsOfRecords rs))) rs
+  pub fine : All (FineRecord rs (isUnionAt (kindsOfRecords rs))) rs
   pub once : Uniq (shownNames rs)
   pub checked : recordChecks rs ≡ true
 
@@ -118,14 +118,14 @@ ruled-of limit rs h e =
       nonempty = leb-true 1 (length rs) (x .0);
       few = omega (arith, leb-true (length rs) limit (y .0));
       inOrder = z .0;
-      fine = all-map (λ r. recordFine rs (isUnionAt (kindsOfRecords rs)) r ≡ true) (Fine rs (isUnionAt (kindsOfRecords rs))) rs (λ r. fine-of rs (isUnionAt (kindsOfRecords rs)) r) (every-all (recordFine rs (isUnionAt (kindsOfRecords rs))) rs (w .0));
+      fine = all-map (λ r. recordFine rs (isUnionAt (kindsOfRecords rs)) r ≡ true) (FineRecord rs (isUnionAt (kindsOfRecords rs))) rs (λ r. fine-of rs (isUnionAt (kindsOfRecords rs)) r) (every-all (recordFine rs (isUnionAt (kindsOfRecords rs))) rs (w .0));
       once = new-uniq (shownNames rs) (v .0);
       checked = v .1;
     }
 
 -- ---- the text
 
-alternative-passes : (A : ℕ → Bool) (ks : List ℕ) (T : List MaybeRun) (q i : ℕ) (r : Record) → A ≡ isUnionAt ks → Passes (countOnAlternative ks) (declarationFor T A q i r)
+alternative-passes : (A : ℕ → Bool) (ks : List ℕ) (T : List MaybeRun) (q i : ℕ) (r : Record) → A ≡ isUnionAt ks → Unbroken (countOnAlternative ks) (declarationFor T A q i r)
 unfolding countOnAlternative declarationFor
 alternative-passes A ks T q i r e = rw (← e) (by (r .parent))
   where
@@ -151,7 +151,7 @@ module _ (rs : List Record) (z : Ruled rs) where
   ds = declarationsFor T A q 0 rs
 
   labels : All (λ r. labelFine r ≡ true) rs
-  labels = all-map (Fine rs A) (λ r. labelFine r ≡ true) rs (λ r f. f .named) (z .fine)
+  labels = all-map (FineRecord rs A) (λ r. labelFine r ≡ true) rs (λ r f. f .named) (z .fine)
 
   tops : DistinctTops T
   tops = tops-of rs (z .once)
@@ -160,13 +160,13 @@ module _ (rs : List Record) (z : Ruled rs) where
   small = omega (arith, prefix rs .1, z .few)
 
   oks : All (RecordOk T A) rs
-  oks = all-map (Fine rs A) (RecordOk T A) rs (λ r f. ok-of rs A r labels f) (z .fine)
+  oks = all-map (FineRecord rs A) (RecordOk T A) rs (λ r f. ok-of rs A r labels f) (z .fine)
 
   placed : InOrder [] 0 ds × LowEnough [] 0 ds
-  placed = order-made T A q tops rs [] 0 (z .inOrder) oks (all-map (Fine rs A) (λ r. topFine r ≡ true) rs (λ r f. f .topped) (z .fine))
+  placed = order-made T A q tops rs [] 0 (z .inOrder) oks (all-map (FineRecord rs A) (λ r. topFine r ≡ true) rs (λ r f. f .topped) (z .fine))
 
-  each : (P : Declaration → Type 0) → ((i : ℕ) (r : Record) → i < 256 → Fine rs A r → P (declarationFor T A q i r)) → All P ds
-  each P f = all-made T A q tops small P (Fine rs A) f 0 rs (omega (arith, z .few)) (z .fine)
+  each : (P : Declaration → Type 0) → ((i : ℕ) (r : Record) → i < 256 → FineRecord rs A r → P (declarationFor T A q i r)) → All P ds
+  each P f = all-made T A q tops small P (FineRecord rs A) f 0 rs (omega (arith, z .few)) (z .fine)
 
   long : length ds ≡ length rs
   long = length-made T A q tops small 0 rs
@@ -175,23 +175,23 @@ module _ (rs : List Record) (z : Ruled rs) where
   unfolding recordsOf
   made-records = rw (tops-made T A q 0 rs) (records-made T A q 0 rs tops oks)
 
-  aimed : (r : Record) → Fine rs A r → eqb (r .kind) 10 ≡ true → r .target < 65535
+  aimed : (r : Record) → FineRecord rs A r → eqb (r .kind) 10 ≡ true → r .target < 65535
   aimed r f e = by (f .aim)
     where
       by : targetFine rs r ≡ true → r .target < 65535
       by x = unfold targetFine pick in (omega (arith, top-lt rs (r .target) (rw e at x), z .few))
 
-  passed : Passed ds rs
+  passed : DeclarationsPass ds rs
   passed = record {
     few = omega (arith, long, z .few);
-    names = each (Passes nameBroken) (λ i r g f. name-passes T A q tops small i r g (ok-of rs A r labels f) (f .named));
-    references = each (Passes referenceBroken) (λ i r g f. reference-passes T A q tops small i r g (ok-of rs A r labels f) (f .named));
-    tags = each (Passes tagBroken) (λ i r g f. tag-passes T A q tops small i r g (ok-of rs A r labels f) (f .named));
-    ranges = each (Passes rangeBroken) (λ i r g f. range-passes T A q tops small i r g (ok-of rs A r labels f) (f .named));
-    counts = each (Passes countBroken) (λ i r g f. count-passes T A q tops small i r g (ok-of rs A r labels f) (f .named));
-    alternatives = each (Passes (countOnAlternative (kindsOf ds))) (λ i r g f. alternative-passes A (kindsOf ds) T q i r (ap isUnionAt (sym (kinds-made T A q tops small 0 rs oks))));
+    names = each (Unbroken nameBroken) (λ i r g f. name-passes T A q tops small i r g (ok-of rs A r labels f) (f .named));
+    references = each (Unbroken referenceBroken) (λ i r g f. reference-passes T A q tops small i r g (ok-of rs A r labels f) (f .named));
+    tags = each (Unbroken tagBroken) (λ i r g f. tag-passes T A q tops small i r g (ok-of rs A r labels f) (f .named));
+    ranges = each (Unbroken rangeBroken) (λ i r g f. range-passes T A q tops small i r g (ok-of rs A r labels f) (f .named));
+    counts = each (Unbroken countBroken) (λ i r g f. count-passes T A q tops small i r g (ok-of rs A r labels f) (f .named));
+    alternatives = each (Unbroken (countOnAlternative (kindsOf ds))) (λ i r g f. alternative-passes A (kindsOf ds) T q i r (ap isUnionAt (sym (kinds-made T A q tops small 0 rs oks))));
     once = uniq-made T A q 0 rs (prefix rs .2) (z .once);
-    aims = each (Passes (dangling (topNames ds))) (λ i r g f. rw (tops-made T A q 0 rs) (dangling-passes T A q tops small i r g (ok-of rs A r labels f) (f .named) 0 (aimed r f)));
+    aims = each (Unbroken (dangling (topNames ds))) (λ i r g f. rw (tops-made T A q 0 rs) (dangling-passes T A q tops small i r g (ok-of rs A r labels f) (f .named) 0 (aimed r f)));
     records = z .checked;
   }
 

@@ -12,7 +12,7 @@ use Rattle.reading_rules.specs.Record.{Up, under, Record, recordAt}
 use Rattle.reading_rules.specs.Schema.{Kind, void, simple, struct, union, reference, Schema, kindOf, isUnder, isUntaggedOf, isTaggedOf, numbersWhere, schemaOf}
 use Rattle.reading_rules.specs.Count.{times, In, Once}
 use Rattle.reading_rules.proofs.CountLaws.{clash-bool, and-both, same-case, same-le, in-nil, in-head, in-tail, in-cons}
-use Rattle.classes.specs.Lists.{pick}
+use Rattle.classes.specs.Lists.{pick, every}
 use Rattle.definition_rules.specs.Faults.{anyBefore, parentKind, beside, misplacedField, misplacedAlternative, misplacedUntagged}
 use Rattle.definition_rules.specs.Finite.{canDoWithout, endsNeeds, structStep, unionStep, finiteStep, round, rounds, finites}
 use Rattle.definition_rules.proofs.FiniteLaws.{sub-at, finites-closed}
@@ -76,40 +76,36 @@ unfoldable pub put : Bool → ℕ → List ℕ → List ℕ
 put true q l = l
 put false q l = q ∷ l
 
-unfoldable pub cut : Bool → List ℕ → List ℕ
-cut true l = []
-cut false l = l
+unfoldable pub noneIf : Bool → List ℕ → List ℕ
+noneIf true l = []
+noneIf false l = l
 
 abbrev pub required : Schema → ℕ → List ℕ
 required S p = requiredOf S (S .tagged p)
 
 unfoldable pub needs : Schema → List ℕ → List ℕ → List ℕ
 needs S rs [] = rs
-needs S rs (q ∷ qs) = cut (eqb (S .lo q) 0) (put (S .optional q) q (needs S rs qs))
+needs S rs (q ∷ qs) = noneIf (eqb (S .lo q) 0) (put (S .optional q) q (needs S rs qs))
 
-unfoldable pub all : (ℕ → Bool) → List ℕ → Bool
-all f [] = true
-all f (q ∷ qs) = f q && all f qs
-
-all-in : (f : ℕ → Bool) (l : List ℕ) → all f l ≡ true → (q : ℕ) → In q l → f q ≡ true
-unfolding all
+all-in : (f : ℕ → Bool) (l : List ℕ) → every f l ≡ true → (q : ℕ) → In q l → f q ≡ true
+unfolding every
 all-in f [] e q h = in-nil q h
-all-in f (x ∷ l) e q h = and-both (f x) (all f l) e (λ a b. in-cons q x l h (λ z. rw (← z) a) (λ z. all-in f l b q z))
+all-in f (x ∷ l) e q h = and-both (f x) (every f l) e (λ a b. in-cons q x l h (λ z. rw (← z) a) (λ z. all-in f l b q z))
 
-in-all : (f : ℕ → Bool) (l : List ℕ) → ((q : ℕ) → In q l → f q ≡ true) → all f l ≡ true
-unfolding all
+in-all : (f : ℕ → Bool) (l : List ℕ) → ((q : ℕ) → In q l → f q ≡ true) → every f l ≡ true
+unfolding every
 in-all f [] h = refl
 in-all f (x ∷ l) h = rw (h x (in-head x l)) (in-all f l (λ q z. h q (in-tail q x l z)))
 
-untagged-case : (f : ℕ → Bool) (i : ℕ) (M : List ℕ) (l e g x : Bool) → x ≡ all f M → pick l true ((l || e || g || f i) && x) ≡ all f (cut l (put (e || g) i M))
-unfolding pick cut put all
+untagged-case : (f : ℕ → Bool) (i : ℕ) (M : List ℕ) (l e g x : Bool) → x ≡ every f M → pick l true ((l || e || g || f i) && x) ≡ every f (noneIf l (put (e || g) i M))
+unfolding pick noneIf put every
 untagged-case f i M true e g x q = refl
 untagged-case f i M false true g x q = q
 untagged-case f i M false false true x q = q
 untagged-case f i M false false false x q = rw q
 
-tagged-case : (f : ℕ → Bool) (i : ℕ) (M : List ℕ) (l e g x : Bool) → x ≡ all f M → (l || e || g || f i) && x ≡ all f (elim (e || g || l) [ true ↦ M | false ↦ i ∷ M ])
-unfolding put all
+tagged-case : (f : ℕ → Bool) (i : ℕ) (M : List ℕ) (l e g x : Bool) → x ≡ every f M → (l || e || g || f i) && x ≡ every f (elim (e || g || l) [ true ↦ M | false ↦ i ∷ M ])
+unfolding put every
 tagged-case f i M true true g x q = q
 tagged-case f i M true false true x q = q
 tagged-case f i M true false false x q = q
@@ -124,8 +120,8 @@ module _ (table : List Record) (have : List Bool) (p : ℕ) where
   abbrev Listed : ℕ → List Record → List ℕ
   Listed i rs = needs S (requiredOf S (numbersWhere (isTaggedOf p) i rs)) (numbersWhere (isUntaggedOf p) i rs)
 
-  struct-all : (i : ℕ) (rs : List Record) → ((n : ℕ) → n < length rs → recordAt table (i + n) ≡ recordAt rs n) → ((a b : ℕ) → a < b → b < length rs → isTaggedOf p (recordAt rs a) ≡ true → isUntaggedOf p (recordAt rs b) ≡ true → ⊥) → structStep have p i rs ≡ all (at have) (Listed i rs)
-  unfolding structStep numbersWhere recordAt needs requiredOf all pick canDoWithout
+  struct-all : (i : ℕ) (rs : List Record) → ((n : ℕ) → n < length rs → recordAt table (i + n) ≡ recordAt rs n) → ((a b : ℕ) → a < b → b < length rs → isTaggedOf p (recordAt rs a) ≡ true → isUntaggedOf p (recordAt rs b) ≡ true → ⊥) → structStep have p i rs ≡ every (at have) (Listed i rs)
+  unfolding structStep numbersWhere recordAt needs requiredOf every pick canDoWithout
   struct-all i [] s o = refl
   struct-all i (r ∷ rs) s o = go (struct-all (suc i) rs (λ n h. let y : suc i + n ≡ i + suc n = omega arith in ap (recordAt table) y ∙ s (suc n) (omega arith)) (λ a b h k. o (suc a) (suc b) (omega arith) (omega arith))) (isUnder p (r .parent)) (r .untagged) refl refl
     where
@@ -141,7 +137,7 @@ module _ (table : List Record) (have : List Bool) (p : ℕ) where
       opt-here : S .optional i ≡ r .extension || r .plugin
       opt-here = unfold schemaOf in (ap (λ x. x .extension || x .plugin) here)
 
-      go : structStep have p (suc i) rs ≡ all (at have) (Listed (suc i) rs) → (u n : Bool) → isUnder p (r .parent) ≡ u → r .untagged ≡ n → pick u (pick (endsNeeds r) true ((canDoWithout r || at have i) && structStep have p (suc i) rs)) (structStep have p (suc i) rs) ≡ all (at have) (needs S (requiredOf S (elim (u && not n) [ true ↦ i ∷ numbersWhere (isTaggedOf p) (suc i) rs | false ↦ numbersWhere (isTaggedOf p) (suc i) rs ])) (elim (u && n) [ true ↦ i ∷ numbersWhere (isUntaggedOf p) (suc i) rs | false ↦ numbersWhere (isUntaggedOf p) (suc i) rs ]))
+      go : structStep have p (suc i) rs ≡ every (at have) (Listed (suc i) rs) → (u n : Bool) → isUnder p (r .parent) ≡ u → r .untagged ≡ n → pick u (pick (endsNeeds r) true ((canDoWithout r || at have i) && structStep have p (suc i) rs)) (structStep have p (suc i) rs) ≡ every (at have) (needs S (requiredOf S (elim (u && not n) [ true ↦ i ∷ numbersWhere (isTaggedOf p) (suc i) rs | false ↦ numbersWhere (isTaggedOf p) (suc i) rs ])) (elim (u && n) [ true ↦ i ∷ numbersWhere (isUntaggedOf p) (suc i) rs | false ↦ numbersWhere (isUntaggedOf p) (suc i) rs ]))
       go ih false n a b = ih
       go ih true true a b =
           let e : endsNeeds r ≡ eqb (r .loCount) 0 = unfold endsNeeds in (rw b) in
@@ -150,24 +146,24 @@ module _ (table : List Record) (have : List Bool) (p : ℕ) where
           let e : endsNeeds r ≡ false = unfold endsNeeds in (rw b) in
           let t : isTaggedOf p r ≡ true = rw (a, b) in
           let n : numbersWhere (isUntaggedOf p) (suc i) rs ≡ [] = where-nil (isUntaggedOf p) (suc i) rs (λ k h x. o 0 (suc k) (omega arith) (omega arith) t x) in
-          let j : structStep have p (suc i) rs ≡ all (at have) (requiredOf S (numbersWhere (isTaggedOf p) (suc i) rs)) = ih ∙ ap (λ l. all (at have) (needs S (requiredOf S (numbersWhere (isTaggedOf p) (suc i) rs)) l)) n in
+          let j : structStep have p (suc i) rs ≡ every (at have) (requiredOf S (numbersWhere (isTaggedOf p) (suc i) rs)) = ih ∙ ap (λ l. every (at have) (needs S (requiredOf S (numbersWhere (isTaggedOf p) (suc i) rs)) l)) n in
           rw (n, requiredOf, lo-here, opt-here, e) (tagged-case (at have) i (requiredOf S (numbersWhere (isTaggedOf p) (suc i) rs)) (eqb (r .loCount) 0) (r .extension) (r .plugin) (structStep have p (suc i) rs) j)
 
 -- ---- the steps
 
 -- "Simple types have one. A reference has one if its target has. A union .. if some alternative has. A struct .. if each field has that it can't do without"
-unfoldable pub Step : List Record → (ℕ → Type 0) → ℕ → Kind → Type 0
-Step rs P p void = Unit {0}
-Step rs P p simple = Unit {0}
-Step rs P p struct = (q : ℕ) → In q (needs (schemaOf rs) (required (schemaOf rs) p) (schemaOf rs .untagged p)) → P q
-Step rs P p union = (q : ℕ) × (q < length rs) × (isUnder p (recordAt rs q .parent) ≡ true) × P q
-Step rs P p reference = P (recordAt rs p .target)
+unfoldable pub StepGives : List Record → (ℕ → Type 0) → ℕ → Kind → Type 0
+StepGives rs P p void = Unit {0}
+StepGives rs P p simple = Unit {0}
+StepGives rs P p struct = (q : ℕ) → In q (needs (schemaOf rs) (required (schemaOf rs) p) (schemaOf rs .untagged p)) → P q
+StepGives rs P p union = (q : ℕ) × (q < length rs) × (isUnder p (recordAt rs q .parent) ≡ true) × P q
+StepGives rs P p reference = P (recordAt rs p .target)
 
 abbrev pub ClosedSet : List Record → (ℕ → Type 0) → Type 0
-ClosedSet rs P = (p : ℕ) → p < length rs → Step rs P p (kindOf (recordAt rs p .kind)) → P p
+ClosedSet rs P = (p : ℕ) → p < length rs → StepGives rs P p (kindOf (recordAt rs p .kind)) → P p
 
-pub step-map : (rs : List Record) (P Q : ℕ → Type 0) → ((q : ℕ) → P q → Q q) → (p : ℕ) (k : Kind) → Step rs P p k → Step rs Q p k
-unfolding Step
+pub step-map : (rs : List Record) (P Q : ℕ → Type 0) → ((q : ℕ) → P q → Q q) → (p : ℕ) (k : Kind) → StepGives rs P p k → StepGives rs Q p k
+unfolding StepGives
 step-map rs P Q m p void h = tt
 step-map rs P Q m p simple h = tt
 step-map rs P Q m p struct h = λ q i. m q (h q i)
@@ -218,26 +214,26 @@ module _ (rs : List Record) (F : Formed rs) where
       let z = before-none b (λ j. beside (recordAt rs b) j && not (j .untagged)) rs (field-at p b k h y .2) a m (omega arith) in
       clash-bool (sym z ∙ rw (same-under p (recordAt rs a .parent) (recordAt rs b .parent) (u .0) (w .0), u .1))
 
-  fields-all : (have : List Bool) (p : ℕ) → recordAt rs p .kind ≡ 8 → structStep have p 0 rs ≡ all (at have) (needs (schemaOf rs) (required (schemaOf rs) p) (schemaOf rs .untagged p))
+  fields-all : (have : List Bool) (p : ℕ) → recordAt rs p .kind ≡ 8 → structStep have p 0 rs ≡ every (at have) (needs (schemaOf rs) (required (schemaOf rs) p) (schemaOf rs .untagged p))
   unfolding schemaOf
   fields-all have p k = struct-all rs have p 0 rs (λ n h. let z : 0 + n ≡ n = omega arith in ap (recordAt rs) z) (in-order p k)
 
-  pub step-in : (have : List Bool) (p : ℕ) → finiteStep rs have p (recordAt rs p) ≡ true → Step rs (λ q. at have q ≡ true) p (kindOf (recordAt rs p .kind))
-  unfolding finiteStep kindOf Step
+  pub step-in : (have : List Bool) (p : ℕ) → finiteStep rs have p (recordAt rs p) ≡ true → StepGives rs (λ q. at have q ≡ true) p (kindOf (recordAt rs p .kind))
+  unfolding finiteStep kindOf StepGives
   step-in have p e = go (eqb (recordAt rs p .kind) 1) (eqb (recordAt rs p .kind) 8) (eqb (recordAt rs p .kind) 9) (eqb (recordAt rs p .kind) 10) refl e
     where
-      go : (a b c d : Bool) → eqb (recordAt rs p .kind) 8 ≡ b → pick b (structStep have p 0 rs) (pick c (unionStep have p 0 rs) (pick d (at have (recordAt rs p .target)) true)) ≡ true → Step rs (λ q. at have q ≡ true) p (elim a [ true ↦ void | false ↦ elim b [ true ↦ struct | false ↦ elim c [ true ↦ union | false ↦ elim d [ true ↦ reference | false ↦ simple ] ] ] ])
+      go : (a b c d : Bool) → eqb (recordAt rs p .kind) 8 ≡ b → pick b (structStep have p 0 rs) (pick c (unionStep have p 0 rs) (pick d (at have (recordAt rs p .target)) true)) ≡ true → StepGives rs (λ q. at have q ≡ true) p (elim a [ true ↦ void | false ↦ elim b [ true ↦ struct | false ↦ elim c [ true ↦ union | false ↦ elim d [ true ↦ reference | false ↦ simple ] ] ] ])
       go true b c d q x = tt
       go false true c d q x = all-in (at have) (needs (schemaOf rs) (required (schemaOf rs) p) (schemaOf rs .untagged p)) (sym (fields-all have p (eqb-true (recordAt rs p .kind) 8 q)) ∙ (unfold pick in x))
       go false false true d q x = let g = union-in have p 0 rs (unfold pick in x) in let z : g .0 ≡ 0 + g .0 = omega arith in (g .0, g .1, g .2, ap (at have) z ∙ g .3)
       go false false false true q x = unfold pick in x
       go false false false false q x = tt
 
-  pub in-step : (have : List Bool) (p : ℕ) → Step rs (λ q. at have q ≡ true) p (kindOf (recordAt rs p .kind)) → finiteStep rs have p (recordAt rs p) ≡ true
-  unfolding finiteStep kindOf Step
+  pub in-step : (have : List Bool) (p : ℕ) → StepGives rs (λ q. at have q ≡ true) p (kindOf (recordAt rs p .kind)) → finiteStep rs have p (recordAt rs p) ≡ true
+  unfolding finiteStep kindOf StepGives
   in-step have p e = go (eqb (recordAt rs p .kind) 1) (eqb (recordAt rs p .kind) 8) (eqb (recordAt rs p .kind) 9) (eqb (recordAt rs p .kind) 10) refl refl refl refl e
     where
-      go : (a b c d : Bool) → eqb (recordAt rs p .kind) 1 ≡ a → eqb (recordAt rs p .kind) 8 ≡ b → eqb (recordAt rs p .kind) 9 ≡ c → eqb (recordAt rs p .kind) 10 ≡ d → Step rs (λ q. at have q ≡ true) p (elim a [ true ↦ void | false ↦ elim b [ true ↦ struct | false ↦ elim c [ true ↦ union | false ↦ elim d [ true ↦ reference | false ↦ simple ] ] ] ]) → pick b (structStep have p 0 rs) (pick c (unionStep have p 0 rs) (pick d (at have (recordAt rs p .target)) true)) ≡ true
+      go : (a b c d : Bool) → eqb (recordAt rs p .kind) 1 ≡ a → eqb (recordAt rs p .kind) 8 ≡ b → eqb (recordAt rs p .kind) 9 ≡ c → eqb (recordAt rs p .kind) 10 ≡ d → StepGives rs (λ q. at have q ≡ true) p (elim a [ true ↦ void | false ↦ elim b [ true ↦ struct | false ↦ elim c [ true ↦ union | false ↦ elim d [ true ↦ reference | false ↦ simple ] ] ] ]) → pick b (structStep have p 0 rs) (pick c (unionStep have p 0 rs) (pick d (at have (recordAt rs p .target)) true)) ≡ true
       go true true c d o q m n x = absurd (omega (arith, eqb-true (recordAt rs p .kind) 1 o, eqb-true (recordAt rs p .kind) 8 q))
       go true false true d o q m n x = absurd (omega (arith, eqb-true (recordAt rs p .kind) 1 o, eqb-true (recordAt rs p .kind) 9 m))
       go true false false true o q m n x = absurd (omega (arith, eqb-true (recordAt rs p .kind) 1 o, eqb-true (recordAt rs p .kind) 10 n))

@@ -34,8 +34,8 @@ use Rattle.table_rules.proofs.FlatPrint.{pushed, FitsOn, InOrder, close
 use Rattle.table_rules.proofs.Witness.{most-lt}
 use Rattle.table_rules.proofs.ShownNames.{Off, Uniq, declaredNames}
 use Rattle.table_rules.proofs.Depth.{LowEnough}
-use Rattle.table_rules.proofs.FaultLaws.{up-self, uniq-new, twice-uniq, Passes, spots-all, spots-none, places-nil, none-spots}
-use Rattle.table_rules.proofs.RuleFacts.{of-fine, all-every, all-map, Fine}
+use Rattle.table_rules.proofs.FaultLaws.{up-self, uniq-new, twice-uniq, Unbroken, spots-all, spots-none, places-nil, none-spots}
+use Rattle.table_rules.proofs.RuleFacts.{of-fine, all-every, all-map, FineRecord}
 use Rattle.table_rules.proofs.RulesText.{rules-text, spots-length}
 use Rattle.table_rules.proofs.TreeOrder.{nest-tree, Desc, closed-at, Stand, stand-tree, desc-more}
 use Rattle.definition_rules.proofs.RunLaws.{kind-le}
@@ -192,7 +192,7 @@ module _ (T : List MaybeRun) (rs : List Record) (ks : List ℕ) (found : (w : Li
   unfolding HeadAllowed
   head-card w g n c t p h = (h .2, h .3)
 
-  fine-record : (d : Declaration) → TopPlain d → Passes nameBroken d → Passes tagBroken d → Passes rangeBroken d → Passes countBroken d → Passes (countOnAlternative ks) d → Passes (dangling T) d → Fine rs (isUnionAt ks) (recordFor T d)
+  fine-record : (d : Declaration) → TopPlain d → Unbroken nameBroken d → Unbroken tagBroken d → Unbroken rangeBroken d → Unbroken countBroken d → Unbroken (countOnAlternative ks) d → Unbroken (dangling T) d → FineRecord rs (isUnionAt ks) (recordFor T d)
   unfolding recordFor TopPlain nameBroken tagBroken rangeBroken countBroken countOnAlternative dangling
   fine-record (declaration u e (heading w g n c t p)) tp nb tb rb cb ab db =
       let x = count-facts (countRangeOf c) (not-false (countFine (countRangeOf c)) cb) in
@@ -213,7 +213,7 @@ module _ (T : List MaybeRun) (rs : List Record) (ks : List ℕ) (found : (w : Li
         topped = unfold topFine in (topped u w g n c t p tp);
       }
 
-  pub fine-records : (ds : List Declaration) → All TopPlain ds → All (Passes nameBroken) ds → All (Passes tagBroken) ds → All (Passes rangeBroken) ds → All (Passes countBroken) ds → All (Passes (countOnAlternative ks)) ds → All (Passes (dangling T)) ds → All (Fine rs (isUnionAt ks)) (recordsFor T ds)
+  pub fine-records : (ds : List Declaration) → All TopPlain ds → All (Unbroken nameBroken) ds → All (Unbroken tagBroken) ds → All (Unbroken rangeBroken) ds → All (Unbroken countBroken) ds → All (Unbroken (countOnAlternative ks)) ds → All (Unbroken (dangling T)) ds → All (FineRecord rs (isUnionAt ks)) (recordsFor T ds)
   unfolding All recordsFor
   fine-records [] a b c d e f g = tt
   fine-records (x ∷ ds) a b c d e f g = (fine-record x (a .0) (b .0) (c .0) (d .0) (e .0) (f .0) (g .0), fine-records ds (a .1) (b .1) (c .1) (d .1) (e .1) (f .1) (g .1))
@@ -313,7 +313,7 @@ up-low k σ (under j) d h z w = by (closedTo (under j) σ) refl
     by [] e = sym (rw e at z)
     by (frame a m ∷ ρ) e = absurd (omega (arith, closed-at σ k j a m ρ d e .1))
 
-pub storables : (T : List MaybeRun) (rs : List Record) (A : ℕ → Bool) (ds : List Declaration) (σ : List Frame) (k : ℕ) → Desc k σ → InOrder σ k ds → k + length ds ≤ 256 → All (Fine rs A) (recordsFor T ds) → All Storable (recordsFor T ds)
+pub storables : (T : List MaybeRun) (rs : List Record) (A : ℕ → Bool) (ds : List Declaration) (σ : List Frame) (k : ℕ) → Desc k σ → InOrder σ k ds → k + length ds ≤ 256 → All (FineRecord rs A) (recordsFor T ds) → All Storable (recordsFor T ds)
 unfolding InOrder All recordsFor recordFor pushed
 storables T rs A [] σ k d o h f = tt
 storables T rs A (declaration u e (heading w g n c t p) ∷ ds) σ k d o h f =
@@ -359,7 +359,7 @@ ordered-after-parents rs o i h =
 drop-short : (n : ℕ) (l : List ℕ) → drop n l ≡ [] → length l ≤ n
 drop-short n l e = omega (arith, length-drop n l, ap length e)
 
-pub record Cleared (items : List Item) (ns : List Noted) (rs : List Record) : Type 0 where
+pub record ChecksCleared (items : List Item) (ns : List Noted) (rs : List Record) : Type 0 where
   pub two : faults2 items ≡ []
   pub four : faults4 parameterLimit ns ≡ []
   pub five : faults5 ns ≡ []
@@ -368,7 +368,7 @@ pub record Cleared (items : List Item) (ns : List Noted) (rs : List Record) : Ty
   pub eight : faults8 rs ns ≡ []
   pub nine : faults9 rs ns ≡ []
 
-cleared : (text : List ℕ) (items : List Item) (o : Outcome (List Noted)) (ns : List Noted) (rs : List Record) → AllEmpty (checksOf text items o ns rs) → Cleared items ns rs × (faults3 o ≡ []) × (faults10 rs ns ≡ [])
+cleared : (text : List ℕ) (items : List Item) (o : Outcome (List Noted)) (ns : List Noted) (rs : List Record) → AllEmpty (checksOf text items o ns rs) → ChecksCleared items ns rs × (faults3 o ≡ []) × (faults10 rs ns ≡ [])
 unfolding AllEmpty Empty checksOf
 cleared text items o ns rs a =
     let nil = places-nil text items in
@@ -398,7 +398,7 @@ unfolding declarationsOf
 noted-length [] = refl
 noted-length (noted s d ∷ ns) = ap suc (noted-length ns)
 
-module _ (items : List Item) (ns : List Noted) (e : parseTokens (textTokensOf items) ≡ complete ns) (c : Cleared items ns (recordsOf (declarationsOf ns))) where
+module _ (items : List Item) (ns : List Noted) (e : parseTokens (textTokensOf items) ≡ complete ns) (c : ChecksCleared items ns (recordsOf (declarationsOf ns))) where
   abbrev ds : List Declaration
   ds = declarationsOf ns
 
@@ -408,7 +408,7 @@ module _ (items : List Item) (ns : List Noted) (e : parseTokens (textTokensOf it
   abbrev rs : List Record
   rs = recordsFor T ds
 
-  clear : Cleared items ns rs
+  clear : ChecksCleared items ns rs
   unfolding recordsOf
   clear = c
 
@@ -446,7 +446,7 @@ module _ (items : List Item) (ns : List Noted) (e : parseTokens (textTokensOf it
   found : (w : List ℕ) (t : ℕ) → findTop T 0 w ≡ number t → isTopAt rs t ≡ true
   found w t q = let x = find-top T ds 0 t w q in subst (λ j. isTopAt rs j ≡ true) (omega (arith, x .1)) (x .2)
 
-  fines : All (Fine rs (isUnionAt (kindsOf ds))) rs
+  fines : All (FineRecord rs (isUnionAt (kindsOf ds))) rs
   fines = fine-records T rs (kindsOf ds) found ds bare
       (spots-all nameBroken (λ s. s .nameAt) ns (forms .0))
       (spots-all tagBroken (λ s. s .tagAt) ns (forms .1))
@@ -463,7 +463,7 @@ module _ (items : List Item) (ns : List Noted) (e : parseTokens (textTokensOf it
   checks-hold ten = rw (unbroken voidMany (λ s. s .cardAt) (ranges .2), unbroken (rule7Broken rs) (λ s. s .nameAt) (clear .seven), unbroken (tagRepeated rs) (λ s. s .tagAt) (twice .1), unbroken rootNoStruct (λ s. s .nameAt) (roots .0), unbroken (isEndless (finites rs)) (λ s. s .nameAt) ten)
 
   every-fine : everyRecord (recordFine rs (isUnionAt (kindsOfRecords rs))) rs ≡ true
-  every-fine = rw (kinds-records T ds) (all-every (recordFine rs (isUnionAt (kindsOf ds))) rs (all-map (Fine rs (isUnionAt (kindsOf ds))) (λ r. recordFine rs (isUnionAt (kindsOf ds)) r ≡ true) rs (λ r f. of-fine rs (isUnionAt (kindsOf ds)) r f) fines))
+  every-fine = rw (kinds-records T ds) (all-every (recordFine rs (isUnionAt (kindsOf ds))) rs (all-map (FineRecord rs (isUnionAt (kindsOf ds))) (λ r. recordFine rs (isUnionAt (kindsOf ds)) r ≡ true) rs (λ r f. of-fine rs (isUnionAt (kindsOf ds)) r f) fines))
 
   -- what values rest on, number 10 or not
   pub formed-hold : (everyRecord (recordFine rs (isUnionAt (kindsOfRecords rs))) rs ≡ true) × (noneBroken (rule7Broken rs) 0 rs ≡ true) × (noneBroken (tagRepeated rs) 0 rs ≡ true)
@@ -478,7 +478,7 @@ module _ (items : List Item) (ns : List Noted) (e : parseTokens (textTokensOf it
 
 -- ---- number 10 is given: what the other checks leave
 
-cleared-ten : (text : List ℕ) (items : List Item) (o : Outcome (List Noted)) (ns : List Noted) (rs : List Record) (p : ℕ) → firstFault (checksOf text items o ns rs) ≡ fault 10 p → Cleared items ns rs × (faults3 o ≡ []) × (faults10 rs ns ≡ [] → ⊥)
+cleared-ten : (text : List ℕ) (items : List Item) (o : Outcome (List Noted)) (ns : List Noted) (rs : List Record) (p : ℕ) → firstFault (checksOf text items o ns rs) ≡ fault 10 p → ChecksCleared items ns rs × (faults3 o ≡ []) × (faults10 rs ns ≡ [] → ⊥)
 unfolding checksOf
 cleared-ten text items o ns rs p e =
     let nil = places-nil text items in
@@ -525,7 +525,7 @@ text-rules text bytes v = by (outcomeOf text) refl
         records-are : recordsOfText text ≡ recordsFor (topNames (declarationsOf ns)) (declarationsOf ns)
         records-are = rw e (unfold notedOf recordsOf in refl)
 
-        finish : Cleared (itemsOf text) ns (recordsOf (declarationsOf ns)) × (faults3 (complete ns) ≡ []) × (faults10 (recordsOf (declarationsOf ns)) ns ≡ []) → tableRules parameterLimit bytes ≡ true
+        finish : ChecksCleared (itemsOf text) ns (recordsOf (declarationsOf ns)) × (faults3 (complete ns) ≡ []) × (faults10 (recordsOf (declarationsOf ns)) ns ≡ []) → tableRules parameterLimit bytes ≡ true
         finish c =
             let t : faults10 (recordsFor (topNames (declarationsOf ns)) (declarationsOf ns)) ns ≡ [] = unfold recordsOf in (c .2) in
             let r = rules-hold (itemsOf text) ns e (c .0) t in
@@ -547,7 +547,7 @@ text-rules-records text bytes v = by (outcomeOf text) refl
         records-are : recordsOfText text ≡ recordsFor (topNames (declarationsOf ns)) (declarationsOf ns)
         records-are = rw e (unfold notedOf recordsOf in refl)
 
-        finish : Cleared (itemsOf text) ns (recordsOf (declarationsOf ns)) × (faults3 (complete ns) ≡ []) × (faults10 (recordsOf (declarationsOf ns)) ns ≡ []) → recordRules parameterLimit (recordsOfText text) ≡ true
+        finish : ChecksCleared (itemsOf text) ns (recordsOf (declarationsOf ns)) × (faults3 (complete ns) ≡ []) × (faults10 (recordsOf (declarationsOf ns)) ns ≡ []) → recordRules parameterLimit (recordsOfText text) ≡ true
         finish c =
             let t : faults10 (recordsFor (topNames (declarationsOf ns)) (declarationsOf ns)) ns ≡ [] = unfold recordsOf in (c .2) in
             rw records-are (rules-hold (itemsOf text) ns e (c .0) t)
@@ -576,7 +576,7 @@ text-ten text p v = by (outcomeOf text) refl
         records-are : recordsOfText text ≡ recordsFor (topNames (declarationsOf ns)) (declarationsOf ns)
         records-are = rw e (unfold notedOf recordsOf in refl)
 
-        finish : Cleared (itemsOf text) ns (recordsOf (declarationsOf ns)) × (faults3 (complete ns) ≡ []) × (faults10 (recordsOf (declarationsOf ns)) ns ≡ [] → ⊥) → TenLeft (recordsFor (topNames (declarationsOf ns)) (declarationsOf ns))
+        finish : ChecksCleared (itemsOf text) ns (recordsOf (declarationsOf ns)) × (faults3 (complete ns) ≡ []) × (faults10 (recordsOf (declarationsOf ns)) ns ≡ [] → ⊥) → TenLeft (recordsFor (topNames (declarationsOf ns)) (declarationsOf ns))
         finish c =
             let g = formed-hold (itemsOf text) ns e (c .0) in
             let t : faults10 (recordsFor (topNames (declarationsOf ns)) (declarationsOf ns)) ns ≡ [] → ⊥ = unfold recordsOf in (c .2) in

@@ -33,10 +33,10 @@ unfoldable pub writeRange : ℕ → ℕ → List ℕ
 writeRange a b = writeInt a ++ (46 ∷ 46 ∷ writeInt b)
 
 -- names of tops in order, and their numbers
-unfoldable pub runAt : List MaybeRun → ℕ → MaybeRun
-runAt [] i = absent
-runAt (o ∷ os) zero = o
-runAt (o ∷ os) (suc i) = runAt os i
+unfoldable pub nthRun : List MaybeRun → ℕ → MaybeRun
+nthRun [] i = absent
+nthRun (o ∷ os) zero = o
+nthRun (o ∷ os) (suc i) = nthRun os i
 
 -- back: the declaration made of a record
 unfoldable pub keywordOf : ℕ → List ℕ
@@ -51,12 +51,12 @@ keywordOf (suc (suc (suc (suc (suc (suc (suc zero))))))) = kwTime
 keywordOf (suc (suc (suc (suc (suc (suc (suc (suc zero)))))))) = kwStruct
 keywordOf (suc (suc (suc (suc (suc (suc (suc (suc (suc k))))))))) = kwUnion
 
-unfoldable pub runOf : MaybeRun → List ℕ
-runOf absent = []
-runOf (given v) = v
+unfoldable pub runBytes : MaybeRun → List ℕ
+runBytes absent = []
+runBytes (given v) = v
 
 unfoldable pub typeFor : List MaybeRun → ℕ → ℕ → List ℕ
-typeFor T k t = pick (eqb k 10) (runOf (runAt T t)) (keywordOf k)
+typeFor T k t = pick (eqb k 10) (runBytes (nthRun T t)) (keywordOf k)
 
 unfoldable pub shows : Up → Bool → Bool
 shows u n = isTop u || n
@@ -86,7 +86,7 @@ pub record RecordSound (T : List MaybeRun) (A : ℕ → Bool) (k : ℕ) (u : Up)
   pub range-lo : kindLeast k ≤ a
   pub range-mid : a ≤ b
   pub range-hi : b ≤ kindMost k
-  pub to : eqb k 10 ≡ true → (w : List ℕ) × (runAt T t ≡ given w) × (nameForm w ≡ true)
+  pub to : eqb k 10 ≡ true → (w : List ℕ) × (nthRun T t ≡ given w) × (nameForm w ≡ true)
   pub to-none : eqb k 10 ≡ false → t ≡ 65535
 
 or-none : (a b : Bool) → a || b ≡ false → (a ≡ false) × (b ≡ false)
@@ -145,8 +145,8 @@ DistinctTops [] = Unit {0}
 DistinctTops (absent ∷ os) = DistinctTops os
 DistinctTops (given v ∷ os) = NotAmong v os × DistinctTops os
 
-fresh-at : (v w : List ℕ) (T : List MaybeRun) (t : ℕ) → NotAmong v T → runAt T t ≡ given w → sameBytes v w ≡ false
-unfolding runAt NotAmong isNamed
+fresh-at : (v w : List ℕ) (T : List MaybeRun) (t : ℕ) → NotAmong v T → nthRun T t ≡ given w → sameBytes v w ≡ false
+unfolding nthRun NotAmong isNamed
 fresh-at v w [] t f e = cc
 fresh-at v w (absent ∷ T) zero f e = cc
 fresh-at v w (given x ∷ T) zero f e = let y : x ≡ w = cc in rw (← y) (turn x v (f .0))
@@ -159,8 +159,8 @@ fresh-at v w (given x ∷ T) zero f e = let y : x ≡ w = cc in rw (← y) (turn
         by true q = let z = same-true v x q in let y : sameBytes x v ≡ true = rw z (bytes-self x) in cc
 fresh-at v w (o ∷ T) (suc t) f e = fresh-at v w T t (f .1) e
 
-pub find-at : (T : List MaybeRun) (i t : ℕ) (w : List ℕ) → DistinctTops T → runAt T t ≡ given w → findTop T i w ≡ number (i + t)
-unfolding runAt DistinctTops findTop isNamed pick
+pub find-at : (T : List MaybeRun) (i t : ℕ) (w : List ℕ) → DistinctTops T → nthRun T t ≡ given w → findTop T i w ≡ number (i + t)
+unfolding nthRun DistinctTops findTop isNamed pick
 find-at [] i t w f e = cc
 find-at (absent ∷ T) i zero w f e = cc
 find-at (given v ∷ T) i zero w f e = let y : v ≡ w = cc in rw (y, bytes-self w) (ap number (omega arith))
@@ -196,16 +196,16 @@ module _ (T : List MaybeRun) (A : ℕ → Bool) (k : ℕ) (u : Up) (n : Bool) (c
   unfolding typeFor
   kind-is = by (eqb k 10) refl
     where
-      by : (b : Bool) → eqb k 10 ≡ b → kindOfRun (pick b (runOf (runAt T t)) (keywordOf k)) ≡ k
-      by true e = unfold pick runOf in (let x = s .to e in rw (x .1) (name-kind (x .0) (x .2) ∙ sym (eqb-true k 10 e)))
+      by : (b : Bool) → eqb k 10 ≡ b → kindOfRun (pick b (runBytes (nthRun T t)) (keywordOf k)) ≡ k
+      by true e = unfold pick runBytes in (let x = s .to e in rw (x .1) (name-kind (x .0) (x .2) ∙ sym (eqb-true k 10 e)))
       by false e = unfold pick in keyword-kind k (s .kind-lo) (let x = eqb-false k 10 e in let y = s .kind-hi in omega arith)
 
   target-is : targetOf T k (typeFor T k t) ≡ t
   unfolding targetOf typeFor
   target-is = by (eqb k 10) refl
     where
-      by : (b : Bool) → eqb k 10 ≡ b → pick b (orNone (findTop T 0 (pick b (runOf (runAt T t)) (keywordOf k)))) 65535 ≡ t
-      by true e = unfold pick runOf orNone in (let x = s .to e in rw (x .1, find-at T 0 t (x .0) o (x .1)) (omega arith))
+      by : (b : Bool) → eqb k 10 ≡ b → pick b (orNone (findTop T 0 (pick b (runBytes (nthRun T t)) (keywordOf k)))) 65535 ≡ t
+      by true e = unfold pick runBytes orNone in (let x = s .to e in rw (x .1, find-at T 0 t (x .0) o (x .1)) (omega arith))
       by false e = unfold pick in sym (s .to-none e)
 
   pub count-is : countRangeOf (cardFor (isSingleValue A u) c d) ≡ range c d

@@ -99,8 +99,8 @@ int-tok n = go (ltb n bias)
 
 -- ---- values
 
-abbrev pub Taken : Record → Type 0
-Taken r = (t : Token) × (valueNumber r t ≡ 0) × (isToken t ≡ true)
+abbrev pub TakesToken : Record → Type 0
+TakesToken r = (t : Token) × (valueNumber r t ≡ 0) × (isToken t ≡ true)
 
 takes-word : (r : Record) (w : List ℕ) → wordForm (r .kind) w ≡ true → wordWithin r w ≡ true → valueNumber r (word w) ≡ 0
 unfolding valueNumber formThenRange
@@ -123,13 +123,13 @@ int-value r k m h =
     inside : (w : List ℕ) → intWithin (r .least) (r .most) w ≡ true → wordWithin r w ≡ true
     inside w e = unfold wordWithin in (rw (eq-eqb (r .kind) 3 k, wordWithin) e)
 
-ascii-value : (r : Record) → r .kind ≡ 4 → bias ≤ r .least → r .least ≤ r .most → Taken r
+ascii-value : (r : Record) → r .kind ≡ 4 → bias ≤ r .least → r .least ≤ r .most → TakesToken r
 unfolding valueNumber formThenRange isToken
 ascii-value r k l m =
     let n : length {A = ℕ} (replicate (r .least - bias) 32) ≡ r .least - bias = length-replicate {A = ℕ} (r .least - bias) 32 in
     (string (replicate (r .least - bias) 32), rw (eq-eqb (r .kind) 4 k, in-range (r .least) (r .most) (bias + length {A = ℕ} (replicate (r .least - bias) 32)) (omega arith) (omega arith)), every-rep isStringByte 32 (r .least - bias) (unfold isStringByte in refl))
 
-unquoted-value : (r : Record) → r .kind ≡ 5 → bias + 1 ≤ r .least → r .least ≤ r .most → Taken r
+unquoted-value : (r : Record) → r .kind ≡ 5 → bias + 1 ≤ r .least → r .least ≤ r .most → TakesToken r
 unquoted-value r k l m =
     let n : length {A = ℕ} (replicate (r .least - bias) 97) ≡ r .least - bias = length-replicate {A = ℕ} (r .least - bias) 97 in
     let a : wordForm (r .kind) (replicate (r .least - bias) 97) ≡ true = form (replicate (r .least - bias) 97) in
@@ -141,26 +141,26 @@ unquoted-value r k l m =
     inside : (w : List ℕ) → between (r .least) (r .most) (bias + length w) ≡ true → wordWithin r w ≡ true
     inside w e = unfold wordWithin in (rw (ne-eqb (r .kind) 3 (λ z. omega arith), eq-eqb (r .kind) 5 k, wordWithin) e)
 
-fixed-value : (r : Record) (n : ℕ) (w : List ℕ) → r .kind ≡ n → (n ≡ 3 → ⊥) → (n ≡ 5 → ⊥) → wordForm n w ≡ true → isToken (word w) ≡ true → Taken r
+fixed-value : (r : Record) (n : ℕ) (w : List ℕ) → r .kind ≡ n → (n ≡ 3 → ⊥) → (n ≡ 5 → ⊥) → wordForm n w ≡ true → isToken (word w) ≡ true → TakesToken r
 fixed-value r n w k a b f t = (word w, takes-word r w (ap (λ j. wordForm j w) k ∙ f) (free r w (λ z. a (sym k ∙ z)) (λ z. b (sym k ∙ z))), t)
 
-bool-value : (r : Record) → r .kind ≡ 2 → Taken r
+bool-value : (r : Record) → r .kind ≡ 2 → TakesToken r
 unfolding wordForm isBool sameBytes isToken every isWordByte
 bool-value r k = fixed-value r 2 (116 ∷ 114 ∷ 117 ∷ 101 ∷ []) k (λ z. omega arith) (λ z. omega arith) refl refl
 
-date-value : (r : Record) → r .kind ≡ 6 → Taken r
+date-value : (r : Record) → r .kind ≡ 6 → TakesToken r
 unfolding wordForm isDate isDigit readDigits daysOf leap isToken every isWordByte
 date-value r k = fixed-value r 6 (48 ∷ 48 ∷ 48 ∷ 49 ∷ 48 ∷ 49 ∷ 48 ∷ 49 ∷ []) k (λ z. omega arith) (λ z. omega arith) refl refl
 
-time-value : (r : Record) → r .kind ≡ 7 → Taken r
+time-value : (r : Record) → r .kind ≡ 7 → TakesToken r
 unfolding wordForm isTime isDigit readDigits isToken every isWordByte
 time-value r k = fixed-value r 7 (48 ∷ 48 ∷ 48 ∷ 48 ∷ 48 ∷ 48 ∷ []) k (λ z. omega arith) (λ z. omega arith) refl refl
 
-pub simple-value : (r : Record) → 2 ≤ r .kind → r .kind ≤ 7 → kindLeast (r .kind) ≤ r .least → r .least ≤ r .most → r .most ≤ kindMost (r .kind) → Taken r
+pub simple-value : (r : Record) → 2 ≤ r .kind → r .kind ≤ 7 → kindLeast (r .kind) ≤ r .least → r .least ≤ r .most → r .most ≤ kindMost (r .kind) → TakesToken r
 unfolding kindLeast pick
 simple-value r a b l m h = go (r .kind) refl a b
   where
-    go : (k : ℕ) → r .kind ≡ k → 2 ≤ k → k ≤ 7 → Taken r
+    go : (k : ℕ) → r .kind ≡ k → 2 ≤ k → k ≤ 7 → TakesToken r
     go zero e x y = absurd (omega arith)
     go (suc zero) e x y = absurd (omega arith)
     go (suc (suc zero)) e x y = bool-value r e

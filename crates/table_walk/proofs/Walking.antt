@@ -114,14 +114,14 @@ upto-end zero = refl
 upto-end (suc m) = refl
 
 -- n records that end at a place: the decoder gives them and what it gives of the rest
-pub record Along (t unpacked : List ℕ) (n at : ℕ) : Type 0 where
+pub record WalkedTo (t unpacked : List ℕ) (n at : ℕ) : Type 0 where
   pub inside : at ≤ length t
   pub least : 24 * n ≤ at
   pub most : at ≤ 65536 * n
   pub few : n ≤ 256
   pub found : Enough (length t) (length unpacked) → decode t ≡ after (recordsAt t unpacked n) (decodeUpTo (length t - n) (drop at t))
 
-pub along-start : (t unpacked : List ℕ) → Along t unpacked 0 0
+pub along-start : (t unpacked : List ℕ) → WalkedTo t unpacked 0 0
 along-start t unpacked = record {
   inside = omega arith;
   least = omega arith;
@@ -133,7 +133,7 @@ along-start t unpacked = record {
     e : length t - 0 ≡ length t
     e = omega arith
 
-module _ (t unpacked : List ℕ) (n at : ℕ) (a : Along t unpacked n at) where
+module _ (t unpacked : List ℕ) (n at : ℕ) (a : WalkedTo t unpacked n at) where
   pub along-end : length t ≤ at → Enough (length t) (length unpacked) → RecordsCounted t unpacked n
   along-end h r = record {
     few = a .few;
@@ -149,13 +149,13 @@ module _ (t unpacked : List ℕ) (n at : ℕ) (a : Along t unpacked n at) where
         rw e (upto-more (length t - (n + 1)) (drop at t) (rw length-drop (omega arith)))
 
     -- one record more is unpacked
-    pub along-more : (s : ℕ) (cs : List ℕ) → s ≡ lengthAt t at → s < 65536 → (s ≡ 0 → ⊥) → (n ≡ 256 → ⊥) → length cs ≡ length unpacked → (n < parameterLimit → headCells + recordCells * (n + 1) ≤ length unpacked → Unpacked t at unpacked n cs) → Along t cs (n + 1) (at + s)
+    pub along-more : (s : ℕ) (cs : List ℕ) → s ≡ lengthAt t at → s < 65536 → (s ≡ 0 → ⊥) → (n ≡ 256 → ⊥) → length cs ≡ length unpacked → (n < parameterLimit → headCells + recordCells * (n + 1) ≤ length unpacked → Unpacked t at unpacked n cs) → WalkedTo t cs (n + 1) (at + s)
     along-more s cs e b z m l u = go s (rw e (look t at h)) b z
       where
         noted : Unpacked t at unpacked n cs → recordsAt t cs (n + 1) ≡ recordsAt t unpacked n ++ (storedAt t at ∷ [])
         noted v = records-one-more t cs n ∙ rw (records-unpacked t unpacked cs n (v .others), v .here)
 
-        go : (s : ℕ) → Look t at s → s < 65536 → (s ≡ 0 → ⊥) → Along t cs (n + 1) (at + s)
+        go : (s : ℕ) → Look t at s → s < 65536 → (s ≡ 0 → ⊥) → WalkedTo t cs (n + 1) (at + s)
         go s (nothing f) b z = absurd (z refl)
         go s (whole i k f) b z = record {
           inside = i;

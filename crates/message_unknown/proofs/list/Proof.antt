@@ -2,12 +2,12 @@ use borrow.Author.Needs.{needs}
 use Prim.Native.Nat.{_-_}
 use lib.ListN.{length}
 use native.Mathlib.Omega.{arith}
-use Rattle.message_unknown.proofs.Steps.{Listed, listed-start, listed-on, listed-out, list-go}
+use Rattle.message_unknown.proofs.Steps.{UnknownListed, listed-start, listed-on, listed-out, list-go}
 use Rattle.message_unknown.proofs.list.Statement.{statement}
 use Rattle.message_unknown.proofs.list.Tie as tie
 
 abbrev Inv-loop : tie.InvT-loop
-Inv-loop s base u₀ u = Listed base s (u₀ .at) (u .at)
+Inv-loop s base u₀ u = UnknownListed base s (u₀ .at) (u .at)
 
 abbrev μ-loop : tie.MeasureT-loop
 μ-loop s base u₀ u = length s - u .at

@@ -6,12 +6,12 @@ use lib.ListN.{length}
 use Rattle.reading_rules.specs.Record.{AfterParents}
 use Rattle.table_records.specs.Stored.{recordsAt}
 use Rattle.table_records.proofs.Laws.{length-records}
-use Rattle.table_checks.proofs.Sweeping.{Going, going-start, going-more, going-still, going-end}
+use Rattle.table_checks.proofs.Sweeping.{SweptSoFar, going-start, going-more, going-still, going-end}
 use Rattle.table_checks.proofs.finites.Statement.{statement}
 use Rattle.table_checks.proofs.finites.Tie as tie
 
 abbrev Inv-loop : tie.InvT-loop
-Inv-loop table unpacked n have₀ rest₀ k₀ have rest k = (AfterParents (recordsAt table unpacked n) → Going (recordsAt table unpacked n) k have) × (k ≤ n) × (length have ≡ length have₀) × (length rest ≡ length rest₀)
+Inv-loop table unpacked n have₀ rest₀ k₀ have rest k = (AfterParents (recordsAt table unpacked n) → SweptSoFar (recordsAt table unpacked n) k have) × (k ≤ n) × (length have ≡ length have₀) × (length rest ≡ length rest₀)
 
 abbrev μ-loop : tie.MeasureT-loop
 μ-loop table unpacked n have₀ rest₀ k₀ have rest k = n - k

@@ -4,12 +4,12 @@ use Prim.Native.Nat.{_-_}
 use native.Mathlib.Omega.{arith}
 use lib.ListN.{length}
 use Rattle.table_walk.specs.Walked.{Walked}
-use Rattle.table_walk.proofs.Walking.{head-there, Along, along-start, along-end, along-more, along-stuck, along-full}
+use Rattle.table_walk.proofs.Walking.{head-there, WalkedTo, along-start, along-end, along-more, along-stuck, along-full}
 use Rattle.table_walk.proofs.unpack.Statement.{statement}
 use Rattle.table_walk.proofs.unpack.Tie as tie
 
 abbrev Inv-loop : tie.InvT-loop
-Inv-loop table unpacked₀ n₀ at₀ unpacked n at = Along table unpacked n at × (length unpacked ≡ length unpacked₀)
+Inv-loop table unpacked₀ n₀ at₀ unpacked n at = WalkedTo table unpacked n at × (length unpacked ≡ length unpacked₀)
 
 abbrev μ-loop : tie.MeasureT-loop
 μ-loop table unpacked₀ n₀ at₀ unpacked n at = length table - at
