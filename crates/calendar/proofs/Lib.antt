@@ -1,2 +1,4 @@
 -- Laws that other crates' proofs may cite.
 pub mod Laws
+-- February
+pub mod February

@@ -1,5 +1,5 @@
 -- Dates and times.
-use mathlib.Core.Bool.{Bool, true, false, _&&_, _||_}
+use mathlib.Core.Bool.{Bool, true, false, not, _&&_, _||_}
 use mathlib.Core.List.{List}
 use Prim.Native.Nat.{ℕ, _+_, _-_, _*_, _%_}
 use lib.Dec.{eqb, leb}
@@ -8,9 +8,9 @@ use Rattle.classes.specs.Lists.{every}
 use Rattle.classes.specs.Bytes.{between, isDigit}
 use Rattle.numbers.specs.Decimal.{numberOf}
 
--- "February has 29 days in each year that four divides."
+-- "February has 29 days in each year that four divides"; but, by 02 (request 2), "A year that 100 divides and 400 doesn't has 28 days in February."
 unfoldable pub leap : ℕ → Bool
-leap year = eqb (year % 4) 0
+leap year = eqb (year % 4) 0 && (not (eqb (year % 100) 0) || eqb (year % 400) 0)
 
 unfoldable pub daysOf : ℕ → ℕ → ℕ
 daysOf year month = elim (eqb month 2) [

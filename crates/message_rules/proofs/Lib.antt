@@ -17,5 +17,5 @@ pub mod Promises
 pub mod Compiled
 -- the index
 pub mod Theorems
--- T20: the cases of 01 that are marked
+-- T20: the cases of 01 that are marked, and those that 02 names
 pub mod Starred

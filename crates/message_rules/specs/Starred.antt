@@ -1,4 +1,4 @@
--- The starred cases of 01 ("Checked by hand"): each as it stands there, and what it says of the definitions.
+-- The starred cases of 01 ("Checked by hand") and the cases that 02 names: each as it stands there, and what it says of the definitions.
 use mathlib.Core.Bool.{Bool, true, false, _&&_}
 use mathlib.Core.List.{List, [], _∷_, _++_}
 use Prim.Native.Nat.{ℕ, zero, suc, _*_}
@@ -157,5 +157,17 @@ starredCases =
     ∷
     -- * `struct s { int x; bool y as x; };`: 8 at 28.
     refusedText "struct s { int x; bool y as x; };" 8 28
+    ∷
+    []
+
+-- ---- the cases that 02 names, request by request
+
+unfoldable pub requestedCases : List Case
+requestedCases =
+    -- 2: "`19000229` becomes 24"
+    refusedMessage text·D "17 surveyed=19000229 d=1" 24 12
+    ∷
+    -- 2: "`20000229` stays accepted."
+    read text·D "17 surveyed=20000229 d=1" (row 0 4294967295 0 24 ∷ row 1 0 0 2 ∷ row 2 0 12 20 ∷ row 3 0 23 24 ∷ [])
     ∷
     []

@@ -69,7 +69,7 @@ fn is_date(word: &[u8]) -> bool {
     let days = match month {
         1 | 3 | 5 | 7 | 8 | 10 | 12 => 31,
         4 | 6 | 9 | 11 => 30,
-        2 if year % 4 == 0 => 29,
+        2 if year % 400 == 0 || year % 4 == 0 && year % 100 != 0 => 29,
         2 => 28,
         _ => 0,
     };

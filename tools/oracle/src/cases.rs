@@ -585,7 +585,7 @@ pub static CASES: &[Case] = &[
     read("shortest word", SIMPLE, b"u=a/", Count(2)),
     read("word too long", SIMPLE, b"u=abcd", Refused(24, 2)),
     read("string for unquoted-ascii", SIMPLE, b"u=\"ab\"", Refused(24, 2)),
-    read("29 February 1900", SIMPLE, b"d=19000229", Count(2)),
+    read("29 February 2024", SIMPLE, b"d=20240229", Count(2)),
     read("29 February 2023", SIMPLE, b"d=20230229", Refused(24, 2)),
     read("30 February 2000", SIMPLE, b"d=20000230", Refused(24, 2)),
     read("1 January 1", SIMPLE, b"d=00010101", Count(2)),
@@ -602,6 +602,18 @@ pub static CASES: &[Case] = &[
     read("minute 60", SIMPLE, b"t=236000", Refused(24, 2)),
     read("second 60", SIMPLE, b"t=235960", Refused(24, 2)),
     read("five digits", SIMPLE, b"t=23595", Refused(24, 2)),
+    // Request 2: leap years.
+    read("29 February 1900", D, b"17 surveyed=19000229 d=1", Refused(24, 12)),
+    read("29 February 1700", D, b"17 surveyed=17000229 d=1", Refused(24, 12)),
+    read("29 February 100", D, b"17 surveyed=01000229 d=1", Refused(24, 12)),
+    read("29 February 2100", D, b"17 surveyed=21000229 d=1", Refused(24, 12)),
+    read("29 February 2000", D, b"17 surveyed=20000229 d=1", Count(4)),
+    read("29 February 1600", D, b"17 surveyed=16000229 d=1", Count(4)),
+    read("29 February 400", D, b"17 surveyed=04000229 d=1", Count(4)),
+    read("29 February 4", D, b"17 surveyed=00040229 d=1", Count(4)),
+    read("28 February 1900", D, b"17 surveyed=19000228 d=1", Count(4)),
+    read("D, 29 February 2023", D, b"17 surveyed=20230229 d=1", Refused(24, 12)),
+    read("29 February of the year 0", D, b"17 surveyed=00000229 d=1", Refused(24, 12)),
     // A long chain of choices: 16,384 bytes, `x=`, 3,276 times `deep=`, and `7` with a blank.
     made_message("long chain", U, long_chain, Count(3_279)),
 ];

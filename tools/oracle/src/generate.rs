@@ -75,7 +75,7 @@ impl Frame {
 }
 
 /// Definitions that every stream's pool starts with.
-pub const FIXED: [&str; 16] = [
+pub const FIXED: [&str; 17] = [
     "struct tile { int<1..99999> id as ?; date surveyed; int<0..30000> depth[1..*] as d; [ unquoted-ascii<1..8> boat; ] };",
     "struct t { unquoted-ascii<1..8> remark[0..1] as ?; date surveyed; };",
     "struct r { u x[1..2]; }; union u { int<0..9> n as ?; void any; u deep; };",
@@ -92,11 +92,13 @@ pub const FIXED: [&str; 16] = [
     "struct r { s x[1..3] as ?; s y[0..2]; }; struct s { s z[0..2] as ?; ascii<0..3> w; };",
     "struct r { struct e as ? { }; u x[0..1]; }; union u { e5 d; [ r box; ] }; ascii<2..5> e5;",
     "struct s{};",
+    "struct r { date d[1..*] as ?; };",
 ];
 
-/// The fixed definitions with a union in itself, and those with a root in itself.
+/// The fixed definitions with a union in itself, those with a root in itself, and a list of dates.
 const CHAINS: [usize; 2] = [2, 8];
 const NESTS: [usize; 2] = [7, 12];
+const DATES: usize = 16;
 
 fn token(text: &str) -> Token {
     text.as_bytes().to_vec()
@@ -1069,14 +1071,43 @@ pub fn good_value(rng: &mut Rng, r: &Record) -> Token {
             let len = length(rng, lo, hi);
             plain(rng, len)
         }
-        6 => {
-            let all = [
-                "20240310", "00010101", "99991231", "20240229", "19000229", "20230228", "20240430",
-            ];
-            token(rng.pick(&all))
-        }
+        6 => token(&good_date(rng)),
         _ => token(rng.pick(&["000000", "235959", "120030", "195900"])),
     }
+}
+
+/// A date of the calendar: one of some, a 29 February, or a day before or after it in a year
+/// around a century's first.
+fn good_date(rng: &mut Rng) -> String {
+    let all = [
+        "20240310", "00010101", "99991231", "20240229", "20230228", "20240430",
+    ];
+    let near = 99 + 100 * rng.below(99) + rng.below(3);
+    match rng.below(4) {
+        0 | 1 => rng.pick(&all).to_string(),
+        2 => leap_day(rng),
+        _ => format!("{near:04}{}", rng.pick(&["0228", "0301"])),
+    }
+}
+
+/// 29 February of a year that has it: 400 divides it, or four does and 100 doesn't.
+fn leap_day(rng: &mut Rng) -> String {
+    let year = if rng.one_in(2) {
+        400 * (1 + rng.below(24))
+    } else {
+        100 * rng.below(100) + 4 * (1 + rng.below(24))
+    };
+    format!("{year:04}0229")
+}
+
+/// 29 February of a year that hasn't: 100 divides it and 400 doesn't, or four doesn't.
+fn no_leap_day(rng: &mut Rng) -> String {
+    let year = if rng.one_in(2) {
+        400 * rng.below(25) + 100 * (1 + rng.below(3))
+    } else {
+        4 * rng.below(2_500) + 1 + rng.below(3)
+    };
+    format!("{year:04}0229")
 }
 
 const ODD_INTS: [&str; 8] = ["-0", "-", "+1", "1-", "00", "-01", "9999999999", "0x1"];
@@ -1115,7 +1146,8 @@ pub fn other_value(rng: &mut Rng, r: &Record) -> Token {
         (4, 1) => quoted(rng, lo.max(1) as usize - 1),
         (5, 0) => plain(rng, (hi as usize + 1).min(1025)),
         (5, 1) => plain(rng, (lo as usize - 1).max(1)),
-        (6, 0..=3) => token(rng.pick(&ODD_DATES)),
+        (6, 0 | 1) => token(&no_leap_day(rng)),
+        (6, 2 | 3) => token(rng.pick(&ODD_DATES)),
         (7, 0..=3) => token(rng.pick(&ODD_TIMES)),
         _ => token(rng.pick(&ODD_TOKENS)),
     }
@@ -1243,6 +1275,7 @@ impl Stream {
                 let at = rng.pick(&NESTS);
                 (at, nested_message(rng, &self.pool[at]))
             }
+            4 | 5 => (DATES, dates_message(rng)),
             _ => {
                 let at = self.entry();
                 let (rng, entry) = self.parts(at);
@@ -1627,6 +1660,21 @@ fn chain_message(rng: &mut Rng, entry: &Entry, most: usize) -> Vec<u8> {
         .bytes(),
     );
     out
+}
+
+/// A list of dates; one in eight is a 29 February that its year hasn't.
+fn dates_message(rng: &mut Rng) -> Vec<u8> {
+    let mut list = vec![];
+    for _ in 0..=rng.below(5) {
+        let date = if rng.one_in(8) {
+            no_leap_day(rng)
+        } else {
+            good_date(rng)
+        };
+        list.extend([token(&date), token(",")]);
+    }
+    list.pop();
+    spaced(rng, &list)
 }
 
 /// A message of about 16,384 bytes.

@@ -1249,8 +1249,9 @@ fn simple_end(message: &[u8], at: usize, kind: &Record) -> Option<usize> {
 
 fn is_date(number: u32) -> bool {
     let (year, month, day) = (number / 10_000, number / 100 % 100, number % 100);
+    let leap = || year % 4 == 0 && (year % 100 != 0 || year % 400 == 0);
     let days = match month {
-        2 => 28 + u32::from(year % 4 == 0),
+        2 => 28 + u32::from(leap()),
         4 | 6 | 9 | 11 => 30,
         1..=12 => 31,
         _ => 0,

@@ -51,9 +51,10 @@ fn is_date(bytes: &[u8]) -> bool {
 }
 
 /// The days of a month, none for a month that isn't. "February has 29 days in each year that
-/// four divides."
+/// four divides"; and "A year that 100 divides and 400 doesn't has 28 days in February."
 fn days(year: u32, month: u32) -> u32 {
     match month {
+        2 if year.is_multiple_of(100) && !year.is_multiple_of(400) => 28,
         2 if year.is_multiple_of(4) => 29,
         2 => 28,
         4 | 6 | 9 | 11 => 30,
@@ -69,4 +70,26 @@ fn is_time(bytes: &[u8]) -> bool {
         && digits(&bytes[..2]) <= 23
         && digits(&bytes[2..4]) <= 59
         && digits(&bytes[4..]) <= 59
+}
+
+#[cfg(test)]
+mod tests {
+    use super::*;
+
+    /// The Gregorian calendar has 3,652,059 days from 1 January 0001 to 31 December 9999, and 2,424
+    /// of its years a 29 February.
+    #[test]
+    fn the_calendar_has_its_days() {
+        let (mut days, mut leap_years) = (0, 0);
+        for year in 0..10_000 {
+            for month in 0..=13 {
+                for day in 0..=32 {
+                    let word = format!("{year:04}{month:02}{day:02}");
+                    days += u32::from(is_date(word.as_bytes()));
+                }
+            }
+            leap_years += u32::from(is_date(format!("{year:04}0229").as_bytes()));
+        }
+        assert_eq!((days, leap_years), (3_652_059, 2_424));
+    }
 }
