@@ -57,18 +57,19 @@ extern "C" {
 
 /*
  * Why a message is refused, and the place that goes with it (an offset in the message, but for 20
- * and 29). First 20, 21, 22 in that order, then the leftmost of 23 to 28, then 29.
+ * and 29). First 20, 21, 22 in that order, then the leftmost of 23 to 28 and 30, then 29.
  */
 #define LUMAS_BAD_TABLE 20         /* no definition compiles to this table; 0 */
 #define LUMAS_MESSAGE_TOO_LONG 21  /* over 16,384 bytes; place 16,384 */
 #define LUMAS_MESSAGE_BAD_BYTE 22  /* bad byte, a quote that begins no string, the 17th open brace; that byte */
 #define LUMAS_NOT_ALLOWED 23       /* a token that is not allowed there; it, or the length */
-#define LUMAS_BAD_VALUE 24         /* a word, string or brace that is no value of the type; it */
+#define LUMAS_BAD_VALUE 24         /* a word, string or brace without the form of the type's values; it */
 #define LUMAS_BAD_COUNT 25         /* a list too short: the token after it; too long: the comma too many */
 #define LUMAS_TAG_TWICE 26         /* a known tag again in one body; the second */
 #define LUMAS_MISSING 27           /* a required field is absent; the closing brace, or the length */
 #define LUMAS_NO_ALTERNATIVE 28    /* a word that names no alternative; it */
 #define LUMAS_ROWS_DONT_FIT 29     /* the rows don't fit what was lent; the rows needed */
+#define LUMAS_VALUE_OUTSIDE 30     /* right form, but the number, length, date or time is not allowed; it */
 
 /*
  * Compiles a definition's text into the lent table.

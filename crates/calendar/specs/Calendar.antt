@@ -18,21 +18,29 @@ daysOf year month = elim (eqb month 2) [
   | false ↦ elim (eqb month 4 || (eqb month 6 || (eqb month 9 || eqb month 11))) [ true ↦ 30 | false ↦ 31 ]
 ]
 
--- "Date: eight digits, year 0001 to 9999, month, day"
-unfoldable pub isDate : List ℕ → Bool
-isDate w =
+-- "Date: eight digits"
+unfoldable pub dateForm : List ℕ → Bool
+dateForm w = eqb (length w) 8 && every isDigit w
+
+-- "year 0001 to 9999, month, day": what eight digits may be
+unfoldable pub dateWithin : List ℕ → Bool
+dateWithin w =
     let year = numberOf (take 4 w) in
     let month = numberOf (take 2 (drop 4 w)) in
     let day = numberOf (drop 6 w) in
-    eqb (length w) 8 && (every isDigit w && (leb 1 year && (between 1 12 month && between 1 (daysOf year month) day)))
+    leb 1 year && (between 1 12 month && between 1 (daysOf year month) day)
 
--- "Time: six digits, 00 to 23, 00 to 59, 00 to 59."
-unfoldable pub isTime : List ℕ → Bool
-isTime w =
+-- "Time: six digits"
+unfoldable pub timeForm : List ℕ → Bool
+timeForm w = eqb (length w) 6 && every isDigit w
+
+-- "00 to 23, 00 to 59, 00 to 59": what six digits may be
+unfoldable pub timeWithin : List ℕ → Bool
+timeWithin w =
     let hour = numberOf (take 2 w) in
     let minute = numberOf (take 2 (drop 2 w)) in
     let second = numberOf (drop 4 w) in
-    eqb (length w) 6 && (every isDigit w && (leb hour 23 && (leb minute 59 && leb second 59)))
+    leb hour 23 && (leb minute 59 && leb second 59)
 
 -- the number of the two digits at a place
 abbrev pub pairAt : List ℕ → ℕ → ℕ

@@ -39,7 +39,7 @@ fn explain(number: &[u8], out: &mut [u8]) -> u8 {
         return misused(b"explain takes a number");
     };
     if !cli_wording::is_refusal(n) {
-        return misused(b"refusals have the numbers 1 to 11 and 20 to 29");
+        return misused(b"refusals have the numbers 1 to 11 and 20 to 30");
     }
     let at = cli_wording::put_explanation(out, 0, n);
     ended(out, started(at), ACCEPTED)

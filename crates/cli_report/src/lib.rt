@@ -6,6 +6,7 @@ mod tables;
 pub use refusals::put_refusal;
 pub use refusals::put_unknown;
 pub use tables::put_bounds;
+pub use tables::put_int;
 pub use tables::put_record_line;
 pub use tables::put_row_line;
 pub use tables::put_row_numbers;

@@ -105,7 +105,7 @@ fn put_counts(out: &mut [u8], at: usize, lo: usize, hi: usize) -> usize {
 }
 
 // An i32 that is counted from the least.
-fn put_int(out: &mut [u8], at: usize, n: u32) -> usize
+pub fn put_int(out: &mut [u8], at: usize, n: u32) -> usize
     ensures { λ r. ⌜ Wrote (intText n) (now (out .entry)) at (now (out .exit)) r ⌝ }
 {
     if n < numbers::BIAS {

@@ -1,9 +1,11 @@
-// What a message refused with 24 or 27 lacks: the type that is wanted at the place, or the fields that are missing.
+// What a message refused with 24, 27 or 30 lacks: the type or the range that is wanted at the place, or the fields that
+// are missing.
 // The reader answers a number and a place. To tell whose value or body it is, the message is cut at the place, its braces
 // are closed, and it is read again by a relaxed table, whose rows say so. Up to the place both tables read the same.
 ghost use mathlib.Core.Path.{_≡_};
 ghost use Rattle.text.specs.Text.{Wrote};
-ghost use Rattle.cli_wanted.specs.Wanted.{resolvedIn, typeOf, isChoice, wantedText};
+ghost use Rattle.table_records.specs.Stored.{recordIn};
+ghost use Rattle.cli_wanted.specs.Wanted.{resolvedIn, typeOf, isChoice, spanText, allowedOf, choiceText, wantedText, wantedRangeText};
 
 mod again;
 mod relaxed;
@@ -14,9 +16,7 @@ use again::read_cut;
 use cli_report::row_number;
 use relaxed::put_relaxed;
 
-// The refusals of which more can be said.
-const NO_VALUE: u32 = 24;
-
+// Of this refusal and those of a bad value more can be said.
 const FIELD_MISSING: u32 = 27;
 
 // The record that has a parameter's kind, range and body: a reference's target, or its own.
@@ -124,7 +124,7 @@ fn say_missing(
     put_missing(out, named, &unpacked, n, s, rows, count, body)
 }
 
-// ---- 24
+// ---- 24 and 30
 
 // "int<1..99999>", "date".
 fn put_type(out: &mut [u8], at: usize, table: &[u8], unpacked: &[u32], t: usize) -> usize
@@ -154,7 +154,46 @@ fn is_choice(table: &[u8], unpacked: &[u32], p: usize) -> bool
         & (table_records::kind_at(table, unpacked, parent) == numbers::UNION)
 }
 
-// "wanted: int<1..99999> id". In place of a union's int a tag of the union can stand.
+// "1 to 99999".
+fn put_span(out: &mut [u8], at: usize, table: &[u8], unpacked: &[u32], t: usize) -> usize
+    ensures { λ r. ⌜ Wrote (spanText (recordIn (now (table .entry)) (now (unpacked .entry)) t .least) (recordIn (now (table .entry)) (now (unpacked .entry)) t .most)) (now (out .entry)) at (now (out .exit)) r ⌝ }
+{
+    let o = cli_report::put_int(out, at, table_records::least_at(table, unpacked, t));
+    let o = text::put_text(out, o, b" to ");
+    cli_report::put_int(out, o, table_records::most_at(table, unpacked, t))
+}
+
+// What a type allows: ", from 1 to 99999", ", 1 to 8 bytes".
+fn put_allowed(out: &mut [u8], at: usize, table: &[u8], unpacked: &[u32], t: usize) -> usize
+    ensures { λ r. ⌜ Wrote (allowedOf (now (table .entry)) (now (unpacked .entry)) t) (now (out .entry)) at (now (out .exit)) r ⌝ }
+{
+    let kind = table_records::kind_at(table, unpacked, t);
+    if kind == numbers::INT {
+        let o = text::put_text(out, at, b", from ");
+        return put_span(out, o, table, unpacked, t);
+    }
+    if kind == numbers::DATE {
+        return text::put_text(out, at, b", a day from 00010101 to 99991231");
+    }
+    if kind == numbers::TIME {
+        return text::put_text(out, at, b", from 000000 to 235959");
+    }
+    let o = text::put_text(out, at, b", ");
+    let o = put_span(out, o, table, unpacked, t);
+    text::put_text(out, o, b" bytes")
+}
+
+// In place of a union's int a tag of the union can stand.
+fn put_choice(out: &mut [u8], at: usize, choice: bool) -> usize
+    ensures { λ r. ⌜ Wrote (choiceText choice) (now (out .entry)) at (now (out .exit)) r ⌝ }
+{
+    if choice {
+        return text::put_text(out, at, b", or a tag of the union\n");
+    }
+    text::put_byte(out, at, b'\n')
+}
+
+// 24: "wanted: int<1..99999> id".
 fn put_wanted(out: &mut [u8], table: &[u8], unpacked: &[u32], p: usize) -> usize
     ensures { λ r. ⌜ Wrote (wantedText (now (table .entry)) (now (unpacked .entry)) p) (now (out .entry)) 0 (now (out .exit)) r ⌝ }
 {
@@ -162,10 +201,20 @@ fn put_wanted(out: &mut [u8], table: &[u8], unpacked: &[u32], p: usize) -> usize
     let o = put_type(out, o, table, unpacked, resolved(table, unpacked, p));
     let o = text::put_byte(out, o, b' ');
     let o = text::put_text(out, o, table_records::label_at(table, unpacked, p));
-    if is_choice(table, unpacked, p) {
-        return text::put_text(out, o, b", or a tag of the union\n");
-    }
-    text::put_byte(out, o, b'\n')
+    put_choice(out, o, is_choice(table, unpacked, p))
+}
+
+// 30: "wanted: int id, from 1 to 99999".
+fn put_wanted_range(out: &mut [u8], table: &[u8], unpacked: &[u32], p: usize) -> usize
+    ensures { λ r. ⌜ Wrote (wantedRangeText (now (table .entry)) (now (unpacked .entry)) p) (now (out .entry)) 0 (now (out .exit)) r ⌝ }
+{
+    let t = resolved(table, unpacked, p);
+    let o = text::put_text(out, 0, b"wanted: ");
+    let o = cli_wording::put_kind(out, o, table_records::kind_at(table, unpacked, t));
+    let o = text::put_byte(out, o, b' ');
+    let o = text::put_text(out, o, table_records::label_at(table, unpacked, p));
+    let o = put_allowed(out, o, table, unpacked, t);
+    put_choice(out, o, is_choice(table, unpacked, p))
 }
 
 // A void that takes the probing word is a union's, and says nothing of what else the union takes.
@@ -174,6 +223,7 @@ fn say_wanted(
     relaxed: &[u8],
     named: &[u8],
     message: &[u8],
+    number: u32,
     place: usize,
     rows: &mut [u32],
 ) -> usize {
@@ -183,10 +233,13 @@ fn say_wanted(
     if (n <= p) | (table_records::kind_at(named, &unpacked, p) == numbers::VOID) {
         return 0;
     }
+    if number == numbers::OUTSIDE {
+        return put_wanted_range(out, named, &unpacked, p);
+    }
     put_wanted(out, named, &unpacked, p)
 }
 
-// ---- both
+// ---- all three
 
 // Puts what more can be said of a refusal, and answers how many bytes it has. The labels are those of the table with names.
 pub fn put_lacking(
@@ -198,7 +251,7 @@ pub fn put_lacking(
     place: usize,
     rows: &mut [u32],
 ) -> usize {
-    if (number != NO_VALUE) & (number != FIELD_MISSING) {
+    if (number != numbers::NO_FORM) & (number != numbers::OUTSIDE) & (number != FIELD_MISSING) {
         return 0;
     }
     let mut relaxed = io::large_buffer();
@@ -207,5 +260,5 @@ pub fn put_lacking(
     if number == FIELD_MISSING {
         return say_missing(out, relaxed, named, message, place, rows);
     }
-    say_wanted(out, relaxed, named, message, place, rows)
+    say_wanted(out, relaxed, named, message, number, place, rows)
 }

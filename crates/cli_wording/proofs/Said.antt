@@ -37,23 +37,23 @@ module _ (f : ℕ → List ℕ) (m n : ℕ) {o o₁ : List ℕ} {at r : ℕ} whe
       rw i at w
 
 module _ (n : ℕ) (o : List ℕ) (at : ℕ) where
-  pub no-meaning : 30 ≤ n → Wrote (meaning n) o at o at
+  pub no-meaning : 31 ≤ n → Wrote (meaning n) o at o at
   unfolding meaning below
-  no-meaning h = rw (none 30 n _ refl h) (nothing o at)
+  no-meaning h = rw (none 31 n _ refl h) (nothing o at)
 
-  pub no-place-meaning : 30 ≤ n → Wrote (placeMeaning n) o at o at
+  pub no-place-meaning : 31 ≤ n → Wrote (placeMeaning n) o at o at
   unfolding placeMeaning below
-  no-place-meaning h = rw (none 30 n _ refl h) (nothing o at)
+  no-place-meaning h = rw (none 31 n _ refl h) (nothing o at)
 
   pub no-kind : 11 ≤ n → Wrote (kindName n) o at o at
   unfolding kindName below
   no-kind h = rw (none 11 n _ refl h) (nothing o at)
 
-pub clear-meaning : clear meaning 30 0 ≡ true
+pub clear-meaning : clear meaning 31 0 ≡ true
 unfolding clear every meaning sayingOf bytes
 clear-meaning = refl
 
-pub clear-place : clear placeMeaning 30 0 ≡ true
+pub clear-place : clear placeMeaning 31 0 ≡ true
 unfolding clear every placeMeaning sayingOf bytes
 clear-place = refl
 

@@ -20,7 +20,7 @@ sayingOf n ((k, s) ∷ l) = cond (eqb n k) (bytes s) (sayingOf n l)
 
 -- the numbers that a refusal can have
 abbrev pub isRefusal : ℕ → Bool
-isRefusal n = between 1 11 n || between 20 29 n
+isRefusal n = between 1 11 n || between 20 30 n
 
 -- what a refusal means
 unfoldable pub meaning : ℕ → List ℕ
@@ -41,12 +41,13 @@ meaning n =
     (21, "the message is longer than 16,384 bytes") ∷
     (22, "a wrong character, a lone \" or a 17th {") ∷
     (23, "this can't stand here, or the message ends early") ∷
-    (24, "not a value of the type, or outside its range") ∷
+    (24, "no value of the type is written like this") ∷
     (25, "too few or too many values in this list") ∷
     (26, "this tag was given before") ∷
     (27, "a required field is missing") ∷
     (28, "no alternative has this tag") ∷
     (29, "the rows do not fit the room for them") ∷
+    (30, "written rightly, but outside what is allowed") ∷
     [])
 
 -- what a refusal's place is
@@ -74,6 +75,7 @@ placeMeaning n =
     (27, "the } of the struct, or the end of the message") ∷
     (28, "the word") ∷
     (29, "the number of rows needed") ∷
+    (30, "the value") ∷
     [])
 
 -- a kind as definitions write it

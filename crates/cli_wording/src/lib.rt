@@ -11,13 +11,16 @@ ghost use Rattle.cli_wording.specs.Sayings.{isRefusal, meaning, placeMea
 pub fn is_refusal(number: u32) -> bool
     ensures { λ r. ⌜ r ≡ isRefusal number ⌝ }
 {
-    ((1 <= number) & (number <= 11)) | ((20 <= number) & (number <= 29))
+    ((1 <= number) & (number <= 11)) | ((20 <= number) & (number <= 30))
 }
 
 // ---- texts by number
 
-// What each refusal means: a line for each number from 0 to 29, empty where it is none of a refusal.
-const MEANINGS: [u8; 831] = *b"\
+// One more than the last number of a refusal.
+const REFUSALS_END: u32 = 31;
+
+// What each refusal means: a line for each number from 0 to 30, empty where it is none of a refusal.
+const MEANINGS: [u8; 872] = *b"\
     \n\
     the definition is longer than 65,535 bytes\n\
     a wrong character, an endless /* or a ninth {\n\
@@ -35,16 +38,17 @@ const MEANINGS: [u8; 831] = *b"\
     the message is longer than 16,384 bytes\n\
     a wrong character, a lone \" or a 17th {\n\
     this can't stand here, or the message ends early\n\
-    not a value of the type, or outside its range\n\
+    no value of the type is written like this\n\
     too few or too many values in this list\n\
     this tag was given before\n\
     a required field is missing\n\
     no alternative has this tag\n\
     the rows do not fit the room for them\n\
+    written rightly, but outside what is allowed\n\
 ";
 
 // What each refusal's place is, in the same way.
-const PLACE_MEANINGS: [u8; 574] = *b"\
+const PLACE_MEANINGS: [u8; 584] = *b"\
     \n\
     the first byte too many\n\
     the character, the /* or the {\n\
@@ -68,6 +72,7 @@ const PLACE_MEANINGS: [u8; 574] = *b"\
     the } of the struct, or the end of the message\n\
     the word\n\
     the number of rows needed\n\
+    the value\n\
 ";
 
 // The kinds as definitions write them, a line for each number from 0 to 10.
@@ -123,7 +128,7 @@ pub fn put_line(out: &mut [u8], at: usize, lines: &[u8], n: usize) -> usize
 pub fn put_meaning(out: &mut [u8], at: usize, number: u32) -> usize
     ensures { λ r. ⌜ Wrote (meaning number) (now (out .entry)) at (now (out .exit)) r ⌝ }
 {
-    if number < 30 {
+    if number < REFUSALS_END {
         return put_line(out, at, &MEANINGS, number as usize);
     }
     at
@@ -133,7 +138,7 @@ pub fn put_meaning(out: &mut [u8], at: usize, number: u32) -> usize
 fn put_place_meaning(out: &mut [u8], at: usize, number: u32) -> usize
     ensures { λ r. ⌜ Wrote (placeMeaning number) (now (out .entry)) at (now (out .exit)) r ⌝ }
 {
-    if number < 30 {
+    if number < REFUSALS_END {
         return put_line(out, at, &PLACE_MEANINGS, number as usize);
     }
     at

@@ -24,13 +24,13 @@ pub fn unfit(kind: u8) -> u32
     ensures { λ r. ⌜ r ≡ unfitOf kind ⌝ }
 {
     if kind == message_tokens::WORD {
-        return 24;
+        return numbers::NO_FORM;
     }
     if kind == message_tokens::STRING {
-        return 24;
+        return numbers::NO_FORM;
     }
     if kind == message_tokens::OPENING {
-        return 24;
+        return numbers::NO_FORM;
     }
     23
 }

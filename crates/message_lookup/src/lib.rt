@@ -6,7 +6,9 @@ ghost use Prim.Native.Nat.{ℕ, _+_, _-_, _<_};
 ghost use lib.ListN.{length, set};
 ghost use Rattle.classes.specs.Bytes.{between};
 ghost use Rattle.numbers.specs.Limits.{bias};
-ghost use Rattle.reading_rules.specs.Value.{isBool, formThenRange};
+ghost use Rattle.calendar.specs.Calendar.{dateForm, dateWithin, timeForm, timeWithin};
+ghost use Rattle.reading_rules.specs.Token.{word, string};
+ghost use Rattle.reading_rules.specs.Value.{isBool, formThenRange, valueNumber};
 ghost use Rattle.reading_rules.specs.Schema.{isVoid, isUntaggedOf, isTaggedOf, first};
 ghost use Rattle.reading_rules.specs.Parse.{mayGrow};
 ghost use Rattle.table_records.specs.Stored.{recordIn, recordsAt};
@@ -254,14 +256,17 @@ pub fn complete(table: &[u8], unpacked: &[u32], n: usize, p: usize, seen: &[bool
 
 // ---- values
 
-// 0 where the form is right and the value lies in its range, else 24.
+// 0 where the form is right and the value lies in its range; else the number for what is wrong, the form first.
 fn form_then_range(form: bool, within: bool) -> u32
     ensures { λ r. ⌜ r ≡ formThenRange form within ⌝ }
 {
-    if form & within {
-        return 0;
+    if !form {
+        return numbers::NO_FORM;
     }
-    24
+    if !within {
+        return numbers::OUTSIDE;
+    }
+    0
 }
 
 fn is_bool(text: &[u8]) -> bool
@@ -301,24 +306,61 @@ fn int_in_range(table: &[u8], unpacked: &[u32], q: usize, text: &[u8]) -> bool
     )
 }
 
-// The value rule of each kind, for a word or for a string without its quotes.
+fn judge_date(text: &[u8]) -> u32
+    ensures { λ r. ⌜ r ≡ formThenRange (dateForm (now (text .entry))) (dateWithin (now (text .entry))) ⌝ }
+{
+    if calendar::date_form(text) {
+        return form_then_range(true, calendar::date_within(text));
+    }
+    numbers::NO_FORM
+}
+
+fn judge_time(text: &[u8]) -> u32
+    ensures { λ r. ⌜ r ≡ formThenRange (timeForm (now (text .entry))) (timeWithin (now (text .entry))) ⌝ }
+{
+    if calendar::time_form(text) {
+        return form_then_range(true, calendar::time_within(text));
+    }
+    numbers::NO_FORM
+}
+
+// The value rule of each kind, for a word.
+fn judge_word(table: &[u8], unpacked: &[u32], q: usize, text: &[u8]) -> u32
+    ensures { λ r. ⌜ r ≡ valueNumber (recordIn (now (table .entry)) (now (unpacked .entry)) q) (word (now (text .entry))) ⌝ }
+{
+    let kind = table_records::kind_at(table, unpacked, q);
+    match kind {
+        numbers::BOOL => form_then_range(is_bool(text), true),
+        numbers::INT => form_then_range(
+            numbers::is_int(text),
+            int_in_range(table, unpacked, q, text),
+        ),
+        numbers::UNQUOTED => form_then_range(true, length_in_range(table, unpacked, q, text)),
+        numbers::DATE => judge_date(text),
+        numbers::TIME => judge_time(text),
+        _ => numbers::NO_FORM,
+    }
+}
+
+// The same for a string, without its quotes: only an ascii takes one.
+fn judge_string(table: &[u8], unpacked: &[u32], q: usize, text: &[u8]) -> u32
+    ensures { λ r. ⌜ r ≡ valueNumber (recordIn (now (table .entry)) (now (unpacked .entry)) q) (string (now (text .entry))) ⌝ }
+{
+    form_then_range(
+        table_records::kind_at(table, unpacked, q) == numbers::ASCII,
+        length_in_range(table, unpacked, q, text),
+    )
+}
+
+// The number that refuses a word, or a string without its quotes, as a value of the parameter q; 0 where it is one.
 pub fn judge(table: &[u8], unpacked: &[u32], n: usize, q: usize, text: &[u8], quoted: bool) -> u32
     ensures { λ r. ⌜ r ≡ schemaAt (now (table .entry)) (now (unpacked .entry)) n .judge q (textToken quoted (now (text .entry))) ⌝ }
 {
     if n <= q {
-        return 24;
+        return numbers::NO_FORM;
     }
-    let kind = table_records::kind_at(table, unpacked, q);
-    match kind {
-        numbers::BOOL => form_then_range(!quoted & is_bool(text), true),
-        numbers::INT => form_then_range(
-            !quoted & numbers::is_int(text),
-            int_in_range(table, unpacked, q, text),
-        ),
-        numbers::ASCII => form_then_range(quoted, length_in_range(table, unpacked, q, text)),
-        numbers::UNQUOTED => form_then_range(!quoted, length_in_range(table, unpacked, q, text)),
-        numbers::DATE => form_then_range(!quoted & calendar::is_date(text), true),
-        numbers::TIME => form_then_range(!quoted & calendar::is_time(text), true),
-        _ => 24,
+    if quoted {
+        return judge_string(table, unpacked, q, text);
     }
+    judge_word(table, unpacked, q, text)
 }

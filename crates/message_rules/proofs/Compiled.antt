@@ -8,20 +8,22 @@ use native.Mathlib.Omega.{arith}
 use lib.ListN.{length, drop}
 use Rattle.classes.specs.Bytes.{IsBytes}
 use Rattle.numbers.specs.Limits.{parameterLimit, rowWidth}
-use Rattle.reading_rules.specs.Record.{Record}
-use Rattle.reading_rules.specs.Schema.{nowhere, found}
+use Rattle.reading_rules.specs.Record.{Record, recordAt}
+use Rattle.reading_rules.specs.Schema.{nowhere, found, schemaOf}
 use Rattle.reading_rules.specs.Reading.{Tree, body}
+use Rattle.reading_rules.proofs.CountLaws.{clash-bool}
 use Rattle.reading_rules.proofs.Rules.{ReadingRules}
+use Rattle.reading_rules.proofs.Values.{outside-30}
 use Rattle.table_rules.specs.RecordRules.{tableRules}
 use Rattle.table_rules.specs.Compilable.{Compilable}
 use Rattle.table_rules.proofs.Theorems.{rules-iff, no-text-iff, bytes-records}
 use Rattle.table_rules.proofs.Facts.{rules-formed, reading-rules}
 use Rattle.message_rules.specs.Scan.{Lexeme, Spelled}
 use Rattle.message_rules.specs.Rows.{Row, messageRows, cells}
-use Rattle.message_rules.specs.Verdict.{LawfulReading, Within, MessageAnswer, accepted, refusal, orEmpty, recordsIn, readWith, rowsWith, readAnswer, rowsAfter}
-use Rattle.message_rules.specs.Promise.{Reading, ReadPromise}
+use Rattle.message_rules.specs.Verdict.{LawfulReading, Within, isUnlawful, MessageAnswer, accepted, refusal, orEmpty, recordsIn, readWith, rowsWith, readAnswer, rowsAfter}
+use Rattle.message_rules.specs.Promise.{Reading, Outside, ReadPromise}
 use Rattle.message_rules.proofs.Spelling.{spelled-once}
-use Rattle.message_rules.proofs.Promises.{one-reading, lawful-accepted, lawful-29, accepted-lawful, refused-29, refused-unlawful, refusal-number, accepted-written, refused-unchanged, refused-21, refused-22, spelled-clean}
+use Rattle.message_rules.proofs.Promises.{one-reading, lawful-accepted, lawful-29, accepted-lawful, refused-29, refused-unlawful, refusal-number, accepted-written, refused-unchanged, refused-21, refused-22, refused-30, number-unlawful, spelled-clean}
 
 -- the records of a table that keeps the rules keep what a reading rests on
 pub table-reading : (table : List ℕ) → tableRules parameterLimit table ≡ true → ReadingRules (recordsIn table)
@@ -99,7 +101,7 @@ module _ (table message lent : List ℕ) (ok : tableRules parameterLimit table �
           (rw m (lawful-29 records (table-reading table ok) message (r .tokens) (r .tree) (r .lawful) (r .within) room (rw (← m) h)))
 
   abbrev Unlawful : Type 0
-  Unlawful = (n : ℕ) × (place : ℕ) × (readAnswer table message room ≡ refusal n place) × (23 ≤ n) × (n ≤ 28)
+  Unlawful = (n : ℕ) × (place : ℕ) × (readAnswer table message room ≡ refusal n place) × (isUnlawful n ≡ true)
 
   no-reading : (ls : List Lexeme) → Spelled 0 message ls → Within message ls → Unlawful ↔ ((t : Tree body) → LawfulReading records message ls t → ⊥)
   no-reading ls s w = (there, λ f. back f (readWith records message room) refl)
@@ -108,15 +110,15 @@ module _ (table message lent : List ℕ) (ok : tableRules parameterLimit table �
       R = table-reading table ok
 
       there : Unlawful → (t : Tree body) → LawfulReading records message ls t → ⊥
-      there (n, place, e, l, h) t r = refused-unlawful records R message room n place (answer-is (refusal n place) e) (omega arith) ls t r w
+      there (n, place, e, u) t r = refused-unlawful records R message room n place (answer-is (refusal n place) e) (λ z. clash-bool (rw z at u)) ls t r w
 
       same : (ms : List Lexeme) (t : Tree body) → LawfulReading records message ms t → LawfulReading records message ls t
       same ms t r = rw (spelled-once message ls ms s (r .spelled)) r
 
-      number : (f : (t : Tree body) → LawfulReading records message ls t → ⊥) (n place : ℕ) → readWith records message room ≡ refusal n place → (23 ≤ n) × (n ≤ 28)
+      number : (f : (t : Tree body) → LawfulReading records message ls t → ⊥) (n place : ℕ) → readWith records message room ≡ refusal n place → isUnlawful n ≡ true
       number f n place e =
           let g = refusal-number records R message room n place e in
-          (at-least (λ q. not-21 (ap (λ m. refusal m place) q)) (λ q. not-22 (ap (λ m. refusal m place) q)) (g .0), at-most (λ q. not-29 (ap (λ m. refusal m place) q)) (g .1))
+          number-unlawful n (at-least (λ q. not-21 (ap (λ m. refusal m place) q)) (λ q. not-22 (ap (λ m. refusal m place) q)) (g .0)) (g .1) (λ q. not-29 (ap (λ m. refusal m place) q))
         where
           not-21 : refusal n place ≡ refusal 21 place → ⊥
           not-21 q = let x = refused-21 records R message room place (e ∙ q) in let y = w .short in omega (arith, x .0)
@@ -133,12 +135,17 @@ module _ (table message lent : List ℕ) (ok : tableRules parameterLimit table �
           at-least : (n ≡ 21 → ⊥) → (n ≡ 22 → ⊥) → 21 ≤ n → 23 ≤ n
           at-least a b h = omega (arith, a, b)
 
-          at-most : (n ≡ 29 → ⊥) → n ≤ 29 → n ≤ 28
-          at-most a h = omega (arith, a)
-
       back : (f : (t : Tree body) → LawfulReading records message ls t → ⊥) (a : MessageAnswer) → readWith records message room ≡ a → Unlawful
       back f (accepted k) e = let g = accepted-lawful records R message room k e in absurd (f (g .1) (same (g .0) (g .1) (g .2)))
-      back f (refusal n place) e = let g = number f n place e in (n, place, is-answer (refusal n place) e, g .0, g .1)
+      back f (refusal n place) e = (n, place, is-answer (refusal n place) e, number f n place e)
+
+  beyond-range : (place : ℕ) → readAnswer table message room ≡ refusal 30 place → Outside table message place
+  unfolding schemaOf
+  beyond-range place e =
+      let g = refused-30 records (table-reading table ok) message room place (answer-is (refusal 30 place) e) in
+      let q = g .5 .0 in
+      let o = outside-30 (recordAt records q) (g .1 .token) .0 (g .5 .1) in
+      record { before = g .0; it = g .1; after = g .2; spelled = g .3; there = g .4; parameter = q; form = o .0; range = o .1 }
 
 -- ---- the promise
 
@@ -159,6 +166,7 @@ read-promise table message lent bytes = by (tableRules parameterLimit table) ref
           oneReading = λ _ ls ms a b x y. one-reading (recordsIn table) (table-reading table ok) message ls ms a b x y;
           noRoom = λ k. ((λ e. (c, lacks-room table message lent ok k .0 e)), λ x. lacks-room table message lent ok k .1 (x .1));
           unlawful = λ _ ls s w. no-reading table message lent ok ls s w;
+          outside = beyond-range table message lent ok;
           unchanged = λ n place e. good-after table message lent ok ∙ refused-unchanged (recordsIn table) (table-reading table ok) message lent n place (answer-is table message lent ok (refusal n place) e);
         }
     by false bad =
@@ -171,5 +179,6 @@ read-promise table message lent bytes = by (tableRules parameterLimit table) ref
           oneReading = λ c. absurd (f c);
           noRoom = λ k. ((λ e. let q : _≡_ {A = ℕ} 20 29 = cc in absurd (omega arith)), λ x. absurd (f (x .0)));
           unlawful = λ c. absurd (f c);
+          outside = λ place e. let q : _≡_ {A = ℕ} 20 30 = cc in absurd (omega arith);
           unchanged = λ n place e. bad-after table message lent bad;
         }

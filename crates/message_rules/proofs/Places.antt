@@ -1,5 +1,5 @@
 -- A refusal stands at a token of the message or at its end: what is left there is an end part of the tokens.
-use mathlib.Core.Path.{_≡_, refl, _∙_}
+use mathlib.Core.Path.{_≡_, refl, ap, _∙_}
 use mathlib.Core.Bool.{Bool, true, false}
 use mathlib.Core.List.{List, [], _∷_, _++_}
 use Prim.Native.Nat.{ℕ, zero, suc, _-_, _≤_}
@@ -12,6 +12,7 @@ use Rattle.reading_rules.specs.Reading.{TreeSort, unknownValue, unknownList, va
 use Rattle.reading_rules.specs.Parse.{Result, refused, got, then, need, whether, onEquals, afterToken, pairWith, bracesAt, unknownAt, afterUnknown, unknownsAt, judged, simpleAt, shut, structAt, alternative, bareFor, choose, unionAt, noneAt, byKind, valueAt, listEnds, afterValue, listAt, wholeList, bodyEnds, unknownAfter, itemAt, itemsAt, listThen, listsAt, wholeValue, bodyAt, parse}
 use Rattle.message_rules.proofs.Spans.{tokens-length}
 use Rattle.message_rules.specs.Scan.{Lexeme, tokensOf}
+use Rattle.message_rules.specs.Verdict.{startOr}
 use Rattle.reading_rules.proofs.Sound.{unknown-sound, unknowns-sound, ValueSound, value-sound, whole-sound, body-sound}
 
 -- an end part of the tokens
@@ -336,3 +337,11 @@ parse-left S W depth ls n r e =
     let a = part-drop (parse-placed S W depth (tokensOf ls) n r e) in
     let b = tokens-length ls in
     tokens-drop (length ls - length r) ls ∙ (rw b at a)
+
+-- where tokens are left, the first is one of the lexemes, and the place is its start
+pub left-first : (n k : ℕ) (ls : List Lexeme) (t : Token) (x : List Token) → tokensOf (drop k ls) ≡ t ∷ x → (before : List Lexeme) × (l : Lexeme) × (after : List Lexeme) × (ls ≡ before ++ l ∷ after) × (l .token ≡ t) × (startOr n (drop k ls) ≡ l .start)
+unfolding tokensOf startOr
+left-first n zero [] t x e = let z : _≡_ {A = ℕ} 0 1 = cc in absurd (omega arith)
+left-first n zero (l ∷ ls) t x e = let q : l .token ≡ t = cc in ([], l, ls, refl, q, refl)
+left-first n (suc k) [] t x e = let z : _≡_ {A = ℕ} 0 1 = cc in absurd (omega arith)
+left-first n (suc k) (m ∷ ls) t x e = let g = left-first n k ls t x e in (m ∷ g .0, g .1, g .2, ap (λ j. m ∷ j) (g .3), g .4, g .5)

@@ -1,27 +1,29 @@
 -- What the answers of the reader mean, in the paper's terms: over lawful readings, their rows, and the limits. Nothing here mentions the parser.
 use mathlib.Core.Path.{_≡_, refl, ap, sym, _∙_}
-use mathlib.Core.Bool.{Bool, true, false, not, _&&_}
+use mathlib.Core.Bool.{Bool, true, false, not, _&&_, _||_}
 use mathlib.Core.List.{List, [], _∷_, _++_}
-use Prim.Native.Nat.{ℕ, suc, _*_, _≤_, _<_}
+use Prim.Native.Nat.{ℕ, suc, _-_, _*_, _≤_, _<_}
 use native.Mathlib.Omega.{arith}
-use lib.Dec.{leb}
+use lib.Dec.{eqb, leb}
 use lib.ListN.{length, drop}
-use borrow.Author.Tests.{leb-true, leb-false, le-leb, lt-leb}
+use borrow.Author.Tests.{eqb-true, leb-true, leb-false, le-leb, lt-leb, eq-eqb}
+use Rattle.classes.specs.Bytes.{between}
 use Rattle.numbers.specs.Limits.{messageLimit, openLimit, rowWidth}
 use Rattle.reading_rules.specs.Token.{Token}
 use Rattle.reading_rules.specs.Record.{Record}
 use Rattle.reading_rules.specs.Schema.{schemaOf, Found, nowhere, found}
-use Rattle.reading_rules.proofs.CountLaws.{clash-bool}
+use Rattle.reading_rules.proofs.CountLaws.{clash-bool, and-both}
 use Rattle.reading_rules.proofs.Rules.{ReadingRules, well-formed}
 use Rattle.reading_rules.specs.Reading.{body, Tree}
 use Rattle.message_rules.specs.Scan.{Lexeme, Spelled, cut, tokensOf, openAfter, isOpening, tooDeep, shallow, either, scanFault}
 use Rattle.message_rules.specs.Rows.{Row, messageRows, cells}
 use Rattle.reading_rules.specs.Parse.{Result, refused, got, parse}
-use Rattle.message_rules.specs.Verdict.{LawfulReading, Within, RoomFree, fault, rows, placeOfLeft, outcome, afterScan, roomFree, accepted, refusal, withRoom, written, readWith, rowsWith}
+use Rattle.message_rules.specs.Verdict.{LawfulReading, Within, RoomFree, fault, rows, placeOfLeft, outcome, isUnlawful, afterScan, roomFree, accepted, refusal, withRoom, written, readWith, rowsWith}
 use Rattle.reading_rules.proofs.Readings.{parse-sound, parse-complete, unique}
 use Rattle.message_rules.proofs.Depth.{tree-shallow}
 use Rattle.message_rules.proofs.Spelling.{spelled-cut, message-spelled, spelled-once}
-use Rattle.message_rules.proofs.Fuel.{fine-number, body-fine}
+use Rattle.message_rules.proofs.Fuel.{fine-number, fine-outside, body-fine}
+use Rattle.message_rules.proofs.Places.{parse-left, left-first}
 
 -- no brace too deep among the lexemes: so among their tokens
 pub flat-tokens : (n : ℕ) (ls : List Lexeme) → tooDeep n ls ≡ nowhere → shallow openLimit n (tokensOf ls) ≡ true
@@ -72,6 +74,22 @@ room-accepts {X} room k (rows rs) e h = go (leb (rowWidth * length rs) room) ref
     go : (b : Bool) → leb (rowWidth * length rs) room ≡ b → elim b [ true ↦ accepted (length rs) | false ↦ refusal 29 (length rs) ] ≡ accepted k → X
     go true a o = let q : length rs ≡ k = cc in h rs refl q (leb-true (rowWidth * length rs) room a)
     go false a o = let z : _≡_ {A = ℕ} 0 1 = cc in absurd (omega arith)
+
+-- 23 to 28, or 30: between 23 and 30, and not 29
+unlawful-number : (n : ℕ) → isUnlawful n ≡ true → (23 ≤ n) × (n ≤ 30) × (n ≡ 29 → ⊥)
+unlawful-number n u = go (between 23 28 n) refl u
+  where
+    go : (b : Bool) → between 23 28 n ≡ b → b || eqb n 30 ≡ true → (23 ≤ n) × (n ≤ 30) × (n ≡ 29 → ⊥)
+    go true e v = and-both (leb 23 n) (leb n 28) e (λ a b. let x = leb-true 23 n a in let y = leb-true n 28 b in (x, omega arith, λ z. omega arith))
+    go false e v = let x = eqb-true n 30 v in (omega arith, omega arith, λ z. omega arith)
+
+-- and such a number is one of them
+pub number-unlawful : (n : ℕ) → 23 ≤ n → n ≤ 30 → (n ≡ 29 → ⊥) → isUnlawful n ≡ true
+number-unlawful n a b c = go (leb n 28) refl
+  where
+    go : (t : Bool) → leb n 28 ≡ t → isUnlawful n ≡ true
+    go true e = rw (le-leb 23 n a, e)
+    go false e = let x = leb-false n 28 e in let y : n ≡ 30 = omega (arith, c) in rw y
 
 room-refuses : {X : Type 0} (room n k : ℕ) (f : RoomFree) → withRoom room f ≡ refusal n k → (f ≡ fault n k → X) → ((rs : List Row) → f ≡ rows rs → length rs ≡ k → n ≡ 29 → room < rowWidth * length rs → X) → X
 unfolding withRoom
@@ -176,25 +194,26 @@ module _ (table : List Record) (R : ReadingRules table) where
       let z : _≡_ {A = ℕ} 0 1 = cc in
       omega arith
 
-  -- and its number is one of 21 to 28
-  pub fault-number : (message : List ℕ) (n place : ℕ) → roomFree table message ≡ fault n place → (21 ≤ n) × (n ≤ 28)
+  -- and its number is one of 21 to 30 but 29
+  pub fault-number : (message : List ℕ) (n place : ℕ) → roomFree table message ≡ fault n place → (21 ≤ n) × (n ≤ 30) × (n ≡ 29 → ⊥)
   unfolding roomFree afterScan scanFault outcome
   fault-number message n place e = go (leb (length message) messageLimit) e
     where
-      parsed : tooDeep 0 (cut message .lexemes) ≡ nowhere → (p : Result (Tree body)) → parse (schemaOf table) openLimit (tokensOf (cut message .lexemes)) ≡ p → outcome message (cut message .lexemes) p ≡ fault n place → (21 ≤ n) × (n ≤ 28)
+      parsed : tooDeep 0 (cut message .lexemes) ≡ nowhere → (p : Result (Tree body)) → parse (schemaOf table) openLimit (tokensOf (cut message .lexemes)) ≡ p → outcome message (cut message .lexemes) p ≡ fault n place → (21 ≤ n) × (n ≤ 30) × (n ≡ 29 → ⊥)
       parsed s (refused k r) a o =
-          let g = fine-number (body-fine (schemaOf table) (well-formed table R) openLimit (suc openLimit) 0 false 0 (tokensOf (cut message .lexemes)) (omega arith) (omega arith) (flat-tokens 0 (cut message .lexemes) s)) k r a in
+          let f = fine-number (schemaOf table) (body-fine (schemaOf table) (well-formed table R) openLimit (suc openLimit) 0 false 0 (tokensOf (cut message .lexemes)) (omega arith) (omega arith) (flat-tokens 0 (cut message .lexemes) s)) k r a in
+          let g = unlawful-number k f in
           let q : k ≡ n = cc in
-          (omega arith, omega arith)
+          (omega arith, omega arith, λ z. g .2 (q ∙ z))
       parsed s (got t r) a o = let z : _≡_ {A = ℕ} 0 1 = cc in absurd (omega arith)
 
-      scanned : (f : Found) → scanFault (cut message) ≡ f → afterScan (schemaOf table) message (cut message .lexemes) f ≡ fault n place → (21 ≤ n) × (n ≤ 28)
-      scanned (found p) f o = let q : 22 ≡ n = cc in (omega arith, omega arith)
+      scanned : (f : Found) → scanFault (cut message) ≡ f → afterScan (schemaOf table) message (cut message .lexemes) f ≡ fault n place → (21 ≤ n) × (n ≤ 30) × (n ≡ 29 → ⊥)
+      scanned (found p) f o = let q : 22 ≡ n = cc in (omega arith, omega arith, λ z. omega arith)
       scanned nowhere f o = parsed (either-none (tooDeep 0 (cut message .lexemes)) (cut message .bad) f .0) (parse (schemaOf table) openLimit (tokensOf (cut message .lexemes))) refl o
 
-      go : (b : Bool) → elim b [ true ↦ afterScan (schemaOf table) message (cut message .lexemes) (scanFault (cut message)) | false ↦ fault 21 messageLimit ] ≡ fault n place → (21 ≤ n) × (n ≤ 28)
+      go : (b : Bool) → elim b [ true ↦ afterScan (schemaOf table) message (cut message .lexemes) (scanFault (cut message)) | false ↦ fault 21 messageLimit ] ≡ fault n place → (21 ≤ n) × (n ≤ 30) × (n ≡ 29 → ⊥)
       go true o = scanned (scanFault (cut message)) refl o
-      go false o = let q : 21 ≡ n = cc in (omega arith, omega arith)
+      go false o = let q : 21 ≡ n = cc in (omega arith, omega arith, λ z. omega arith)
 
   -- T12. A lawful reading within the limits whose rows fit is accepted, with its row count
   pub lawful-accepted : (message : List ℕ) (ls : List Lexeme) (t : Tree body) → LawfulReading table message ls t → Within message ls → (room : ℕ) → rowWidth * length (messageRows message ls t) ≤ room → readWith table message room ≡ accepted (length (messageRows message ls t))
@@ -218,21 +237,21 @@ module _ (table : List Record) (R : ReadingRules table) where
   pub refused-29 : (message : List ℕ) (room k : ℕ) → readWith table message room ≡ refusal 29 k → (ls : List Lexeme) × (t : Tree body) × LawfulReading table message ls t × Within message ls × (k ≡ length (messageRows message ls t)) × (room < rowWidth * k)
   unfolding readWith
   refused-29 message room k e = room-refuses room 29 k (roomFree table message) e
-      (λ f. let g = fault-number message 29 k f in absurd (omega arith))
+      (λ f. absurd (fault-number message 29 k f .2 refl))
       (λ rs f q c m.
       let g = rows-lawful message rs f in
       let n : k ≡ length (messageRows message (g .0) (g .1)) = sym q ∙ ap length (g .4) in
       (g .0, g .1, g .2, g .3, n, omega arith))
 
   -- any other refusal: no lawful reading of the message keeps the limits, whatever the room
-  pub refused-unlawful : (message : List ℕ) (room n place : ℕ) → readWith table message room ≡ refusal n place → n < 29 → (ls : List Lexeme) (t : Tree body) → LawfulReading table message ls t → Within message ls → ⊥
+  pub refused-unlawful : (message : List ℕ) (room n place : ℕ) → readWith table message room ≡ refusal n place → (n ≡ 29 → ⊥) → (ls : List Lexeme) (t : Tree body) → LawfulReading table message ls t → Within message ls → ⊥
   unfolding readWith
   refused-unlawful message room n place e m ls t l w = room-refuses room n place (roomFree table message) e
       (λ f. fault-unlawful message n place f ls t l w)
-      (λ rs f q c k. omega arith)
+      (λ rs f q c k. m c)
 
-  -- T16. A refusal's number is one of 21 to 29
-  pub refusal-number : (message : List ℕ) (room n place : ℕ) → readWith table message room ≡ refusal n place → (21 ≤ n) × (n ≤ 29)
+  -- T16. A refusal's number is one of 21 to 30
+  pub refusal-number : (message : List ℕ) (room n place : ℕ) → readWith table message room ≡ refusal n place → (21 ≤ n) × (n ≤ 30)
   unfolding readWith
   refusal-number message room n place e = room-refuses room n place (roomFree table message) e
       (λ f. let g = fault-number message n place f in (omega arith, omega arith))
@@ -289,11 +308,11 @@ module _ (table : List Record) (R : ReadingRules table) where
           let w : messageLimit ≡ place = cc in
           long (leb-false (length message) messageLimit a) (sym q) (sym w)
 
-  parsed-number : (message : List ℕ) (n : ℕ) (left : List Token) → scanFault (cut message) ≡ nowhere → parse (schemaOf table) openLimit (tokensOf (cut message .lexemes)) ≡ refused n left → (23 ≤ n) × (n ≤ 28)
+  parsed-number : (message : List ℕ) (n : ℕ) (left : List Token) → scanFault (cut message) ≡ nowhere → parse (schemaOf table) openLimit (tokensOf (cut message .lexemes)) ≡ refused n left → isUnlawful n ≡ true
   unfolding scanFault
   parsed-number message n left f e =
       let s = either-none (tooDeep 0 (cut message .lexemes)) (cut message .bad) f in
-      fine-number (body-fine (schemaOf table) (well-formed table R) openLimit (suc openLimit) 0 false 0 (tokensOf (cut message .lexemes)) (omega arith) (omega arith) (flat-tokens 0 (cut message .lexemes) (s .0))) n left e
+      fine-number (schemaOf table) (body-fine (schemaOf table) (well-formed table R) openLimit (suc openLimit) 0 false 0 (tokensOf (cut message .lexemes)) (omega arith) (omega arith) (flat-tokens 0 (cut message .lexemes) (s .0))) n left e
 
   pub refused-21 : (message : List ℕ) (room place : ℕ) → readWith table message room ≡ refusal 21 place → (messageLimit < length message) × (place ≡ messageLimit)
   unfolding readWith
@@ -301,7 +320,7 @@ module _ (table : List Record) (R : ReadingRules table) where
       (λ f. fault-cases message 21 place f
       (λ m a b. (m, b))
       (λ m a b. absurd (omega arith))
-      (λ m a left b c. let g = parsed-number message 21 left a b in absurd (omega arith)))
+      (λ m a left b c. clash-bool (parsed-number message 21 left a b)))
       (λ rs f q c k. absurd (omega arith))
 
   pub refused-22 : (message : List ℕ) (room place : ℕ) → readWith table message room ≡ refusal 22 place → (length message ≤ messageLimit) × (scanFault (cut message) ≡ found place)
@@ -310,18 +329,32 @@ module _ (table : List Record) (R : ReadingRules table) where
       (λ f. fault-cases message 22 place f
       (λ m a b. absurd (omega arith))
       (λ m a b. (m, a))
-      (λ m a left b c. let g = parsed-number message 22 left a b in absurd (omega arith)))
+      (λ m a left b c. clash-bool (parsed-number message 22 left a b)))
       (λ rs f q c k. absurd (omega arith))
 
-  -- 23 to 28 exactly where the parser refuses, at the first token that it leaves
-  pub refused-parse : (message : List ℕ) (room n place : ℕ) → 23 ≤ n → n ≤ 28 → readWith table message room ≡ refusal n place → (length message ≤ messageLimit) × (scanFault (cut message) ≡ nowhere) × ((left : List Token) × (parse (schemaOf table) openLimit (tokensOf (cut message .lexemes)) ≡ refused n left) × (place ≡ placeOfLeft message (cut message .lexemes) left))
+  -- 23 to 28 and 30 exactly where the parser refuses, at the first token that it leaves
+  pub refused-parse : (message : List ℕ) (room n place : ℕ) → isUnlawful n ≡ true → readWith table message room ≡ refusal n place → (length message ≤ messageLimit) × (scanFault (cut message) ≡ nowhere) × ((left : List Token) × (parse (schemaOf table) openLimit (tokensOf (cut message .lexemes)) ≡ refused n left) × (place ≡ placeOfLeft message (cut message .lexemes) left))
   unfolding readWith
-  refused-parse message room n place l h e = room-refuses room n place (roomFree table message) e
+  refused-parse message room n place u e = room-refuses room n place (roomFree table message) e
       (λ f. fault-cases message n place f
-      (λ m a b. absurd (omega arith))
-      (λ m a b. absurd (omega arith))
+      (λ m a b. clash-bool (rw a at u))
+      (λ m a b. clash-bool (rw b at u))
       (λ m a left b c. (m, a, (left, b, c))))
-      (λ rs f q c k. absurd (omega arith))
+      (λ rs f q c k. clash-bool (rw c at u))
+
+  -- 30 stands at a token of the message that is judged so for some parameter
+  pub refused-30 : (message : List ℕ) (room place : ℕ) → readWith table message room ≡ refusal 30 place → (before : List Lexeme) × (it : Lexeme) × (after : List Lexeme) × Spelled 0 message (before ++ it ∷ after) × (it .start ≡ place) × ((q : ℕ) × (schemaOf table .judge q (it .token) ≡ 30))
+  unfolding scanFault placeOfLeft
+  refused-30 message room place e =
+      let W = well-formed table R in
+      let p = refused-parse message room 30 place refl e in
+      let ls = cut message .lexemes in
+      let s = either-none (tooDeep 0 ls) (cut message .bad) (p .1) in
+      let left = p .2 .0 in
+      let o = fine-outside (schemaOf table) (body-fine (schemaOf table) W openLimit (suc openLimit) 0 false 0 (tokensOf ls) (omega arith) (omega arith) (flat-tokens 0 ls (s .0))) left (p .2 .1) in
+      let g = left-first (length message) (length ls - length left) ls (o .1) (o .2) (parse-left (schemaOf table) W openLimit ls 30 left (p .2 .1) ∙ o .3) in
+      let spelled : Spelled 0 message (g .0 ++ g .1 ∷ g .2) = rw (g .3) at (message-spelled message (s .1)) in
+      (g .0, g .1, g .2, spelled, sym (p .2 .2 ∙ g .5), (o .0, ap (schemaOf table .judge (o .0)) (g .4) ∙ o .4))
 
   pub parse-refused : (message : List ℕ) (room n place : ℕ) → length message ≤ messageLimit → scanFault (cut message) ≡ nowhere → (left : List Token) → parse (schemaOf table) openLimit (tokensOf (cut message .lexemes)) ≡ refused n left → place ≡ placeOfLeft message (cut message .lexemes) left → readWith table message room ≡ refusal n place
   unfolding readWith

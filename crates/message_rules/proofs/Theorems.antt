@@ -1,5 +1,6 @@
 -- The theorems on messages, by the sentence that each renders. T9, T11 to T14 and T17 are `read-promise` (Compiled).
 use mathlib.Core.Path.{_≡_, refl, ap, sym, _∙_}
+use mathlib.Core.Bool.{true}
 use mathlib.Core.List.{List, []}
 use mathlib.Core.Logic.{_↔_}
 use Prim.Native.Nat.{ℕ, _+_, _-_, _*_, _≤_, _<_}
@@ -17,7 +18,7 @@ use Rattle.message_rules.specs.Scan.{Lexeme, Spelled, Cutting, whole, br
 use Rattle.message_rules.specs.Rows.{messageRows, rowsOf, RowsStand}
 use Rattle.message_rules.specs.RowBytes.{rowBytes}
 use Rattle.reading_rules.specs.Parse.{refused, parse}
-use Rattle.message_rules.specs.Verdict.{placeOfLeft, refusal, recordsIn, readWith, readAnswer}
+use Rattle.message_rules.specs.Verdict.{placeOfLeft, isUnlawful, refusal, recordsIn, readWith, readAnswer}
 use Rattle.message_rules.proofs.Spelling.{message-spelled, spelled-once, message-bad, message-faulty, bad-unspelled}
 use Rattle.message_rules.proofs.RowLaws.{parents-first}
 use Rattle.message_rules.proofs.Spans.{message-inside}
@@ -45,7 +46,7 @@ cutting message = by (cut message .bad) refl
         broken (cut message .lexemes) bad (message-bad message bad e) (λ ms h. bad-unspelled message bad e ms h)
         (λ ms place h. same (cut message .lexemes) ms bad place (sym (message-faulty message (cut message .lexemes) bad (message-bad message bad e)) ∙ message-faulty message ms place h))
 
--- ---- T16. "First 20, 21, 22 in that order, 22 at its smallest place, then the leftmost of 23 to 28": each exactly when
+-- ---- T16. "First 20, 21, 22 in that order, 22 at its smallest place, then the leftmost of 23 to 28", and of 30 (02, request 4): each exactly when
 
 module _ (table message : List ℕ) (room : ℕ) (bytes : IsBytes table) (some : Compilable table) where
   ok-answer : readAnswer table message room ≡ readWith (recordsIn table) message room
@@ -65,11 +66,11 @@ module _ (table message : List ℕ) (room : ℕ) (bytes : IsBytes table) (some :
         λ x. ok-answer ∙ fault-22 (recordsIn table) R message room place (x .0) (token-fault-iff message place .1 (x .1)),
       )
 
-  -- 23 to 28: the one that the rows of the decision table give, at the first token that is left, or the length
-  pub is-leftmost : (n place : ℕ) → 23 ≤ n → n ≤ 28 → (readAnswer table message room ≡ refusal n place) ↔ ((length message ≤ messageLimit) × (scanFault (cut message) ≡ nowhere) × ((left : List Token) × (parse (schemaOf (recordsIn table)) openLimit (tokensOf (cut message .lexemes)) ≡ refused n left) × (place ≡ placeOfLeft message (cut message .lexemes) left)))
-  is-leftmost n place l h =
+  -- 23 to 28 and 30: the one that the rows of the decision table give, at the first token that is left, or the length
+  pub is-leftmost : (n place : ℕ) → isUnlawful n ≡ true → (readAnswer table message room ≡ refusal n place) ↔ ((length message ≤ messageLimit) × (scanFault (cut message) ≡ nowhere) × ((left : List Token) × (parse (schemaOf (recordsIn table)) openLimit (tokensOf (cut message .lexemes)) ≡ refused n left) × (place ≡ placeOfLeft message (cut message .lexemes) left)))
+  is-leftmost n place u =
       let R = table-reading table (rules-iff table bytes .1 some) in (
-        (λ e. refused-parse (recordsIn table) R message room n place l h (sym ok-answer ∙ e)),
+        (λ e. refused-parse (recordsIn table) R message room n place u (sym ok-answer ∙ e)),
         λ x. ok-answer ∙ parse-refused (recordsIn table) R message room n place (x .0) (x .1) (x .2 .0) (x .2 .1) (x .2 .2),
       )
 

@@ -1,15 +1,18 @@
 -- Demand 3: what an answer of the reader means, over lawful readings and the limits alone.
 use mathlib.Core.Path.{_≡_}
-use mathlib.Core.List.{List, _++_}
+use mathlib.Core.Bool.{true, false}
+use mathlib.Core.List.{List, _∷_, _++_}
 use mathlib.Core.Logic.{_↔_}
 use Prim.Native.Nat.{ℕ, _*_, _≤_, _<_}
 use lib.ListN.{length, drop}
 use Rattle.numbers.specs.Limits.{rowWidth}
+use Rattle.reading_rules.specs.Record.{recordAt}
+use Rattle.reading_rules.specs.Value.{tokenForm, tokenWithin}
 use Rattle.reading_rules.specs.Reading.{Tree, body}
 use Rattle.table_rules.specs.Compilable.{Compilable}
 use Rattle.message_rules.specs.Scan.{Lexeme, Spelled}
 use Rattle.message_rules.specs.Rows.{Row, messageRows, cells}
-use Rattle.message_rules.specs.Verdict.{LawfulReading, Within, MessageAnswer, accepted, refusal, recordsIn}
+use Rattle.message_rules.specs.Verdict.{LawfulReading, Within, isUnlawful, MessageAnswer, accepted, refusal, recordsIn}
 
 -- a lawful reading of the message, within the limits, and its rows
 pub record Reading (table message : List ℕ) (rs : List Row) : Type 0 where
@@ -18,6 +21,17 @@ pub record Reading (table message : List ℕ) (rs : List Row) : Type 0 where
   pub lawful : LawfulReading (recordsIn table) message tokens tree
   pub within : Within message tokens
   pub rows : rs ≡ messageRows message tokens tree
+
+-- 02 (request 4): "a right form whose number, length, date or time lies outside what is allowed"; so is the message's token at this place, for a parameter of the table
+pub record Outside (table message : List ℕ) (place : ℕ) : Type 0 where
+  pub before : List Lexeme
+  pub it : Lexeme
+  pub after : List Lexeme
+  pub spelled : Spelled 0 message (before ++ it ∷ after)
+  pub there : it .start ≡ place
+  pub parameter : ℕ
+  pub form : tokenForm (recordAt (recordsIn table) parameter) (it .token) ≡ true
+  pub range : tokenWithin (recordAt (recordsIn table) parameter) (it .token) ≡ false
 
 -- a table, a message and the lent numbers; the answer, and the lent numbers after
 pub record ReadPromise (table message lent : List ℕ) (answer : MessageAnswer) (after : List ℕ) : Type 0 where
@@ -30,7 +44,9 @@ pub record ReadPromise (table message lent : List ℕ) (answer : MessageAnswer) 
   pub oneReading : Compilable table → (ls ms : List Lexeme) (a b : Tree body) → LawfulReading (recordsIn table) message ls a → LawfulReading (recordsIn table) message ms b → (ls ≡ ms) × (a ≡ b)
   -- where the rows don't fit the answer is 29 with their number
   pub noRoom : (k : ℕ) → (answer ≡ refusal 29 k) ↔ (Compilable table × ((rs : List Row) × Reading table message rs × (k ≡ length rs) × (length lent < rowWidth * k)))
-  -- 23 to 28, where 20 to 22 don't apply: no lawful reading exists
-  pub unlawful : Compilable table → (ls : List Lexeme) → Spelled 0 message ls → Within message ls → ((n : ℕ) × (place : ℕ) × (answer ≡ refusal n place) × (23 ≤ n) × (n ≤ 28)) ↔ ((t : Tree body) → LawfulReading (recordsIn table) message ls t → ⊥)
+  -- 23 to 28 and 30, where 20 to 22 don't apply: no lawful reading exists
+  pub unlawful : Compilable table → (ls : List Lexeme) → Spelled 0 message ls → Within message ls → ((n : ℕ) × (place : ℕ) × (answer ≡ refusal n place) × (isUnlawful n ≡ true)) ↔ ((t : Tree body) → LawfulReading (recordsIn table) message ls t → ⊥)
+  -- 30: the token at that place has the form of some parameter's type, and lies outside what this allows
+  pub outside : (place : ℕ) → answer ≡ refusal 30 place → Outside table message place
   -- "Nothing lent is changed."
   pub unchanged : (n place : ℕ) → answer ≡ refusal n place → after ≡ lent

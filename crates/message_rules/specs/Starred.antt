@@ -11,9 +11,9 @@ use Rattle.classes.specs.Bytes.{isBlank, isDigit, isLetter, isRunByte, isMark, 
 use Rattle.numbers.specs.Decimal.{readDigits, isDigits, isNatural, isIntLike, isInt, intWithin, biasedInt}
 use Rattle.numbers.specs.Range.{numberWhen, readInt, readCount, readUpper, beforeSides, secondDot, cutRange, onSides, lowOf, highOf, bothRead, readIntRange, readCountRange}
 use Rattle.numbers.specs.LittleEndian.{le16, put16, put32, signed}
-use Rattle.calendar.specs.Calendar.{leap, daysOf, isDate, isTime}
+use Rattle.calendar.specs.Calendar.{leap, daysOf, dateForm, dateWithin, timeForm, timeWithin}
 use Rattle.reading_rules.specs.Record.{isTop, sameUp, blank, recordAt}
-use Rattle.reading_rules.specs.Value.{isBool, wordForm, wordWithin, formThenRange, valueNumber}
+use Rattle.reading_rules.specs.Value.{isBool, wordForm, wordWithin, tokenForm, tokenWithin, formThenRange, valueNumber}
 use Rattle.reading_rules.specs.Schema.{isVoid, kindOf as kindFor, coreOf, isUnder, numbersWhere, first, firstWhere, schemaOf}
 use Rattle.reading_rules.specs.Count.{same, times, has, allIn}
 use Rattle.definition_rules.specs.Words.{classOf, numberIf, numberIn, kindOfRun, kindTakesRange, kindIsCompound, takesRange, isCompound, isReference, isKeyword, startsWithLetter, nameForm, tagForm, hasDot}
@@ -97,7 +97,7 @@ unfolding bytesOf tableFrom pick every some notEmpty sameBytes isBlank isDigit i
 tableOfText text = tableFrom (compileAnswer (bytesOf text) 200) (tableAfter (bytesOf text) lentBytes)
 
 unfoldable pub caseAgrees : Case → Bool
-unfolding tableOfText textRefusedAs nthRecord numbersOf acceptedAs messageRefusedAs runOf isWordByte isStringByte leap daysOf isDate isTime isBool wordForm wordWithin formThenRange valueNumber isVoid kindFor coreOf numbersWhere first firstWhere schemaOf same times has allIn numberUp flag1 flag2 flag4 get16 get32 getBytes want decodeRecord mapMaybe decodeUpTo decode isOpen closedTo inExtension pushIf mayStand standsIn ordered kindsOfRecords isSingleValue countsFine rangeFine isTopAt targetFine showsName labelFine topFine recordFine everyRecord noneBroken keyIf shownNames allNew recordChecks recordRules rulesOf tableRules beginsOf cutToken cutRest cutFrom lexemeTokens openAfterToken isOpening braceTooDeep either scanFault width rowCount lexemeAt rowOver rowsOf messageRows cells then need whether onEquals afterToken bracesAt pairWith unknownAt afterUnknown unknownsAt judged simpleAt shut structAt alternative bareFor choose unionAt noneAt byKind valueAt mayGrow listEnds afterValue listAt requiredOf endNumber bodyEnds unknownAfter itemAt itemsAt listThen listsAt bodyAt startOr placeOfLeft outcome afterScan roomFree withRoom written readWith rowsWith noRecords recordsIn readAnswer rowsAfter
+unfolding tableOfText textRefusedAs nthRecord numbersOf acceptedAs messageRefusedAs runOf isWordByte isStringByte leap daysOf dateForm dateWithin timeForm timeWithin isBool wordForm wordWithin tokenForm tokenWithin formThenRange valueNumber isVoid kindFor coreOf numbersWhere first firstWhere schemaOf same times has allIn numberUp flag1 flag2 flag4 get16 get32 getBytes want decodeRecord mapMaybe decodeUpTo decode isOpen closedTo inExtension pushIf mayStand standsIn ordered kindsOfRecords isSingleValue countsFine rangeFine isTopAt targetFine showsName labelFine topFine recordFine everyRecord noneBroken keyIf shownNames allNew recordChecks recordRules rulesOf tableRules beginsOf cutToken cutRest cutFrom lexemeTokens openAfterToken isOpening braceTooDeep either scanFault width rowCount lexemeAt rowOver rowsOf messageRows cells then need whether onEquals afterToken bracesAt pairWith unknownAt afterUnknown unknownsAt judged simpleAt shut structAt alternative bareFor choose unionAt noneAt byKind valueAt mayGrow listEnds afterValue listAt requiredOf endNumber bodyEnds unknownAfter itemAt itemsAt listThen listsAt bodyAt startOr placeOfLeft outcome afterScan roomFree withRoom written readWith rowsWith noRecords recordsIn readAnswer rowsAfter
 caseAgrees (refusedText text n p) = textRefusedAs (compileAnswer (bytesOf text) 200) (tableAfter (bytesOf text) lentBytes) n p
 caseAgrees (tabled text k n i bytes) = eqb (length (recordsIn (tableOfText text))) k && eqb (length (tableOfText text)) n && sameBytes (nthRecord i (tableOfText text)) bytes
 caseAgrees (read text message rs) = acceptedAs (readAnswer (tableOfText text) (bytesOf message) 30) (rowsAfter (tableOfText text) (bytesOf message) lentNumbers) rs
@@ -131,8 +131,8 @@ starredCases =
     -- * D, `17 d=812`: 27 at 8.
     refusedMessage text·D "17 d=812" 27 8
     ∷
-    -- * D, `17 surveyed=20240230 d=1`: 24 at 12.
-    refusedMessage text·D "17 surveyed=20240230 d=1" 24 12
+    -- * D, `17 surveyed=20240230 d=1`: 24 at 12; by 02 (request 4) 30.
+    refusedMessage text·D "17 surveyed=20240230 d=1" 30 12
     ∷
     -- * D, `17, 18`: 25 at 2.
     refusedMessage text·D "17, 18" 25 2
@@ -164,10 +164,19 @@ starredCases =
 
 unfoldable pub requestedCases : List Case
 requestedCases =
-    -- 2: "`19000229` becomes 24"
-    refusedMessage text·D "17 surveyed=19000229 d=1" 24 12
+    -- 2: "`19000229` becomes 24"; by request 4 it is 30.
+    refusedMessage text·D "17 surveyed=19000229 d=1" 30 12
     ∷
     -- 2: "`20000229` stays accepted."
     read text·D "17 surveyed=20000229 d=1" (row 0 4294967295 0 24 ∷ row 1 0 0 2 ∷ row 2 0 12 20 ∷ row 3 0 23 24 ∷ [])
+    ∷
+    -- 4: "`017` stays 24."
+    refusedMessage text·D "017" 24 0
+    ∷
+    -- 4: "`20240230` becomes 30" (above), "as does `0` for D's id."
+    refusedMessage text·D "0" 30 0
+    ∷
+    -- 4: "An int of any number of digits in right form but beyond its range is 30."
+    refusedMessage text·D "99999999999999999999999" 30 0
     ∷
     []

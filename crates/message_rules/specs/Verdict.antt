@@ -1,10 +1,11 @@
 -- What reading a message answers.
 use mathlib.Core.Path.{_≡_}
-use mathlib.Core.Bool.{true, false}
+use mathlib.Core.Bool.{Bool, true, false, _||_}
 use mathlib.Core.List.{List, [], _∷_, _++_}
 use Prim.Native.Nat.{ℕ, _-_, _*_, _≤_}
-use lib.Dec.{leb}
+use lib.Dec.{eqb, leb}
 use lib.ListN.{length, drop}
+use Rattle.classes.specs.Bytes.{between}
 use Rattle.numbers.specs.Limits.{parameterLimit, messageLimit, openLimit, rowWidth}
 use Rattle.reading_rules.specs.Token.{Token}
 use Rattle.reading_rules.specs.Record.{Record}
@@ -49,6 +50,10 @@ outcome message ls (got t left) = rows (messageRows message ls t)
 unfoldable pub afterScan : Schema → List ℕ → List Lexeme → Found → RoomFree
 afterScan S message ls (found place) = fault 22 place
 afterScan S message ls nowhere = outcome message ls (parse S openLimit (tokensOf ls))
+
+-- the numbers of a message without a lawful reading: 23 to 28; and 30, which is "judged with 23 to 28 and meant wherever these are named" (02, request 4)
+abbrev pub isUnlawful : ℕ → Bool
+isUnlawful n = between 23 28 n || eqb n 30
 
 -- "21, 22 in that order, .., then the leftmost of 23 to 28"
 unfoldable pub roomFree : List Record → List ℕ → RoomFree

@@ -2,6 +2,8 @@
 pub mod CountLaws
 pub mod Balance
 pub mod Rules
+-- what each number of a value means
+pub mod Values
 -- what is read is lawful, what is lawful is read, one reading
 pub mod Inverse
 pub mod Complete

@@ -12,7 +12,7 @@ use Rattle.classes.specs.Lists.{every, sameBytes}
 use Rattle.numbers.specs.Decimal.{isDigits, isNatural, isIntLike, isInt, isMinus, numberOf}
 use Rattle.reading_rules.specs.Token.{Token, word, string, equals, comma, opening, closing, isText}
 use Rattle.reading_rules.specs.Record.{Record, blank, recordAt}
-use Rattle.reading_rules.specs.Value.{wordForm, wordWithin, formThenRange, valueNumber}
+use Rattle.reading_rules.specs.Value.{wordForm, tokenForm, tokenWithin, formThenRange, valueNumber, Judgement, taken, formless, outside}
 use Rattle.reading_rules.specs.Schema.{union, Found, nowhere, found, kindOf, numbersWhere, isUntaggedOf, isTaggedOf, isTaggedAs, first, firstWhere, schemaOf, WellFormed}
 use Rattle.reading_rules.proofs.CountLaws.{clash-bool, and-both}
 
@@ -90,20 +90,17 @@ int-like (b ∷ l) e = go (isMinus b) e
 
 form-holds : (a b : Bool) → formThenRange a b ≡ 0 → a ≡ true
 unfolding formThenRange
-form-holds true true e = refl
-form-holds true false e = refl
-form-holds false true e = absurd (omega arith)
-form-holds false false e = absurd (omega arith)
+form-holds true b e = refl
+form-holds false b e = absurd (omega arith)
 
-form-number : (a b : Bool) (n : ℕ) → formThenRange a b ≡ suc n → suc n ≡ 24
+form-judged : (a b : Bool) → Judgement (formThenRange a b)
 unfolding formThenRange
-form-number true true n e = absurd (omega arith)
-form-number true false n e = sym e
-form-number false true n e = sym e
-form-number false false n e = sym e
+form-judged true true = taken
+form-judged true false = outside
+form-judged false b = formless
 
 value-spoken : (r : Record) (t : Token) → valueNumber r t ≡ 0 → isText t ≡ true
-unfolding valueNumber isText
+unfolding valueNumber formThenRange tokenForm isText
 value-spoken r (word w) e = refl
 value-spoken r (string w) e = refl
 value-spoken r equals e = absurd (omega arith)
@@ -111,19 +108,14 @@ value-spoken r comma e = absurd (omega arith)
 value-spoken r opening e = absurd (omega arith)
 value-spoken r closing e = absurd (omega arith)
 
-value-number : (r : Record) (t : Token) (n : ℕ) → valueNumber r t ≡ suc n → suc n ≡ 24
+value-judged : (r : Record) (t : Token) → Judgement (valueNumber r t)
 unfolding valueNumber
-value-number r (word w) n e = form-number (wordForm (r .kind) w) (wordWithin r w) n e
-value-number r (string w) n e = form-number _ _ n e
-value-number r equals n e = sym e
-value-number r comma n e = sym e
-value-number r opening n e = sym e
-value-number r closing n e = sym e
+value-judged r t = form-judged (tokenForm r t) (tokenWithin r t)
 
 int-spoken : (r : Record) (w : List ℕ) → r .kind ≡ 3 → valueNumber r (word w) ≡ 0 → isIntLike w ≡ true
-unfolding valueNumber wordForm
+unfolding valueNumber tokenForm wordForm
 int-spoken r w k e =
-    let a = form-holds (wordForm (r .kind) w) (wordWithin r w) e in
+    let a = form-holds (wordForm (r .kind) w) (tokenWithin r (word w)) e in
     let b : isInt w ≡ true = rw k at a in
     int-like w b
 
@@ -141,7 +133,7 @@ well-formed table R =
     record {
       some = counts-some table (R .counted);
       spoken = λ q t e. value-spoken (recordAt table q) t e;
-      oneNumber = λ q t n e. value-number (recordAt table q) t n e;
+      numbered = λ q t. value-judged (recordAt table q) t;
       bareForm = λ u q w k b e.
           let g = first-is (isUntaggedOf u) 0 table q b in
           let m : q ≡ g .0 = omega (arith, g .1) in

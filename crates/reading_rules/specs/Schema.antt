@@ -9,7 +9,7 @@ use Rattle.classes.specs.Lists.{sameBytes}
 use Rattle.numbers.specs.Decimal.{isIntLike}
 use Rattle.reading_rules.specs.Token.{Token, word, isText}
 use Rattle.reading_rules.specs.Record.{Up, top, under, Record, recordAt}
-use Rattle.reading_rules.specs.Value.{valueNumber}
+use Rattle.reading_rules.specs.Value.{valueNumber, Judgement}
 
 pub data Kind : Type 0 where
   void simple struct union reference : Kind
@@ -119,8 +119,8 @@ pub record WellFormed (S : Schema) : Type 0 where
   pub some : (q : ℕ) → 1 ≤ S .hi q
   -- a simple value is a word or a string
   pub spoken : (q : ℕ) (t : Token) → S .judge q t ≡ 0 → isText t ≡ true
-  -- "a word, string or `{` that isn't a value of the type" has the one number 24
-  pub oneNumber : (q : ℕ) (t : Token) (n : ℕ) → S .judge q t ≡ suc n → suc n ≡ 24
+  -- what isn't a value of the type has the number 24 or 30
+  pub numbered : (q : ℕ) (t : Token) → Judgement (S .judge q t)
   -- the untagged alternative is an int: what it takes is digits with an optional `-`
   pub bareForm : (u q : ℕ) (w : List ℕ) → S .kind u ≡ union → S .bare u ≡ found q → S .judge q (word w) ≡ 0 → isIntLike w ≡ true
   -- "beside an untagged one .. no tag is an optional `-` with one or more digits only"

@@ -12,10 +12,10 @@ use Rattle.numbers.specs.Limits.{bias, intMost}
 use Rattle.classes.specs.Bytes.{between, isWordByte, isStringByte, isDigit, isLetter, isNameByte, isTagByte}
 use Rattle.classes.specs.Lists.{every, sameBytes, pick, notEmpty}
 use Rattle.numbers.specs.Decimal.{readDigits, isNatural, isInt, intWithin}
-use Rattle.calendar.specs.Calendar.{leap, daysOf, isDate, isTime}
+use Rattle.calendar.specs.Calendar.{leap, daysOf, dateForm, dateWithin, timeForm, timeWithin}
 use Rattle.reading_rules.specs.Token.{Token, word, string, isToken}
 use Rattle.reading_rules.specs.Record.{Record}
-use Rattle.reading_rules.specs.Value.{isBool, wordForm, wordWithin, formThenRange, valueNumber}
+use Rattle.reading_rules.specs.Value.{isBool, wordForm, wordWithin, tokenForm, tokenWithin, formThenRange, valueNumber}
 use Rattle.reading_rules.proofs.CountLaws.{clash-bool, and-both}
 use Rattle.table_rules.proofs.Numerals.{writeNat, writeInt, nat-natural, natural-digits, digit-range, in-range, int-written}
 use Rattle.definition_rules.specs.Words.{tagForm}
@@ -102,13 +102,13 @@ int-tok n = go (ltb n bias)
 abbrev pub TakesToken : Record → Type 0
 TakesToken r = (t : Token) × (valueNumber r t ≡ 0) × (isToken t ≡ true)
 
-takes-word : (r : Record) (w : List ℕ) → wordForm (r .kind) w ≡ true → wordWithin r w ≡ true → valueNumber r (word w) ≡ 0
-unfolding valueNumber formThenRange
+takes-word : (r : Record) (w : List ℕ) → wordForm (r .kind) w ≡ true → wordWithin (r .kind) (r .least) (r .most) w ≡ true → valueNumber r (word w) ≡ 0
+unfolding valueNumber tokenForm tokenWithin formThenRange
 takes-word r w a b = rw (a, b)
 
-free : (r : Record) (w : List ℕ) → (r .kind ≡ 3 → ⊥) → (r .kind ≡ 5 → ⊥) → wordWithin r w ≡ true
-unfolding wordWithin
-free r w a b = rw (ne-eqb (r .kind) 3 a, ne-eqb (r .kind) 5 b, wordWithin)
+-- the same, by the kind's number
+fixed-value : (r : Record) (n : ℕ) (w : List ℕ) → r .kind ≡ n → wordForm n w ≡ true → wordWithin n (r .least) (r .most) w ≡ true → isToken (word w) ≡ true → TakesToken r
+fixed-value r n w k f g t = (word w, takes-word r w (ap (λ j. wordForm j w) k ∙ f) (ap (λ j. wordWithin j (r .least) (r .most) w) k ∙ g), t)
 
 pub int-value : (r : Record) → r .kind ≡ 3 → r .least ≤ r .most → r .most ≤ kindMost (r .kind) → (w : List ℕ) × (valueNumber r (word w) ≡ 0) × (isToken (word w) ≡ true)
 unfolding kindMost pick
@@ -120,11 +120,11 @@ int-value r k m h =
     form : (w : List ℕ) → isInt w ≡ true → wordForm (r .kind) w ≡ true
     form w e = ap (λ n. wordForm n w) k ∙ (unfold wordForm in e)
 
-    inside : (w : List ℕ) → intWithin (r .least) (r .most) w ≡ true → wordWithin r w ≡ true
-    inside w e = unfold wordWithin in (rw (eq-eqb (r .kind) 3 k, wordWithin) e)
+    inside : (w : List ℕ) → intWithin (r .least) (r .most) w ≡ true → wordWithin (r .kind) (r .least) (r .most) w ≡ true
+    inside w e = ap (λ n. wordWithin n (r .least) (r .most) w) k ∙ (unfold wordWithin in e)
 
 ascii-value : (r : Record) → r .kind ≡ 4 → bias ≤ r .least → r .least ≤ r .most → TakesToken r
-unfolding valueNumber formThenRange isToken
+unfolding valueNumber tokenForm tokenWithin formThenRange isToken
 ascii-value r k l m =
     let n : length {A = ℕ} (replicate (r .least - bias) 32) ≡ r .least - bias = length-replicate {A = ℕ} (r .least - bias) 32 in
     (string (replicate (r .least - bias) 32), rw (eq-eqb (r .kind) 4 k, in-range (r .least) (r .most) (bias + length {A = ℕ} (replicate (r .least - bias) 32)) (omega arith) (omega arith)), every-rep isStringByte 32 (r .least - bias) (unfold isStringByte in refl))
@@ -138,23 +138,20 @@ unquoted-value r k l m =
     form : (w : List ℕ) → wordForm (r .kind) w ≡ true
     form w = ap (λ n. wordForm n w) k ∙ (unfold wordForm in refl)
 
-    inside : (w : List ℕ) → between (r .least) (r .most) (bias + length w) ≡ true → wordWithin r w ≡ true
-    inside w e = unfold wordWithin in (rw (ne-eqb (r .kind) 3 (λ z. omega arith), eq-eqb (r .kind) 5 k, wordWithin) e)
-
-fixed-value : (r : Record) (n : ℕ) (w : List ℕ) → r .kind ≡ n → (n ≡ 3 → ⊥) → (n ≡ 5 → ⊥) → wordForm n w ≡ true → isToken (word w) ≡ true → TakesToken r
-fixed-value r n w k a b f t = (word w, takes-word r w (ap (λ j. wordForm j w) k ∙ f) (free r w (λ z. a (sym k ∙ z)) (λ z. b (sym k ∙ z))), t)
+    inside : (w : List ℕ) → between (r .least) (r .most) (bias + length w) ≡ true → wordWithin (r .kind) (r .least) (r .most) w ≡ true
+    inside w e = ap (λ n. wordWithin n (r .least) (r .most) w) k ∙ (unfold wordWithin in e)
 
 bool-value : (r : Record) → r .kind ≡ 2 → TakesToken r
-unfolding wordForm isBool sameBytes isToken every isWordByte
-bool-value r k = fixed-value r 2 (116 ∷ 114 ∷ 117 ∷ 101 ∷ []) k (λ z. omega arith) (λ z. omega arith) refl refl
+unfolding wordForm wordWithin isBool sameBytes isToken every isWordByte
+bool-value r k = fixed-value r 2 (116 ∷ 114 ∷ 117 ∷ 101 ∷ []) k refl refl refl
 
 date-value : (r : Record) → r .kind ≡ 6 → TakesToken r
-unfolding wordForm isDate isDigit readDigits daysOf leap isToken every isWordByte
-date-value r k = fixed-value r 6 (48 ∷ 48 ∷ 48 ∷ 49 ∷ 48 ∷ 49 ∷ 48 ∷ 49 ∷ []) k (λ z. omega arith) (λ z. omega arith) refl refl
+unfolding wordForm wordWithin dateForm dateWithin isDigit readDigits daysOf leap isToken every isWordByte
+date-value r k = fixed-value r 6 (48 ∷ 48 ∷ 48 ∷ 49 ∷ 48 ∷ 49 ∷ 48 ∷ 49 ∷ []) k refl refl refl
 
 time-value : (r : Record) → r .kind ≡ 7 → TakesToken r
-unfolding wordForm isTime isDigit readDigits isToken every isWordByte
-time-value r k = fixed-value r 7 (48 ∷ 48 ∷ 48 ∷ 48 ∷ 48 ∷ 48 ∷ []) k (λ z. omega arith) (λ z. omega arith) refl refl
+unfolding wordForm wordWithin timeForm timeWithin isDigit readDigits isToken every isWordByte
+time-value r k = fixed-value r 7 (48 ∷ 48 ∷ 48 ∷ 48 ∷ 48 ∷ 48 ∷ []) k refl refl refl
 
 pub simple-value : (r : Record) → 2 ≤ r .kind → r .kind ≤ 7 → kindLeast (r .kind) ≤ r .least → r .least ≤ r .most → r .most ≤ kindMost (r .kind) → TakesToken r
 unfolding kindLeast pick

@@ -7,7 +7,7 @@ pub const TABLE_MOST: usize = 22_272;
 /// The numbers of a row: parameter, parent row, start, end.
 pub const ROW_WIDTH: usize = 4;
 
-/// Why a definition (1 to 11) or a message (20 to 29) is refused, and the place that goes with it.
+/// Why a definition (1 to 11) or a message (20 to 30) is refused, and the place that goes with it.
 #[derive(Clone, Copy, Debug, PartialEq, Eq)]
 pub struct Refusal {
     pub number: u32,

@@ -395,7 +395,7 @@ mod tests {
         }
         let wanted = [5, 103, 2_503, 2_503, 256, 256, 17, 8_193];
         assert_eq!(answers[..8], wanted.map(Ok));
-        assert_eq!(answers[8..], [Err(24)]);
+        assert_eq!(answers[8..], [Err(30)]);
     }
 
     /// Of the tiles that are read in turn no two are the same.

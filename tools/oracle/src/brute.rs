@@ -47,11 +47,17 @@ fn class(token: &[u8]) -> Class {
     }
 }
 
-/// A number written as 01 wants it.
+/// A number written as 01 wants it; one past the i64 is past every range.
 fn number(word: &[u8]) -> Option<i64> {
     let text = std::str::from_utf8(word).ok()?;
-    let value: i64 = text.parse().ok()?;
-    (value.to_string() == text).then_some(value)
+    let digits = text.strip_prefix('-').unwrap_or(text);
+    if digits.is_empty() || !digits.bytes().all(|b| b.is_ascii_digit()) {
+        return None;
+    }
+    if text != "0" && digits.starts_with('0') {
+        return None;
+    }
+    Some(text.parse().unwrap_or(i64::MAX))
 }
 
 /// The number that some digits of a word make.
@@ -61,10 +67,8 @@ fn part(word: &[u8], from: usize, to: usize) -> u32 {
         .fold(0, |n, b| 10 * n + u32::from(b - b'0'))
 }
 
-fn is_date(word: &[u8]) -> bool {
-    if word.len() != 8 || !word.iter().all(u8::is_ascii_digit) {
-        return false;
-    }
+/// Whether eight digits are a day of the calendar.
+fn is_day(word: &[u8]) -> bool {
     let (year, month, day) = (part(word, 0, 4), part(word, 4, 6), part(word, 6, 8));
     let days = match month {
         1 | 3 | 5 | 7 | 8 | 10 | 12 => 31,
@@ -76,32 +80,43 @@ fn is_date(word: &[u8]) -> bool {
     year >= 1 && day >= 1 && day <= days
 }
 
-fn is_time(word: &[u8]) -> bool {
-    word.len() == 6
-        && word.iter().all(u8::is_ascii_digit)
-        && part(word, 0, 2) < 24
-        && part(word, 2, 4) < 60
-        && part(word, 4, 6) < 60
+/// Whether six digits are a time of the day.
+fn is_moment(word: &[u8]) -> bool {
+    part(word, 0, 2) < 24 && part(word, 2, 4) < 60 && part(word, 4, 6) < 60
 }
 
-/// Whether one token is a value of a simple type.
-fn fits(r: &Record, token: &[u8]) -> bool {
-    let within = |n: i64| i64::from(r.lo) <= n && n <= i64::from(r.hi);
+/// Whether one token has the form of a simple type.
+fn formed(r: &Record, token: &[u8]) -> bool {
     let word = class(token) == Class::Word;
+    let digits = word && token.iter().all(u8::is_ascii_digit);
     match r.kind {
         2 => token == b"true" || token == b"false",
-        3 => word && number(token).is_some_and(within),
-        4 => class(token) == Class::Text && within(token.len() as i64 - 2),
-        5 => word && within(token.len() as i64),
-        6 => word && is_date(token),
-        7 => word && is_time(token),
+        3 => word && number(token).is_some(),
+        4 => class(token) == Class::Text,
+        5 => word,
+        6 => digits && token.len() == 8,
+        7 => digits && token.len() == 6,
         _ => false,
+    }
+}
+
+/// Whether a token of the right form lies within what the type allows.
+fn lies(r: &Record, token: &[u8]) -> bool {
+    let within = |n: i64| i64::from(r.lo) <= n && n <= i64::from(r.hi);
+    match r.kind {
+        3 => number(token).is_some_and(within),
+        4 => within(token.len() as i64 - 2),
+        5 => within(token.len() as i64),
+        6 => is_day(token),
+        7 => is_moment(token),
+        _ => true,
     }
 }
 
 /// Rules left aside, to tell which one a token row breaks.
 #[derive(Clone, Copy, Default)]
 struct Lax {
+    range: bool,
     required: bool,
     low: bool,
     high: bool,
@@ -155,6 +170,11 @@ impl Forest<'_> {
     fn many(&self, f: usize, count: usize) -> bool {
         let lo = usize::from(self.records[f].lo_count);
         (self.lax.low || lo <= count) && self.few(f, count)
+    }
+
+    /// Whether one token is a value of a simple type.
+    fn fits(&self, r: &Record, token: &[u8]) -> bool {
+        formed(r, token) && (self.lax.range || lies(r, token))
     }
 
     /// Whether a joker stands for a value of this field.
@@ -305,7 +325,7 @@ impl Forest<'_> {
             _ if j == i + 1 && self.joker(f, i) => vec![Tree::Leaf(i)],
             8 => self.record(f, i, j),
             9 => self.choice(f, i, j),
-            _ if j == i + 1 && fits(r, &self.tokens[i]) => vec![Tree::Leaf(i)],
+            _ if j == i + 1 && self.fits(r, &self.tokens[i]) => vec![Tree::Leaf(i)],
             _ => vec![],
         }
     }
@@ -568,16 +588,23 @@ impl Forest<'_> {
         }
     }
 
-    /// 24 or 28 where a value is due, else 23.
+    /// 24, 28 or 30 where a value is due, else 23. 30: without the ranges it could stand here.
     fn misfit(&self, n: usize, next: Option<&[u8]>) -> u32 {
         let due = |joker: u8| self.goes_on(Lax::default(), n, Some(&[joker]));
         let token = next.unwrap_or_default();
         let digits = token.strip_prefix(b"-").unwrap_or(token);
         let int = !digits.is_empty() && digits.iter().all(u8::is_ascii_digit);
+        let range = true;
+        let unbounded = Lax {
+            range,
+            ..Lax::default()
+        };
         if !due(ANY) {
             23
         } else if class(token) == Class::Word && due(UNION) && !(int && due(INT_UNION)) {
             28
+        } else if self.goes_on(unbounded, n, next) {
+            30
         } else {
             24
         }
@@ -645,7 +672,7 @@ impl Rows<'_> {
 /// Counts and differences of one run.
 #[derive(Default)]
 struct Tally {
-    hits: [u64; 30],
+    hits: [u64; 31],
     frames: [u64; 5],
     accepted: u64,
     refused: u64,
@@ -739,7 +766,7 @@ fn check_refusal(
     bytes: &[u8],
     spans: &[(usize, usize)],
 ) {
-    if !(23..=28).contains(&refusal.number) {
+    if !matches!(refusal.number, 23..=28 | 30) {
         tally.differ("number", bytes, &format!("{refusal:?}"));
         return;
     }
@@ -1206,7 +1233,7 @@ fn check_bytes(tally: &mut Tally, frame: &Frame, rows: &[u32], row: usize) {
 }
 
 fn report(tally: &Tally, wanted: bool) -> bool {
-    let numbers: Vec<usize> = (1..=11).chain(20..=29).collect();
+    let numbers: Vec<usize> = (1..=11).chain(20..=30).collect();
     println!("frames of kind 1 to 4: {:?}", &tally.frames[1..]);
     for n in &numbers {
         println!("number {n}: {}", tally.hits[*n]);

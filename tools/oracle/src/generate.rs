@@ -1110,9 +1110,35 @@ fn no_leap_day(rng: &mut Rng) -> String {
     format!("{year:04}0229")
 }
 
-const ODD_INTS: [&str; 8] = ["-0", "-", "+1", "1-", "00", "-01", "9999999999", "0x1"];
+const ODD_INTS: [&str; 10] = [
+    "-0",
+    "-",
+    "+1",
+    "1-",
+    "00",
+    "-01",
+    "9999999999",
+    "0x1",
+    "00000000000000000000017",
+    "-99999999999999999999999",
+];
 
-const ODD_DATES: [&str; 13] = [
+/// An int of right form past the range: a limit with more digits behind it, or a number that
+/// 32 or 64 bits don't hold and whose low bits are a value.
+fn wide_int(rng: &mut Rng, lo: i64, hi: i64) -> String {
+    let value = i128::from(between(rng, lo, hi));
+    match rng.below(4) {
+        0 => format!("{}{:0width$}", hi.max(1), 0, width = 1 + rng.below(30)),
+        1 => format!("-{}{}", lo.abs().max(1), rng.below(1_000)),
+        2 => (value + (1 << 32)).to_string(),
+        _ => (value + (1 << 64)).to_string(),
+    }
+}
+
+const ODD_DATES: [&str; 16] = [
+    "99999999",
+    "00000000",
+    "2024-310",
     "20230229",
     "00000101",
     "20240001",
@@ -1128,7 +1154,9 @@ const ODD_DATES: [&str; 13] = [
     "-0240310",
 ];
 
-const ODD_TIMES: [&str; 6] = ["240000", "236000", "235960", "12003", "1200300", "12003x"];
+const ODD_TIMES: [&str; 8] = [
+    "240000", "236000", "235960", "999999", "12003", "1200300", "12003x", "-12003",
+];
 
 const ODD_TOKENS: [&str; 11] = [
     "0", "true", "TRUE", "x", "\"\"", "\"x\"", "{", "20240310", "120000", "=", "zz",
@@ -1138,6 +1166,7 @@ const ODD_TOKENS: [&str; 11] = [
 pub fn other_value(rng: &mut Rng, r: &Record) -> Token {
     let (lo, hi) = (i64::from(r.lo), i64::from(r.hi));
     match (r.kind, rng.below(5)) {
+        (3, _) if rng.one_in(5) => token(&wide_int(rng, lo, hi)),
         (3, 0) => token(&(lo - 1).to_string()),
         (3, 1) => token(&(hi + 1).to_string()),
         (3, 2) => token(&format!("0{hi}")),

@@ -1,4 +1,4 @@
-//! A message's lawful reading, its rows, and refusals 20 to 29.
+//! A message's lawful reading, its rows, and refusals 20 to 30.
 
 use crate::record::{self, Record, NO_LIMIT, STRUCT, UNION, VOID};
 use crate::table;
@@ -300,19 +300,19 @@ impl<'a> Reader<'a> {
         }
     }
 
-    /// "struct, `{` body `}`", or a value of a simple type; 24 for another token.
+    /// "struct, `{` body `}`", or a value of a simple type; 24 or 30 for another token.
     fn plain_value(&mut self, number: usize, row: usize, token: Token) -> Result<(), Refusal> {
         let record = &self.records[number];
         if record.kind == STRUCT {
             if token.shape != Shape::Open {
-                return self.refuse(24);
+                return self.refuse(values::NO_FORM);
             }
             self.at += 1;
             self.body(number, row, true)?;
             return self.need(Shape::Close);
         }
-        if !values::fits(record, token.shape, self.bytes(token)) {
-            return self.refuse(24);
+        if let Some(number) = values::fault(record, token.shape, self.bytes(token)) {
+            return self.refuse(number);
         }
         self.at += 1;
         Ok(())
@@ -321,7 +321,7 @@ impl<'a> Reader<'a> {
     /// "Union: one alternative, as a void tag, or tag `=` one value, or the untagged int."
     fn choose(&mut self, number: usize, token: Token) -> Result<Choice, Refusal> {
         if token.shape != Shape::Word {
-            return self.refuse(24);
+            return self.refuse(values::NO_FORM);
         }
         let word = self.bytes(token);
         let body = &self.bodies[number];

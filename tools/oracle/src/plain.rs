@@ -872,7 +872,7 @@ impl<'a, T: Tape + ?Sized> Reader<'a, T> {
         None
     }
 
-    /// No value of the type stands here.
+    /// Nothing stands here that has the type's form.
     #[cold]
     fn wrong(&mut self, at: usize) -> Option<usize> {
         let number = match class(self.byte(at)) {
@@ -880,6 +880,15 @@ impl<'a, T: Tape + ?Sized> Reader<'a, T> {
             _ => 23,
         };
         self.refuse(number, at)
+    }
+
+    /// No value of the simple type stands here: 30 where what stands has its form.
+    #[cold]
+    fn unfit(&mut self, at: usize, kind: u8) -> Option<usize> {
+        if has_form(self.message, at, kind) {
+            return self.refuse(30, at);
+        }
+        self.wrong(at)
     }
 
     #[inline]
@@ -1025,7 +1034,7 @@ impl<'a, T: Tape + ?Sized> Reader<'a, T> {
         let (mut at, mut count) = (at, 0);
         loop {
             let Some(end) = int_end(message, at, kind) else {
-                return self.wrong(at);
+                return self.unfit(at, INT);
             };
             self.push(field, parent, at, end);
             count += 1;
@@ -1064,7 +1073,7 @@ impl<'a, T: Tape + ?Sized> Reader<'a, T> {
             }
             _ => {
                 let Some(end) = simple_end(self.message, at, kind) else {
-                    return self.wrong(at);
+                    return self.unfit(at, kind.kind);
                 };
                 self.push(field, parent, at, end);
                 Some(end)
@@ -1076,7 +1085,7 @@ impl<'a, T: Tape + ?Sized> Reader<'a, T> {
     #[inline(always)]
     fn digits(&mut self, int: usize, parent: usize, at: usize) -> Option<usize> {
         let Some(end) = int_end(self.message, at, self.record(int)) else {
-            return self.refuse(24, at);
+            return self.unfit(at, INT);
         };
         self.push(int, parent, at, end);
         Some(end)
@@ -1174,6 +1183,20 @@ impl<'a, T: Tape + ?Sized> Reader<'a, T> {
                 _ => at += 1,
             }
         }
+    }
+}
+
+/// Whether a token of the simple type's form stands here.
+fn has_form(message: &[u8], at: usize, kind: u8) -> bool {
+    let word = &message[at..word_end(message, at)];
+    let led = || word.strip_prefix(b"-").unwrap_or(word)[0] == b'0' && word != b"0";
+    match kind {
+        INT => is_digits(word) && !led(),
+        ASCII => byte_at(message, at) == b'"' && string_end(message, at).is_some(),
+        UNQUOTED => !word.is_empty(),
+        DATE => word.len() == 8 && word.iter().all(u8::is_ascii_digit),
+        TIME => word.len() == 6 && word.iter().all(u8::is_ascii_digit),
+        _ => false,
     }
 }
 

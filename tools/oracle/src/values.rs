@@ -1,24 +1,44 @@
-//! Whether a token is a value of a simple type.
+//! What a token is to a simple type: a value, a text without its form, or outside what it allows.
 
 use crate::record::{Record, ASCII, BOOL, DATE, INT, TIME, UNQUOTED_ASCII};
 use crate::text::number;
 use crate::tokens::Shape;
 
-/// Whether the token, its bytes with any quotes, is a value of the record's simple type.
-pub fn fits(record: &Record, shape: Shape, bytes: &[u8]) -> bool {
+/// "24 shall mean a text without the type's form".
+pub const NO_FORM: u32 = 24;
+/// "30 a right form whose number, length, date or time lies outside what is allowed".
+pub const OUTSIDE: u32 = 30;
+
+/// The number that refuses the token, its bytes with any quotes, as a value of the record's simple
+/// type; none where it is one.
+pub fn fault(record: &Record, shape: Shape, bytes: &[u8]) -> Option<u32> {
+    match allowed(record, shape, bytes) {
+        None => Some(NO_FORM),
+        Some(false) => Some(OUTSIDE),
+        Some(true) => None,
+    }
+}
+
+/// Whether the token is one that the type allows; nothing where it hasn't the type's form.
+fn allowed(record: &Record, shape: Shape, bytes: &[u8]) -> Option<bool> {
     match (record.kind, shape) {
         // "Ascii: a string, length without quotes."
-        (ASCII, Shape::String) => length_fits(record, bytes.len() - 2),
+        (ASCII, Shape::String) => Some(length_fits(record, bytes.len() - 2)),
         // "Unquoted-ascii: a word."
-        (UNQUOTED_ASCII, Shape::Word) => length_fits(record, bytes.len()),
+        (UNQUOTED_ASCII, Shape::Word) => Some(length_fits(record, bytes.len())),
         // "Int: a word, digits without leading zero, `-` before all but 0."
-        (INT, Shape::Word) => number(bytes).is_some_and(|value| in_range(record, value)),
+        (INT, Shape::Word) => number(bytes).map(|value| in_range(record, value)),
         // "Bool: `true`, `false`."
-        (BOOL, Shape::Word) => matches!(bytes, b"true" | b"false"),
-        (DATE, Shape::Word) => is_date(bytes),
-        (TIME, Shape::Word) => is_time(bytes),
-        _ => false,
+        (BOOL, Shape::Word) => matches!(bytes, b"true" | b"false").then_some(true),
+        // "Date: eight digits", "Time: six digits".
+        (DATE, Shape::Word) => all_digits(bytes, 8).then(|| is_date(bytes)),
+        (TIME, Shape::Word) => all_digits(bytes, 6).then(|| is_time(bytes)),
+        _ => None,
     }
+}
+
+fn all_digits(bytes: &[u8], count: usize) -> bool {
+    bytes.len() == count && bytes.iter().all(u8::is_ascii_digit)
 }
 
 /// "Ints and lengths lie in the type's range."
@@ -37,11 +57,8 @@ fn digits(bytes: &[u8]) -> u32 {
         .fold(0, |value, digit| value * 10 + u32::from(digit - b'0'))
 }
 
-/// "Date: eight digits, year 0001 to 9999, month, day".
+/// Eight digits: "year 0001 to 9999, month, day".
 fn is_date(bytes: &[u8]) -> bool {
-    if bytes.len() != 8 || !bytes.iter().all(u8::is_ascii_digit) {
-        return false;
-    }
     let (year, month, day) = (
         digits(&bytes[..4]),
         digits(&bytes[4..6]),
@@ -63,13 +80,9 @@ fn days(year: u32, month: u32) -> u32 {
     }
 }
 
-/// "Time: six digits, 00 to 23, 00 to 59, 00 to 59."
+/// Six digits: "00 to 23, 00 to 59, 00 to 59".
 fn is_time(bytes: &[u8]) -> bool {
-    bytes.len() == 6
-        && bytes.iter().all(u8::is_ascii_digit)
-        && digits(&bytes[..2]) <= 23
-        && digits(&bytes[2..4]) <= 59
-        && digits(&bytes[4..]) <= 59
+    digits(&bytes[..2]) <= 23 && digits(&bytes[2..4]) <= 59 && digits(&bytes[4..]) <= 59
 }
 
 #[cfg(test)]
