@@ -1,4 +1,4 @@
--- A refusal's number is one of 1 to 11, or of 20 to 29, and never the 0 that stands for success.
+-- A refusal's number is one of 1 to 11, or of 20 to 30, and never the 0 that stands for success.
 use mathlib.Core.Path.{_≡_, refl}
 use mathlib.Core.Bool.{Bool, true, false, _&&_}
 use mathlib.Core.List.{List, [], _∷_}
@@ -64,10 +64,10 @@ module _ (text : List ℕ) (room n p : ℕ) where
 -- ---- the reader
 
 module _ (t message : List ℕ) (room n p : ℕ) where
-  pub read-number : readAnswer t message room ≡ reader.refusal n p → (20 ≤ n) × (n ≤ 29)
+  pub read-number : readAnswer t message room ≡ reader.refusal n p → (20 ≤ n) × (n ≤ 30)
   unfolding readAnswer
   read-number e = by (tableRules parameterLimit t) refl e
     where
-      by : (b : Bool) → tableRules parameterLimit t ≡ b → elim b [ true ↦ readWith (recordsIn t) message room | false ↦ reader.refusal 20 0 ] ≡ reader.refusal n p → (20 ≤ n) × (n ≤ 29)
+      by : (b : Bool) → tableRules parameterLimit t ≡ b → elim b [ true ↦ readWith (recordsIn t) message room | false ↦ reader.refusal 20 0 ] ≡ reader.refusal n p → (20 ≤ n) × (n ≤ 30)
       by true ok h = let g = refusal-number (recordsIn t) (table-reading t ok) message room n p h in (omega (arith, g .0), omega (arith, g .1))
       by false ok h = let z : 20 ≡ n = cc in (omega arith, omega arith)

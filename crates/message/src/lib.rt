@@ -95,7 +95,7 @@ fn fill(table: &[u8], unpacked: &[u32], n: usize, message: &[u8], rows: &mut [u3
     message_reader::body(table, unpacked, n, message, rows, root(), false);
 }
 
-// A message read by the n unpacked records of the table: 21, 22, then the leftmost of 23 to 28, then 29.
+// A message read by the n unpacked records of the table: 21, 22, then the leftmost of 23 to 28 and 30, then 29.
 // The records are at most 256, as a table's are.
 fn read_records(
     table: &[u8],

@@ -55,7 +55,7 @@ afterScan S message ls nowhere = outcome message ls (parse S openLimit (tokensOf
 abbrev pub isUnlawful : ℕ → Bool
 isUnlawful n = between 23 28 n || eqb n 30
 
--- "21, 22 in that order, .., then the leftmost of 23 to 28"
+-- "21, 22 in that order, .., then the leftmost of 23 to 28", and 30
 unfoldable pub roomFree : List Record → List ℕ → RoomFree
 roomFree table message =
     elim (leb (length message) messageLimit) [

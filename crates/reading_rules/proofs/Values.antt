@@ -1,14 +1,14 @@
 -- What each number of a value means, by its form and its range.
-use mathlib.Core.Path.{_≡_, refl, ap, sym, _∙_}
+use mathlib.Core.Path.{_≡_, refl, sym}
 use mathlib.Core.Bool.{Bool, true, false, _&&_}
 use mathlib.Core.List.{List, [], _∷_}
 use mathlib.Core.Logic.{_↔_}
 use Prim.Native.Nat.{ℕ, zero, suc, _+_, _-_, _*_, _≤_, _<_}
 use native.Mathlib.Omega.{arith}
-use lib.Dec.{eqb, leb, ltb}
+use lib.Dec.{leb, ltb}
 use lib.ListN.{length}
-use borrow.Author.Tests.{eq-eqb, lt-leb, ltb-true}
-use Rattle.classes.specs.Bytes.{between, isDigit}
+use borrow.Author.Tests.{lt-leb, ltb-true}
+use Rattle.classes.specs.Bytes.{between}
 use Rattle.numbers.specs.Limits.{bias, intMost}
 use Rattle.numbers.specs.Decimal.{readDigits, numberOf, isNatural, isMinus, isInt, intWithin}
 use Rattle.reading_rules.specs.Token.{Token, word}
