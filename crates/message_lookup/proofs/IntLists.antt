@@ -25,9 +25,7 @@ use Rattle.message_lookup.proofs.Judging.{form-and-range, word-int}
 natural-int : (r : Record) (w : List ℕ) → r .kind ≡ 3 → isNatural w ≡ true → r .least ≤ bias + numberOf w → bias + numberOf w ≤ r .most → 0 ≡ valueNumber r (word w)
 natural-int r w k e a b =
     let f = natural-first w e in
-    form-and-range (isInt w) (intLies r w)
-    (rw (int-plain w (f .0), e))
-    (rw (within-number w (f .0) (r .least) (r .most) (f .1), le-leb (r .least) (bias + numberOf w) a, le-leb (bias + numberOf w) (r .most) b))
+    form-and-range (isInt w) (intLies r w) (rw (int-plain w (f .0), e, within-number w (f .0) (r .least) (r .most) (f .1), le-leb (r .least) (bias + numberOf w) a, le-leb (bias + numberOf w) (r .most) b))
     ∙ word-int r w k
 
 pub no-limit : (hi c : ℕ) → hi ≡ noLimit → mayGrow hi c ≡ true

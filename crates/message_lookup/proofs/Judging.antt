@@ -23,17 +23,17 @@ unfolding formThenRange
 no-form true within e = clash-bool (sym e)
 no-form false within e = refl
 
-pub no-range : (form within : Bool) → form ≡ true → within ≡ false → 30 ≡ formThenRange form within
+pub no-range : (form within : Bool) → form && within ≡ false → form ≡ true → 30 ≡ formThenRange form within
 unfolding formThenRange
-no-range true true e f = clash-bool (sym f)
+no-range true true e f = clash-bool (sym e)
 no-range true false e f = refl
-no-range false within e f = clash-bool e
+no-range false within e f = clash-bool f
 
-pub form-and-range : (form within : Bool) → form ≡ true → within ≡ true → 0 ≡ formThenRange form within
+pub form-and-range : (form within : Bool) → form && within ≡ true → 0 ≡ formThenRange form within
 unfolding formThenRange
-form-and-range true true e f = refl
-form-and-range true false e f = clash-bool f
-form-and-range false within e f = clash-bool e
+form-and-range true true e = refl
+form-and-range true false e = clash-bool e
+form-and-range false within e = clash-bool e
 
 -- a length past every range
 pub too-long : (least most n : ℕ) → most < 0x1_0000_0000 → 0xFFFF_FFFF < n → false ≡ between least most (bias + n)

@@ -260,13 +260,13 @@ pub fn complete(table: &[u8], unpacked: &[u32], n: usize, p: usize, seen: &[bool
 fn form_then_range(form: bool, within: bool) -> u32
     ensures { λ r. ⌜ r ≡ formThenRange form within ⌝ }
 {
-    if !form {
-        return numbers::NO_FORM;
+    if form & within {
+        return 0;
     }
-    if !within {
+    if form {
         return numbers::OUTSIDE;
     }
-    0
+    numbers::NO_FORM
 }
 
 fn is_bool(text: &[u8]) -> bool
@@ -306,22 +306,24 @@ fn int_in_range(table: &[u8], unpacked: &[u32], q: usize, text: &[u8]) -> bool
     )
 }
 
+// A date: eight digits, then a day of the calendar.
 fn judge_date(text: &[u8]) -> u32
     ensures { λ r. ⌜ r ≡ formThenRange (dateForm (now (text .entry))) (dateWithin (now (text .entry))) ⌝ }
 {
-    if calendar::date_form(text) {
-        return form_then_range(true, calendar::date_within(text));
+    if !calendar::date_form(text) {
+        return numbers::NO_FORM;
     }
-    numbers::NO_FORM
+    form_then_range(true, calendar::date_within(text))
 }
 
+// A time: six digits, then a time of the day.
 fn judge_time(text: &[u8]) -> u32
     ensures { λ r. ⌜ r ≡ formThenRange (timeForm (now (text .entry))) (timeWithin (now (text .entry))) ⌝ }
 {
-    if calendar::time_form(text) {
-        return form_then_range(true, calendar::time_within(text));
+    if !calendar::time_form(text) {
+        return numbers::NO_FORM;
     }
-    numbers::NO_FORM
+    form_then_range(true, calendar::time_within(text))
 }
 
 // The value rule of each kind, for a word.
