@@ -1,14 +1,15 @@
 -- Dates and times by the pairs of their digits.
 use Prim.Native.Nat.{ℕ, suc, _+_, _*_, _<_}
-use mathlib.Core.Bool.{Bool, true, false, _&&_}
+use mathlib.Core.Bool.{true, _&&_}
 use mathlib.Core.List.{List, [], _∷_}
-use mathlib.Core.Path.{_≡_, refl}
+use mathlib.Core.Path.{_≡_}
 use native.Mathlib.Numerals.{add-one}
 use native.Mathlib.Omega.{arith}
 use borrow.Author.Tests.{eqb-true}
 use lib.Dec.{eqb, leb}
 use lib.ListN.{length, take, drop, drop-of-length-le}
 use lib.Seq.{drop-cons}
+use Rattle.classes.proofs.Bools.{both-true}
 use Rattle.classes.specs.Lists.{every}
 use Rattle.classes.specs.Bytes.{between, isDigit}
 use Rattle.numbers.specs.Decimal.{numberOf, readDigits}
@@ -39,11 +40,7 @@ four (a ∷ b ∷ c ∷ d ∷ w) h = omega arith
 
 -- so many digits have that length
 digits-long : (w : List ℕ) (n : ℕ) → eqb (length w) n && every isDigit w ≡ true → length w ≡ n
-digits-long w n e = go (eqb (length w) n) refl e
-  where
-    go : (b : Bool) → eqb (length w) n ≡ b → b && every isDigit w ≡ true → length w ≡ n
-    go true q a = eqb-true (length w) n q
-    go false q a = let z : _≡_ {A = ℕ} 0 1 = cc in absurd (omega arith)
+digits-long w n e = eqb-true (length w) n (both-true (eqb (length w) n) (every isDigit w) e .0)
 
 module _ (w : List ℕ) where
   pub date-parts : (y m d n : ℕ) → dateForm w ≡ true → y ≡ pairAt w 0 * 100 + pairAt w 2 → m ≡ pairAt w 4 → d ≡ pairAt w 6 → n ≡ daysOf y m → dateWithin w ≡ leb 1 y && (between 1 12 m && between 1 n d)

@@ -11,6 +11,10 @@ pub both-true : (a b : Bool) → a && b ≡ true → (a ≡ true) × (b ≡ true
 both-true true b e = (refl, e)
 both-true false b e = clash-bool e
 
+pub and-off : (a : Bool) → a && false ≡ false
+and-off true = refl
+and-off false = refl
+
 pub or-case : {X : Type 0} (a b : Bool) → a || b ≡ true → (a ≡ true → X) → (b ≡ true → X) → X
 or-case true b e f g = f refl
 or-case false b e f g = g e

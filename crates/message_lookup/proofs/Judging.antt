@@ -6,6 +6,7 @@ use Prim.Native.Nat.{ℕ, _+_, _<_}
 use native.Mathlib.Omega.{arith}
 use borrow.Author.Tests.{ne-eqb, lt-leb}
 use lib.Dec.{eqb, leb}
+use Rattle.classes.proofs.Bools.{and-off}
 use Rattle.classes.specs.Bytes.{between}
 use Rattle.numbers.specs.Limits.{bias}
 use Rattle.numbers.specs.Decimal.{isInt}
@@ -37,11 +38,7 @@ form-and-range false within e = clash-bool e
 
 -- a length past every range
 pub too-long : (least most n : ℕ) → most < 0x1_0000_0000 → 0xFFFF_FFFF < n → false ≡ between least most (bias + n)
-too-long least most n h l = rw (lt-leb (bias + n) most (omega arith)) (go (leb least (bias + n)))
-  where
-    go : (b : Bool) → false ≡ b && false
-    go true = refl
-    go false = refl
+too-long least most n h l = rw (lt-leb (bias + n) most (omega arith)) (sym (and-off (leb least (bias + n))))
 
 -- ---- a word or a string, by the kind's number
 

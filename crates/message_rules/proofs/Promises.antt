@@ -1,12 +1,13 @@
 -- What the answers of the reader mean, in the paper's terms: over lawful readings, their rows, and the limits. Nothing here mentions the parser.
 use mathlib.Core.Path.{_≡_, refl, ap, sym, _∙_}
-use mathlib.Core.Bool.{Bool, true, false, not, _&&_, _||_}
+use mathlib.Core.Bool.{Bool, true, false, not, _&&_}
 use mathlib.Core.List.{List, [], _∷_, _++_}
 use Prim.Native.Nat.{ℕ, suc, _-_, _*_, _≤_, _<_}
 use native.Mathlib.Omega.{arith}
 use lib.Dec.{eqb, leb}
 use lib.ListN.{length, drop}
 use borrow.Author.Tests.{eqb-true, leb-true, leb-false, le-leb, lt-leb}
+use Rattle.classes.proofs.Bools.{or-case}
 use Rattle.classes.specs.Bytes.{between}
 use Rattle.numbers.specs.Limits.{messageLimit, openLimit, rowWidth}
 use Rattle.reading_rules.specs.Token.{Token}
@@ -77,11 +78,9 @@ room-accepts {X} room k (rows rs) e h = go (leb (rowWidth * length rs) room) ref
 
 -- 23 to 28, or 30: between 23 and 30, and not 29
 unlawful-number : (n : ℕ) → isUnlawful n ≡ true → (23 ≤ n) × (n ≤ 30) × (n ≡ 29 → ⊥)
-unlawful-number n u = go (between 23 28 n) refl u
-  where
-    go : (b : Bool) → between 23 28 n ≡ b → b || eqb n 30 ≡ true → (23 ≤ n) × (n ≤ 30) × (n ≡ 29 → ⊥)
-    go true e v = and-both (leb 23 n) (leb n 28) e (λ a b. let x = leb-true 23 n a in let y = leb-true n 28 b in (x, omega arith, λ z. omega arith))
-    go false e v = let x = eqb-true n 30 v in (omega arith, omega arith, λ z. omega arith)
+unlawful-number n u = or-case (between 23 28 n) (eqb n 30) u
+    (λ v. and-both (leb 23 n) (leb n 28) v (λ a b. let x = leb-true 23 n a in let y = leb-true n 28 b in (x, omega arith, λ z. omega arith)))
+    (λ v. let x = eqb-true n 30 v in (omega arith, omega arith, λ z. omega arith))
 
 -- and such a number is one of them
 pub number-unlawful : (n : ℕ) → 23 ≤ n → n ≤ 30 → (n ≡ 29 → ⊥) → isUnlawful n ≡ true

@@ -8,6 +8,7 @@ use native.Mathlib.Omega.{arith}
 use lib.Dec.{leb, ltb}
 use lib.ListN.{length}
 use borrow.Author.Tests.{lt-leb, ltb-true}
+use Rattle.classes.proofs.Bools.{and-off}
 use Rattle.classes.specs.Bytes.{between}
 use Rattle.numbers.specs.Limits.{bias, intMost}
 use Rattle.numbers.specs.Decimal.{readDigits, numberOf, isNatural, isMinus, isInt, intWithin}
@@ -98,14 +99,10 @@ unfolding isInt intWithin
 past-every-range least most [] m e h = refl
 past-every-range least most (b ∷ l) m e h = go (isMinus b) e
   where
-    beyond : (a : Bool) → a && false ≡ false
-    beyond true = refl
-    beyond false = refl
-
     go : (s : Bool) → elim s [ true ↦ isNatural l && ltb 0 (numberOf l) | false ↦ isNatural (b ∷ l) ] ≡ true
         → elim s [ true ↦ leb (numberOf l) bias && between least most (bias - numberOf l) | false ↦ between least most (bias + numberOf (b ∷ l)) ] ≡ false
     go true q = and-both (isNatural l) _ q (λ x y. let g = eleven-digits l x (omega arith) in rw (lt-leb (numberOf l) bias (omega arith)))
-    go false q = let g = eleven-digits (b ∷ l) q (omega arith) in rw (lt-leb (bias + numberOf (b ∷ l)) most (omega arith)) (beyond (leb least (bias + numberOf (b ∷ l))))
+    go false q = let g = eleven-digits (b ∷ l) q (omega arith) in rw (lt-leb (bias + numberOf (b ∷ l)) most (omega arith)) (and-off (leb least (bias + numberOf (b ∷ l))))
 
 pub many-digits : (r : Record) (w : List ℕ) → r .kind ≡ 3 → r .most ≤ intMost → isInt w ≡ true → 11 < length w → valueNumber r (word w) ≡ 30
 unfolding tokenForm tokenWithin wordForm wordWithin
