@@ -6,7 +6,7 @@ use Prim.Native.Nat.{ℕ, _+_, _<_}
 use native.Mathlib.Omega.{arith}
 use borrow.Author.Tests.{ne-eqb, lt-leb}
 use lib.Dec.{eqb, leb}
-use Rattle.classes.proofs.Bools.{and-off}
+use Rattle.classes.proofs.Bools.{both-true, and-off}
 use Rattle.classes.specs.Bytes.{between}
 use Rattle.numbers.specs.Limits.{bias}
 use Rattle.numbers.specs.Decimal.{isInt}
@@ -15,14 +15,13 @@ use Rattle.reading_rules.specs.Token.{word, string}
 use Rattle.reading_rules.specs.Record.{Record, blank}
 use Rattle.reading_rules.specs.Value.{isBool, wordForm, wordWithin, tokenForm, tokenWithin, formThenRange, valueNumber}
 use Rattle.reading_rules.proofs.CountLaws.{clash-bool}
+use Rattle.reading_rules.proofs.Values.{by-form, by-both}
 use Rattle.message_lookup.specs.Questions.{textToken, lengthLies, intLies}
 
 -- ---- form, then range
 
 pub no-form : (form within : Bool) → form ≡ false → 24 ≡ formThenRange form within
-unfolding formThenRange
-no-form true within e = clash-bool (sym e)
-no-form false within e = refl
+no-form form within e = sym (by-form form within .1 e)
 
 pub no-range : (form within : Bool) → form && within ≡ false → form ≡ true → 30 ≡ formThenRange form within
 unfolding formThenRange
@@ -31,10 +30,7 @@ no-range true false e f = refl
 no-range false within e f = clash-bool f
 
 pub form-and-range : (form within : Bool) → form && within ≡ true → 0 ≡ formThenRange form within
-unfolding formThenRange
-form-and-range true true e = refl
-form-and-range true false e = clash-bool e
-form-and-range false within e = clash-bool e
+form-and-range form within e = sym (by-both form within .1 (both-true form within e))
 
 -- a length past every range
 pub too-long : (least most n : ℕ) → most < 0x1_0000_0000 → 0xFFFF_FFFF < n → false ≡ between least most (bias + n)

@@ -1,4 +1,4 @@
--- The fuel's number never shows: where no brace stands too deep, every refusal is one of 01's.
+-- The fuel's number never shows: where no brace stands too deep, every refusal is one of 23 to 28, or 30.
 use mathlib.Core.Path.{_≡_, refl, ap, sym}
 use mathlib.Core.Bool.{Bool, true, false, not}
 use mathlib.Core.List.{List, [], _∷_}

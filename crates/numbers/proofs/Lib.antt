@@ -2,5 +2,6 @@
 pub mod Order
 pub mod Bytes
 pub mod Digits
+pub mod Sizes
 pub mod Ranges
 pub mod Packing

@@ -15,6 +15,7 @@ use Rattle.reading_rules.specs.Record.{Record, blank, recordAt}
 use Rattle.reading_rules.specs.Value.{wordForm, tokenForm, tokenWithin, formThenRange, valueNumber, Judgement, taken, formless, outside}
 use Rattle.reading_rules.specs.Schema.{union, Found, nowhere, found, kindOf, numbersWhere, isUntaggedOf, isTaggedOf, isTaggedAs, first, firstWhere, schemaOf, WellFormed}
 use Rattle.reading_rules.proofs.CountLaws.{clash-bool, and-both}
+use Rattle.reading_rules.proofs.Values.{value-0}
 
 -- the record rules that a reading rests on
 pub record ReadingRules (table : List Record) : Type 0 where
@@ -88,11 +89,6 @@ int-like (b ∷ l) e = go (isMinus b) e
     go true a = and-both (isNatural l) _ a (λ p q. natural-digits l p)
     go false a = natural-digits (b ∷ l) a
 
-form-holds : (a b : Bool) → formThenRange a b ≡ 0 → a ≡ true
-unfolding formThenRange
-form-holds true b e = refl
-form-holds false b e = absurd (omega arith)
-
 form-judged : (a b : Bool) → Judgement (formThenRange a b)
 unfolding formThenRange
 form-judged true true = taken
@@ -113,9 +109,9 @@ unfolding valueNumber
 value-judged r t = form-judged (tokenForm r t) (tokenWithin r t)
 
 int-spoken : (r : Record) (w : List ℕ) → r .kind ≡ 3 → valueNumber r (word w) ≡ 0 → isIntLike w ≡ true
-unfolding valueNumber tokenForm wordForm
+unfolding tokenForm wordForm
 int-spoken r w k e =
-    let a = form-holds (wordForm (r .kind) w) (tokenWithin r (word w)) e in
+    let a = value-0 r (word w) .0 e .0 in
     let b : isInt w ≡ true = rw k at a in
     int-like w b
 
