@@ -30,8 +30,11 @@ extern "C" {
 /* A table is never longer: 256 records of at most 87 bytes. */
 #define LUMAS_TABLE_MOST 22272
 
-/* The numbers of a row: parameter, parent row, start, end (the end is not included). */
-#define LUMAS_ROW_WIDTH 4
+/*
+ * The numbers of a row: parameter, parent row, start, end (the end is not included), index (which of
+ * its list the value is, from 0). The root, voids and chosen alternatives have index 0.
+ */
+#define LUMAS_ROW_WIDTH 5
 
 /* The parent of the root's row. */
 #define LUMAS_NO_ROW UINT32_C(4294967295)
@@ -91,9 +94,9 @@ bool lumas_table_ok(const uint8_t *table, size_t table_len);
  *
  * LUMAS_OK: the message has a lawful reading, and never a second one. *value is how many rows it
  * has, they stand first in what was lent, in order of place and parents first, and the numbers
- * beyond them are as they were. Row 0 is the root's: 0, LUMAS_NO_ROW, 0, message_len. Else one of 20
- * to 29: *value is its place, and every lent number is as it was. With nothing lent a lawful message
- * answers 29 and how many rows it has.
+ * beyond them are as they were. Row 0 is the root's: 0, LUMAS_NO_ROW, 0, message_len, 0. Else one of
+ * 20 to 30: *value is its place, and every lent number is as it was. With nothing lent a lawful
+ * message answers 29 and how many rows it has.
  */
 uint32_t lumas_read(const uint8_t *table, size_t table_len,
                     const uint8_t *message, size_t message_len,

@@ -24,7 +24,9 @@ static void print_row(const uint8_t *message, size_t length, const uint32_t *row
     const uint32_t *r = rows + LUMAS_ROW_WIDTH * row;
     size_t start;
     size_t count = lumas_row(message, length, rows, numbers, row, &start);
-    printf("%lu %lu %lu %lu: ", (unsigned long)r[0], (unsigned long)r[1], (unsigned long)r[2], (unsigned long)r[3]);
+    for (size_t k = 0; k < LUMAS_ROW_WIDTH; k++)
+        printf(k == 0 ? "%lu" : " %lu", (unsigned long)r[k]);
+    printf(": ");
     fwrite(message + start, 1, count, stdout);
     putchar('\n');
 }

@@ -54,7 +54,7 @@ fn help(out: &mut [u8]) -> u8 {
   lumas compile DEFINITION TABLE   compile a definition, and write its table to a file
   lumas read DEFINITION MESSAGE    read a message, and print a row for each value in it
   lumas read TABLE MESSAGE         the same by a table that was compiled before
-  lumas read --plain ..            bare numbers: parameter, parent row, start, end
+  lumas read --plain ..            bare numbers: parameter, parent row, start, end, index
   lumas show TABLE                 print the records of a table, or of a definition
   lumas check TABLE                say whether some definition compiles to this table
   lumas check DEFINITION           say whether a definition compiles

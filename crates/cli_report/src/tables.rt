@@ -1,6 +1,7 @@
 // Rows and records as tables. Line 0 has the columns' heads, and line k + 1 has row or record k.
 // A column is as wide as its widest cell; the last has no width and is not filled up.
 ghost use Prim.Native.Nat.{_<_};
+ghost use Rattle.numbers.specs.Limits.{rowWidth};
 ghost use Rattle.text.specs.Text.{Wrote};
 ghost use Rattle.cli_report.specs.Shown.{intText, boundsText};
 use crate::refusals::put_shown;
@@ -10,7 +11,7 @@ use cli_wording::put_line;
 const NO_ROW: u32 = numbers::NO_ROW as u32;
 
 // How many columns have a width.
-const ROW_COLUMNS: usize = 5;
+const ROW_COLUMNS: usize = 6;
 
 const RECORD_COLUMNS: usize = 7;
 
@@ -29,7 +30,7 @@ const FLAGS: [u8; 106] =
 // The heads of the columns.
 const RECORD_HEADS: [u8; 56] = *b"record\nkind\nparent\nflags\ncount\nrange\ntarget\ntag or name\n";
 
-const ROW_HEADS: [u8; 36] = *b"row\nparameter\nparent\nstart\nend\ntext\n";
+const ROW_HEADS: [u8; 42] = *b"row\nparameter\nparent\nstart\nend\nindex\ntext\n";
 
 // ---- cells
 
@@ -253,7 +254,7 @@ pub fn put_record_line(
 
 // A number of a row. A row that isn't there has zeros.
 pub fn row_number(rows: &[u32], row: usize, k: usize) -> u32
-    requires { ⌜ k < 4 ⌝ }
+    requires { ⌜ k < rowWidth ⌝ }
 {
     if rows.len() / numbers::ROW_WIDTH <= row {
         return 0;
@@ -289,7 +290,8 @@ fn put_row_cell(
         }
         2 => put_parent(out, at, row_number(rows, row, numbers::ROW_PARENT)),
         3 => text::put_decimal(out, at, row_number(rows, row, numbers::ROW_START) as u64),
-        _ => text::put_decimal(out, at, row_number(rows, row, numbers::ROW_END) as u64),
+        4 => text::put_decimal(out, at, row_number(rows, row, numbers::ROW_END) as u64),
+        _ => text::put_decimal(out, at, row_number(rows, row, numbers::ROW_INDEX) as u64),
     }
 }
 
@@ -400,7 +402,7 @@ fn put_row_text(out: &mut [u8], at: usize, bytes: &[u8], has_parts: bool) -> usi
     put_shown(out, at, bytes)
 }
 
-// A line of the table of rows: row, tag or name of the parameter, parent row, span, and the row's bytes.
+// A line of the table of rows: row, tag or name of the parameter, parent row, span, place in its list, and the row's bytes.
 pub fn put_row_line(
     out: &mut [u8],
     at: usize,
@@ -420,7 +422,7 @@ pub fn put_row_line(
     text::put_byte(out, o, b'\n')
 }
 
-// A row's four numbers.
+// A row's numbers.
 pub fn put_row_numbers(out: &mut [u8], at: usize, rows: &[u32], row: usize) -> usize {
     let o = text::put_decimal(
         out,
@@ -430,5 +432,6 @@ pub fn put_row_numbers(out: &mut [u8], at: usize, rows: &[u32], row: usize) -> u
     let o = text::put_number(out, o, row_number(rows, row, numbers::ROW_PARENT) as u64);
     let o = text::put_number(out, o, row_number(rows, row, numbers::ROW_START) as u64);
     let o = text::put_number(out, o, row_number(rows, row, numbers::ROW_END) as u64);
+    let o = text::put_number(out, o, row_number(rows, row, numbers::ROW_INDEX) as u64);
     text::put_byte(out, o, b'\n')
 }

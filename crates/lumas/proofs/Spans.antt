@@ -7,6 +7,7 @@ use native.Mathlib.Omega.{arith}
 use lib.Dec.{leb}
 use lib.ListN.{length, take, drop, getD, length-take, length-drop}
 use borrow.Author.Tests.{leb-true}
+use Rattle.numbers.specs.Limits.{rowWidth}
 use Rattle.message_rules.specs.RowBytes.{rowBytes}
 use Rattle.lumas.specs.Told.{RowPart}
 
@@ -16,7 +17,7 @@ no-bytes (b ∷ l) h = absurd (omega arith)
 
 -- the row at some place is there, and its span lies in the message
 pub record There (message rows bytes : List ℕ) (at : ℕ) : Type 0 where
-  pub whole : at + 4 ≤ length rows
+  pub whole : at + rowWidth ≤ length rows
   pub forward : getD rows (at + 2) 0 ≤ getD rows (at + 3) 0
   pub inside : getD rows (at + 3) 0 ≤ length message
   pub is : bytes ≡ take (getD rows (at + 3) 0 - getD rows (at + 2) 0) (drop (getD rows (at + 2) 0) message)
@@ -26,30 +27,30 @@ module _ (message rows : List ℕ) (row : ℕ) where
   part-none bytes e h = record { bytes = no-bytes bytes h ∙ e; within = omega arith; empty = λ _. refl; begins = λ z. absurd (omega (arith, z)) }
 
   module _ (bytes : List ℕ) (e : bytes ≡ rowBytes message rows row) (some : length bytes ≡ 0 → ⊥) where
-    pub there : There message rows bytes (4 * row)
+    pub there : There message rows bytes (rowWidth * row)
     unfolding rowBytes
-    there = by (leb (4 * row + 4) (length rows)) (leb start end) (leb end (length message)) refl refl refl e
+    there = by (leb (rowWidth * row + rowWidth) (length rows)) (leb start end) (leb end (length message)) refl refl refl e
       where
         start : ℕ
-        start = getD rows (4 * row + 2) 0
+        start = getD rows (rowWidth * row + 2) 0
 
         end : ℕ
-        end = getD rows (4 * row + 3) 0
+        end = getD rows (rowWidth * row + 3) 0
 
-        none : bytes ≡ [] → There message rows bytes (4 * row)
+        none : bytes ≡ [] → There message rows bytes (rowWidth * row)
         none z = absurd (some (ap length z))
 
-        by : (a b c : Bool) → leb (4 * row + 4) (length rows) ≡ a → leb start end ≡ b → leb end (length message) ≡ c
-            → bytes ≡ elim (a && (b && c)) [ true ↦ take (end - start) (drop start message) | false ↦ [] ] → There message rows bytes (4 * row)
-        by true true true p q r z = record { whole = leb-true (4 * row + 4) (length rows) p; forward = leb-true start end q; inside = leb-true end (length message) r; is = z }
+        by : (a b c : Bool) → leb (rowWidth * row + rowWidth) (length rows) ≡ a → leb start end ≡ b → leb end (length message) ≡ c
+            → bytes ≡ elim (a && (b && c)) [ true ↦ take (end - start) (drop start message) | false ↦ [] ] → There message rows bytes (rowWidth * row)
+        by true true true p q r z = record { whole = leb-true (rowWidth * row + rowWidth) (length rows) p; forward = leb-true start end q; inside = leb-true end (length message) r; is = z }
         by true true false p q r z = none z
         by true false c p q r z = none z
         by false b c p q r z = none z
 
-    pub part-some : (s : ℕ) → s ≡ getD rows (4 * row + 2) 0 → RowPart message rows row s (length bytes)
+    pub part-some : (s : ℕ) → s ≡ getD rows (rowWidth * row + 2) 0 → RowPart message rows row s (length bytes)
     part-some s f =
         let t = there in
-        let l : length bytes ≡ getD rows (4 * row + 3) 0 - s = ap length (t .is) ∙ simp (length-take, length-drop) (omega (arith, t .forward, t .inside)) in
+        let l : length bytes ≡ getD rows (rowWidth * row + 3) 0 - s = ap length (t .is) ∙ simp (length-take, length-drop) (omega (arith, t .forward, t .inside)) in
         record {
           bytes = rw (l, f) (sym (t .is) ∙ e);
           within = omega (arith, t .forward, t .inside);

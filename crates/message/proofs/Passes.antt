@@ -35,11 +35,11 @@ use Rattle.message.specs.Reads.{rootFrame, reading, Rows, RowsCounted, F
 use Rattle.message.specs.declared.Verdict.the-variants.{Refused}
 
 -- ---- a row's bytes
-row-there : (len row : ℕ) → row < len / 4 → 4 * row + 4 ≤ len
-row-there len row h = omega (arith, div-add-mod' len 4)
+row-there : (len row : ℕ) → row < len / rowWidth → rowWidth * row + rowWidth ≤ len
+row-there len row h = omega (arith, div-add-mod' len rowWidth)
 
-row-lost : (len row : ℕ) → len / 4 ≤ row → len < 4 * row + 4
-row-lost len row h = let z : len % 4 < 4 = mod-lt len (omega arith) in omega (arith, div-add-mod' len 4, z)
+row-lost : (len row : ℕ) → len / rowWidth ≤ row → len < rowWidth * row + rowWidth
+row-lost len row h = let z : len % rowWidth < rowWidth = mod-lt len (omega arith) in omega (arith, div-add-mod' len rowWidth, z)
 
 module _ (m lent : List ℕ) (row : ℕ) where
   -- the empty part, at the message's start; or the row's part, at its own
@@ -51,21 +51,21 @@ module _ (m lent : List ℕ) (row : ℕ) where
   unfolding rowBytes rowStart
   lying e = rw (e, rowBytes, rowStart) (refl, refl)
 
-  pub bytes-lost : length lent / 4 ≤ row → ([] ≡ rowBytes m lent row) × (0 ≡ rowStart m lent row)
-  bytes-lost h = not-lying (rw (lt-leb (4 * row + 4) (length lent) (row-lost (length lent) row h)) refl)
+  pub bytes-lost : length lent / rowWidth ≤ row → ([] ≡ rowBytes m lent row) × (0 ≡ rowStart m lent row)
+  bytes-lost h = not-lying (rw (lt-leb (rowWidth * row + rowWidth) (length lent) (row-lost (length lent) row h)) refl)
 
-  pub bytes-back : row < length lent / 4 → rowTo lent row < rowFrom lent row → ([] ≡ rowBytes m lent row) × (0 ≡ rowStart m lent row)
-  bytes-back h e = not-lying (rw (le-leb (4 * row + 4) (length lent) (row-there (length lent) row h), lt-leb (rowFrom lent row) (rowTo lent row) e) refl)
+  pub bytes-back : row < length lent / rowWidth → rowTo lent row < rowFrom lent row → ([] ≡ rowBytes m lent row) × (0 ≡ rowStart m lent row)
+  bytes-back h e = not-lying (rw (le-leb (rowWidth * row + rowWidth) (length lent) (row-there (length lent) row h), lt-leb (rowFrom lent row) (rowTo lent row) e) refl)
 
-  pub bytes-over : row < length lent / 4 → rowFrom lent row ≤ rowTo lent row → length m < rowTo lent row → ([] ≡ rowBytes m lent row) × (0 ≡ rowStart m lent row)
-  bytes-over h e f = not-lying (rw (le-leb (4 * row + 4) (length lent) (row-there (length lent) row h), le-leb (rowFrom lent row) (rowTo lent row) e, lt-leb (rowTo lent row) (length m) f) refl)
+  pub bytes-over : row < length lent / rowWidth → rowFrom lent row ≤ rowTo lent row → length m < rowTo lent row → ([] ≡ rowBytes m lent row) × (0 ≡ rowStart m lent row)
+  bytes-over h e f = not-lying (rw (le-leb (rowWidth * row + rowWidth) (length lent) (row-there (length lent) row h), le-leb (rowFrom lent row) (rowTo lent row) e, lt-leb (rowTo lent row) (length m) f) refl)
 
-  pub bytes-there : row < length lent / 4 → rowFrom lent row ≤ rowTo lent row → rowTo lent row ≤ length m → (take (rowTo lent row - rowFrom lent row) (drop (rowFrom lent row) m) ≡ rowBytes m lent row) × (rowFrom lent row ≡ rowStart m lent row)
-  bytes-there h e f = lying (rw (le-leb (4 * row + 4) (length lent) (row-there (length lent) row h), le-leb (rowFrom lent row) (rowTo lent row) e, le-leb (rowTo lent row) (length m) f) refl)
+  pub bytes-there : row < length lent / rowWidth → rowFrom lent row ≤ rowTo lent row → rowTo lent row ≤ length m → (take (rowTo lent row - rowFrom lent row) (drop (rowFrom lent row) m) ≡ rowBytes m lent row) × (rowFrom lent row ≡ rowStart m lent row)
+  bytes-there h e f = lying (rw (le-leb (rowWidth * row + rowWidth) (length lent) (row-there (length lent) row h), le-leb (rowFrom lent row) (rowTo lent row) e, le-leb (rowTo lent row) (length m) f) refl)
 
 -- ---- the passes
 pub root-room : (n len : ℕ) → len ≤ messageLimit → n ≤ parameterLimit → Room rootFrame len n
-root-room n len l k = record { short = omega (arith, l); here = omega arith; few = omega arith; above = omega arith; known = k }
+root-room n len l k = record { short = omega (arith, l); here = omega arith; few = omega arith; above = omega arith; listed = omega arith; known = k }
 
 module _ (t o : List ℕ) (n : ℕ) (m : List ℕ) (before after : List ℕ) where
   start : cut m .lexemes ≡ lexemesAt 0 m 0
@@ -83,12 +83,12 @@ module _ (t o : List ℕ) (n : ℕ) (m : List ℕ) (before after : List ℕ) whe
       let p : placeOfLeft m (lexemesAt 0 m 0) (tokensOf (h .rest)) ≡ q = place-left m (lexemesAt 0 m 0) (h .rest) (h .along) ∙ sym (rw (zero-add (length m)) at (h .place)) in
       reading-is ∙ (ap (outcome m (lexemesAt 0 m 0)) (h .is) ∙ ap (fault k) p)
 
-  pub filled : (lent : List ℕ) (r : Got) → before ≡ sets lent (rowWidth * 0) (cells (record { parameter = 0; parent = noRow; start = 0; end = length m } ∷ [])) → Ends (bodyAt (schemaAt t o n) 17 false 0 (tokensOf (lexemesAt 0 m 0))) m rootFrame before after 0 r → Fills (reading t o n m) lent after
+  pub filled : (lent : List ℕ) (r : Got) → before ≡ sets lent (rowWidth * 0) (cells (record { parameter = 0; parent = noRow; start = 0; end = length m; index = 0 } ∷ [])) → Ends (bodyAt (schemaAt t o n) 17 false 0 (tokensOf (lexemesAt 0 m 0))) m rootFrame before after 0 r → Fills (reading t o n m) lent after
   unfolding outcome messageRows
   filled lent (got.Done u k) b h rs e =
       let z : rows rs ≡ rows (messageRows m (lexemesAt 0 m 0) (h .read .tree)) = sym e ∙ (reading-is ∙ ap (outcome m (lexemesAt 0 m 0)) (h .read .is)) in
       let y : rs ≡ messageRows m (lexemesAt 0 m 0) (h .read .tree) = cc in
-      rw y (h .read .written ∙ rw b (rows-append lent 0 1 (record { parameter = 0; parent = noRow; start = 0; end = length m } ∷ []) (rowsOf (lexemesAt 0 m 0) (h .read .tree) 0 1 0 0) refl))
+      rw y (h .read .written ∙ rw b (rows-append lent 0 1 (record { parameter = 0; parent = noRow; start = 0; end = length m; index = 0 } ∷ []) (rowsOf (lexemesAt 0 m 0) (h .read .tree) 0 1 0 0 0) refl))
   filled lent (got.Refused k q) b h rs e =
       let z : rows rs ≡ fault k (placeOfLeft m (lexemesAt 0 m 0) (tokensOf (h .rest))) = sym e ∙ (reading-is ∙ ap (outcome m (lexemesAt 0 m 0)) (h .is)) in
       let y : _≡_ {A = ℕ} 0 1 = cc in absurd (omega arith)
@@ -119,15 +119,15 @@ module _ (o : RoomFree) (lent : List ℕ) where
   with-fault n place e = (rw e refl, rw e refl)
 
   module _ (m : ℕ) (h : Rows o m) where
-    pub with-little : length lent / 4 < m → (refusal 29 m ≡ withRoom (length lent) o) × (lent ≡ written lent o)
+    pub with-little : length lent / rowWidth < m → (refusal 29 m ≡ withRoom (length lent) o) × (lent ≡ written lent o)
     with-little l =
-        let z : length lent % 4 < 4 = mod-lt (length lent) (omega arith) in
-        let r : length lent < rowWidth * length (h .all) = omega (arith, div-add-mod' (length lent) 4, z, h .counted, l) in
+        let z : length lent % rowWidth < rowWidth = mod-lt (length lent) (omega arith) in
+        let r : length lent < rowWidth * length (h .all) = omega (arith, div-add-mod' (length lent) rowWidth, z, h .counted, l) in
         (room-lacks (h .all) (length lent) m (h .counted) r ∙ ap (withRoom (length lent)) (sym (h .is)), rows-kept (h .all) lent r ∙ ap (written lent) (sym (h .is)))
 
-    pub with-room : (after : List ℕ) → m ≤ length lent / 4 → Fills o lent after → (accepted m ≡ withRoom (length lent) o) × (after ≡ written lent o)
+    pub with-room : (after : List ℕ) → m ≤ length lent / rowWidth → Fills o lent after → (accepted m ≡ withRoom (length lent) o) × (after ≡ written lent o)
     with-room after l f =
-        let r : rowWidth * length (h .all) ≤ length lent = omega (arith, div-add-mod' (length lent) 4, h .counted, l) in
+        let r : rowWidth * length (h .all) ≤ length lent = omega (arith, div-add-mod' (length lent) rowWidth, h .counted, l) in
         (room-fits (h .all) (length lent) m (h .counted) r ∙ ap (withRoom (length lent)) (sym (h .is)), f (h .all) (h .is) ∙ (rows-filled (h .all) lent r ∙ ap (written lent) (sym (h .is))))
 
 -- ---- the order of refusals

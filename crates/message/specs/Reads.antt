@@ -22,7 +22,7 @@ answerOfRead (Accepted n) = accepted n
 answerOfRead (Refused n place) = refusal n place
 
 abbrev pub rootFrame : Frame
-rootFrame = record { base = 0; at = 0; row = 1; parameter = 0; parent = 0; depth = openLimit + 1 }
+rootFrame = record { base = 0; at = 0; row = 1; parameter = 0; parent = 0; index = 0; depth = openLimit + 1 }
 
 -- what the tokens of a message without number 22 make
 abbrev pub reading : List ℕ → List ℕ → ℕ → List ℕ → RoomFree

@@ -64,6 +64,7 @@ fn root() -> Frame
         row: 1,
         parameter: 0,
         parent: 0,
+        index: 0,
         depth: DEPTH,
     }
 }
@@ -90,6 +91,7 @@ fn fill(table: &[u8], unpacked: &[u32], n: usize, message: &[u8], rows: &mut [u3
             parent: numbers::NO_ROW,
             start: 0,
             end: message.len(),
+            index: 0,
         },
     );
     message_reader::body(table, unpacked, n, message, rows, root(), false);

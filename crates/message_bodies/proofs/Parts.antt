@@ -172,7 +172,7 @@ module _ (base : ℕ) (s : List ℕ) (e : ℕ) (h : Head) (g : HeadAt base s e h
     wrap = λ w i. unknownItem w i;
     is = λ next w. alone next w (tokensAt base s e) (head-not base s e h g 3 n);
     wide = λ w t. omega arith;
-    rows = λ w t x row p up. refl;
+    rows = λ w t x row p up j. refl;
     least = omega arith;
     within = λ k. k;
   }
@@ -197,7 +197,7 @@ module _ (base : ℕ) (s : List ℕ) (e : ℕ) (h : Head) (g : HeadAt base s e h
           wrap = λ w i. unknownListItem w (l .0) i;
           is = λ next w. listed-after next w q ∙ then-got (unknownsAt (suc (length (tokensAt base s (h .past .at)))) (tokensAt base s (h .past .at))) _ (l .0) (tokensAt base s at) (l .1);
           wide = λ w t. omega arith;
-          rows = λ w t x row p up. ap (λ j. rowsOf x t j row p up) (omega arith);
+          rows = λ w t x row p up j. ap (λ i. rowsOf x t i row p up j) (omega arith);
           least = omega (arith, p .moved .less, k .least, k .less);
           within = λ _. p .moved .within;
         }
@@ -232,12 +232,12 @@ module _ (t o : List ℕ) (n : ℕ) (s : List ℕ) (f : Frame) (inside : Bool) (
         let one-more : 1 + k .tokens ≡ suc (k .tokens) = omega arith in
         let l : lexemesAt (f .base) s at ≡ drop (suc (k .tokens)) (lexemesAt (f .base) s (f .at)) = k .left ∙ (ap (drop (k .tokens)) x ∙ (drop-drop (k .tokens) 1 (lexemesAt (f .base) s (f .at)) ∙ ap (λ j. drop j (lexemesAt (f .base) s (f .at))) one-more)) in
         record {
-          going = λ Vs fuel row up rows. going-step
+          going = λ Vs fuel row up j rows. going-step
               (itemsAt (schemaAt t o n) Vs inside (f .parameter) (suc fuel) ks (tokensAt (f .base) s (f .at)))
               (itemsAt (schemaAt t o n) Vs inside (f .parameter) fuel ks (tokensAt (f .base) s at))
-              (lexemesAt (f .base) s (f .at)) (lexemesAt (f .base) s at) rows rows row (f .parameter) up row (k .wrap (part s a e)) (suc (k .tokens)) []
+              (lexemesAt (f .base) s (f .at)) (lexemesAt (f .base) s at) rows rows row (f .parameter) up j row j (k .wrap (part s a e)) (suc (k .tokens)) []
               (item-unknown Vs fuel ks ∙ k .is (itemsAt (schemaAt t o n) Vs inside (f .parameter) fuel ks) (part s a e))
-              l (k .wide (part s a e)) (λ i. k .rows (part s a e) i (lexemesAt (f .base) s (f .at)) row (f .parameter) up) refl (omega arith);
+              l (k .wide (part s a e)) (λ i. k .rows (part s a e) i (lexemesAt (f .base) s (f .at)) row (f .parameter) up j) refl (omega arith);
           less = omega (arith, b .0, k .least);
           within = k .within (b .1);
           short = omega (arith, tokens-length (lexemesAt (f .base) s at), tokens-length (lexemesAt (f .base) s e), ap length (step-tokens (f .base) s (f .at) (word (part s a e)) a e h), ap length (k .left), shorter (k .tokens) (lexemesAt (f .base) s e));

@@ -59,7 +59,7 @@ pub record ListItem (S : Schema) (n : ℕ) (s : List ℕ) (f : Frame) (inside : 
   pub below : q < n
 
 pub record Passes (S : Schema) (s : List ℕ) (f : Frame) (inside : Bool) (ks : List ℕ) (e : ℕ) : Type 0 where
-  pub going : (Vs : Values) (fuel row up : ℕ) (rows : List ℕ) → Going (itemsAt S Vs inside (f .parameter) (suc fuel) ks (tokensAt (f .base) s (f .at))) (itemsAt S Vs inside (f .parameter) fuel ks (tokensAt (f .base) s e)) (lexemesAt (f .base) s (f .at)) (lexemesAt (f .base) s e) rows rows row (f .parameter) up row
+  pub going : (Vs : Values) (fuel row up j : ℕ) (rows : List ℕ) → Going (itemsAt S Vs inside (f .parameter) (suc fuel) ks (tokensAt (f .base) s (f .at))) (itemsAt S Vs inside (f .parameter) fuel ks (tokensAt (f .base) s e)) (lexemesAt (f .base) s (f .at)) (lexemesAt (f .base) s e) rows rows row (f .parameter) up j row j
   pub less : f .at < e
   pub within : e ≤ length s
   pub short : length (tokensAt (f .base) s e) < length (tokensAt (f .base) s (f .at))
@@ -82,7 +82,7 @@ pub record Skips (s : List ℕ) (base e at : ℕ) : Type 0 where
   pub wrap : List ℕ → Tree items → Tree items
   pub is : (next : List Token → Result (Tree items)) (w : List ℕ) → unknownAfter next w (tokensAt base s e) ≡ then (next (tokensAt base s at)) (λ i z. got (wrap w i) z)
   pub wide : (w : List ℕ) (t : Tree items) → width (wrap w t) ≡ suc tokens + width t
-  pub rows : (w : List ℕ) (t : Tree items) (x : List Lex) (row p up : ℕ) → rowsOf x (wrap w t) 0 row p up ≡ rowsOf x t (suc tokens) row p up
+  pub rows : (w : List ℕ) (t : Tree items) (x : List Lex) (row p up j : ℕ) → rowsOf x (wrap w t) 0 row p up j ≡ rowsOf x t (suc tokens) row p up j
   pub least : e ≤ at
   pub within : e ≤ length s → at ≤ length s
 

@@ -61,7 +61,7 @@ module _ (t o : List ℕ) (n : ℕ) where
         step = h;
         is = λ Vs. union-word w a e h Vs ∙ rw (b, sym m ∙ z) refl;
         wide = refl;
-        rows = λ x row p up. refl;
+        rows = λ x row p up j. refl;
         below = bare-below u q (bare-found u q (isIntLike w) b);
       }
 
@@ -96,7 +96,7 @@ module _ (t o : List ℕ) (n : ℕ) where
         step = rw (k .same) h;
         is = λ Vs. union-tag Vs ∙ rw (k .known .find, k .known .void, k .same) refl;
         wide = refl;
-        rows = λ x row p up. refl;
+        rows = λ x row p up j. refl;
         below = k .known .below;
       }
 

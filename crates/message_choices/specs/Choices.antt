@@ -38,7 +38,7 @@ pub record Whole (S : Schema) (n : ℕ) (s : List ℕ) (f : Frame) (u q a e : �
   pub step : Step (cutAt (f .base) s (f .at)) (f .base) s (f .at) (word text) a e
   pub is : (Vs : Values) → unionAt S Vs u (tokensAt (f .base) s (f .at)) ≡ got tree (tokensAt (f .base) s e)
   pub wide : width tree ≡ 1
-  pub rows : (x : List Lex) (row p up : ℕ) → rowsOf x tree 0 row p up ≡ rowOver x 0 1 p up ∷ rowOver x 0 1 q row ∷ []
+  pub rows : (x : List Lex) (row p up j : ℕ) → rowsOf x tree 0 row p up j ≡ rowOver x 0 1 p up j ∷ rowOver x 0 1 q row 0 ∷ []
   pub below : q < n
 
 abbrev pub ChoiceAt : List ℕ → List ℕ → ℕ → List ℕ → Frame → ℕ → Choice → Type 0

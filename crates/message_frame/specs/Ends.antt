@@ -24,20 +24,21 @@ Values = ℕ → List Token → Result (Tree value)
 abbrev pub endOf : List ℕ → Frame → ℕ
 endOf s f = f .base + length s
 
--- what a reader asks: s, of len bytes, is the end of a short message; no more than two rows were made for each byte before
+-- what a reader asks: s, of len bytes, is the end of a short message; no more than two rows were made, and one value of a list read, for each byte before
 pub record Room (f : Frame) (len n : ℕ) : Type 0 where
   pub short : f .base + len ≤ messageLimit
   pub here : f .at ≤ len
   pub few : f .row ≤ 2 * (f .base + f .at) + 1
   pub above : f .parent < 65536
+  pub listed : f .index ≤ f .base + f .at
   pub known : n ≤ parameterLimit
 
--- read from the lexemes x to y: the rows were lent before and left after, from row on; next is the row after them
-pub record Read {k : TreeSort} (o : Result (Tree k)) (x y : List Lex) (before after : List ℕ) (row p up next : ℕ) : Type 0 where
+-- read from the lexemes x to y, j the place in its list: the rows were lent before and left after, from row on; next is the row after them
+pub record Read {k : TreeSort} (o : Result (Tree k)) (x y : List Lex) (before after : List ℕ) (row p up j next : ℕ) : Type 0 where
   pub tree : Tree k
   pub is : o ≡ got tree (tokensOf y)
   pub left : y ≡ drop (width tree) x
-  pub written : after ≡ sets before (rowWidth * row) (cells (rowsOf x tree 0 row p up))
+  pub written : after ≡ sets before (rowWidth * row) (cells (rowsOf x tree 0 row p up j))
   pub sized : next ≡ row + rowCount tree
 
 -- how far a reader got in s, of len bytes: by least at least
@@ -47,7 +48,7 @@ pub record Moved (len lo least row at next : ℕ) : Type 0 where
   pub counted : next + 2 * lo ≤ row + 2 * at
 
 pub record Ended {k : TreeSort} (o : Result (Tree k)) (s : List ℕ) (f : Frame) (before after : List ℕ) (least at next : ℕ) : Type 0 where
-  pub read : Read o (lexemesAt (f .base) s (f .at)) (lexemesAt (f .base) s at) before after (f .row) (f .parameter) (f .parent) next
+  pub read : Read o (lexemesAt (f .base) s (f .at)) (lexemesAt (f .base) s at) before after (f .row) (f .parameter) (f .parent) (f .index) next
   pub moved : Moved (length s) (f .at) least (f .row) at next
 
 abbrev pub Ends : {k : TreeSort} → Result (Tree k) → List ℕ → Frame → List ℕ → List ℕ → ℕ → Got → Type 0

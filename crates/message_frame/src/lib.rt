@@ -3,13 +3,15 @@ ghost use mathlib.Core.Path.{_≡_};
 ghost use Rattle.message_frame.specs.AtToken.{unfitOf};
 use message_tokens::Cursor;
 
-// Where a reader stands: at in s, the next row, the parameter that is read, the row above, how many braces may still open.
+// Where a reader stands: at in s, the next row, the parameter that is read, the row above, the value's place in its list,
+// how many braces may still open.
 pub struct Frame {
     pub base: usize,
     pub at: usize,
     pub row: usize,
     pub parameter: usize,
     pub parent: usize,
+    pub index: usize,
     pub depth: usize,
 }
 

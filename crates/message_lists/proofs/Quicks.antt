@@ -28,9 +28,9 @@ module _ (S : Schema) (s : List ℕ) (f : Frame) (e : Ints) (i : IntsOf S (f .pa
     value = leaf-ends S s f (S .core (f .parameter)) (word (part s (f .at) end)) (f .at) end 0 before after (n .first (f .base)) (λ r. word-judged _ _ _ r) (sym (i .judged on (part s (f .at) end) d (n .natural) (n .packed) (t .few) (t .least) (t .most))) (Done (record { at = end }) (f .row + 1)) (record { fits = refl; same = refl; written = w; sized = refl });
   }
 
-  pub quick-on : (c end d : ℕ) (before after : List ℕ) (x : Bool) → CountedBefore s (f .at) end d → (x ≡ true → Takes e d) → x && ltb (c + 1) (e .hi) ≡ true → after ≡ intRow f end before → QuickOn S s f c before after (end + 1) (f .row + 1)
-  quick-on c end d before after x n t b w = and-both x (ltb (c + 1) (e .hi)) b (λ p q. record {
+  pub quick-on : (end d : ℕ) (before after : List ℕ) (x : Bool) → CountedBefore s (f .at) end d → (x ≡ true → Takes e d) → x && ltb (f .index + 1) (e .hi) ≡ true → after ≡ intRow f end before → QuickOn S s f before after (end + 1) (f .row + 1)
+  quick-on end d before after x n t b w = and-both x (ltb (f .index + 1) (e .hi)) b (λ p q. record {
     end = end;
     value = quick-value end d before after (n .counted) (t p) w;
-    more = record { place = end; step = n .second (f .base); may = i .grows (c + 1) (ltb-true (c + 1) (e .hi) q) };
+    more = record { place = end; step = n .second (f .base); may = i .grows (f .index + 1) (ltb-true (f .index + 1) (e .hi) q) };
   })

@@ -25,7 +25,7 @@ pub record Takes (e : Ints) (d : ℕ) : Type 0 where
 
 -- the row of an int from f .at to end
 abbrev pub intRow : Frame → ℕ → List ℕ → List ℕ
-intRow f end before = sets before (rowWidth * f .row) (cells (record { parameter = f .parameter; parent = f .parent; start = f .base + f .at; end = f .base + end } ∷ []))
+intRow f end before = sets before (rowWidth * f .row) (cells (record { parameter = f .parameter; parent = f .parent; start = f .base + f .at; end = f .base + end; index = f .index } ∷ []))
 
 -- the value ends at at
 pub record QuickValue (S : Schema) (s : List ℕ) (f : Frame) (before after : List ℕ) (at next : ℕ) : Type 0 where
@@ -33,12 +33,12 @@ pub record QuickValue (S : Schema) (s : List ℕ) (f : Frame) (before after : Li
   pub value : EndedValue (simpleAt S (S .core (f .parameter)) (tokensAt (f .base) s (f .at))) s f before after at next
 
 -- the value ends at end, and the comma at at
-pub record QuickOn (S : Schema) (s : List ℕ) (f : Frame) (c : ℕ) (before after : List ℕ) (at next : ℕ) : Type 0 where
+pub record QuickOn (S : Schema) (s : List ℕ) (f : Frame) (before after : List ℕ) (at next : ℕ) : Type 0 where
   pub end : ℕ
   pub value : QuickValue S s f before after end next
-  pub more : Grows S s (f .base) (f .parameter) end (c + 1) at
+  pub more : Grows S s (f .base) (f .parameter) end (f .index + 1) at
 
-abbrev pub QuickAt : Schema → List ℕ → Frame → ℕ → List ℕ → List ℕ → Quick → Type 0
-QuickAt S s f c before after (On u next) = QuickOn S s f c before after (u .at) next
-QuickAt S s f c before after (Value u next) = QuickValue S s f before after (u .at) next
-QuickAt S s f c before after Slow = after ≡ before
+abbrev pub QuickAt : Schema → List ℕ → Frame → List ℕ → List ℕ → Quick → Type 0
+QuickAt S s f before after (On u next) = QuickOn S s f before after (u .at) next
+QuickAt S s f before after (Value u next) = QuickValue S s f before after (u .at) next
+QuickAt S s f before after Slow = after ≡ before

@@ -55,7 +55,7 @@ pub fn after_value(
     After::Refused(25, base + h.start)
 }
 
-// The value of a list of ints after c others, where it is plain digits. On: a comma follows at once, and another value may;
+// The value of a list of ints, where it is plain digits. On: a comma follows at once, and another value may;
 // the cursor past the comma, and the next row. Value: the cursor past the digits, and the next row. Slow: nothing is written.
 pub enum Quick {
     On(Cursor, usize),
@@ -73,7 +73,7 @@ fn takes(e: Ints, d: u64) -> bool
 // The row of an int that ends at end.
 fn int_row(rows: &mut [u32], f: Frame, end: usize)
     requires { ⌜ (f .base + end ≤ messageLimit) × (f .at ≤ end) ⌝ }
-    requires { ⌜ (f .row < 4294967296) × (f .parent < 4294967296) × (f .parameter < 4294967296) ⌝ }
+    requires { ⌜ (f .row < 4294967296) × (f .parent < 4294967296) × (f .parameter < 4294967296) × (f .index < 4294967296) ⌝ }
     ensures { λ _. ⌜ now (rows .exit) ≡ intRow f end (now (rows .entry)) ⌝ }
 {
     message_rows::put_row(
@@ -84,6 +84,7 @@ fn int_row(rows: &mut [u32], f: Frame, end: usize)
             parent: f.parent,
             start: f.base + f.at,
             end: f.base + end,
+            index: f.index,
         },
     );
 }
@@ -95,13 +96,12 @@ pub fn quick_int(
     s: &[u8],
     rows: &mut [u32],
     f: Frame,
-    c: usize,
     e: Ints,
 ) -> Quick
     requires { ⌜ Room f (length (now s)) n ⌝ }
-    requires { ⌜ (f .parameter < n) × (c < 4294967296) ⌝ }
+    requires { ⌜ f .parameter < n ⌝ }
     requires { ⌜ IntsOf (schemaAt (now table) (now unpacked) n) (f .parameter) e ⌝ }
-    ensures { λ r. ⌜ QuickAt (schemaAt (now (table .entry)) (now (unpacked .entry)) n) (now (s .entry)) f c (now (rows .entry)) (now (rows .exit)) r ⌝ }
+    ensures { λ r. ⌜ QuickAt (schemaAt (now (table .entry)) (now (unpacked .entry)) n) (now (s .entry)) f (now (rows .entry)) (now (rows .exit)) r ⌝ }
 {
     if !e.on {
         return Quick::Slow;
@@ -109,7 +109,7 @@ pub fn quick_int(
     match message_tokens::digits_at(s, f.at) {
         Digits::Other => Quick::Slow,
         Digits::Before(end, d) => {
-            if takes(e, d) & (c + 1 < e.hi) {
+            if takes(e, d) & (f.index + 1 < e.hi) {
                 int_row(rows, f, end);
                 return Quick::On(Cursor { at: end + 1 }, f.row + 1);
             }

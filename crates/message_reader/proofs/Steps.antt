@@ -53,7 +53,7 @@ use Rattle.message_lists.specs.Lists.{Grows}
 use Rattle.message_bodies.specs.Bodies.{VoidItem, ListItem, Passes}
 use Rattle.message_frame.proofs.GoingLaws.{stopped-before, stopped-then, stopped-same, then-refused, then-got, read-same, going-start, going-stopped, going-on, going-read, going-step, chain-start, chain-stopped, chain-on, chain-read}
 use Rattle.message_frame.proofs.AtToken.{stop-here}
-use Rattle.message_reader.specs.Turning.{valuesOf, here, Fewer, Turned, Line, Loop, ElementAt, Itemed, PlainAt, closedRows, endPlace, isUnion, movedOf, fieldOf, underOf, innerOf, deeperOf, openRow, WholeAt, leftAt, bodyOf, Bodying, Due}
+use Rattle.message_reader.specs.Turning.{valuesOf, here, Fewer, Turned, Line, Loop, ElementAt, Itemed, PlainAt, closedRows, endPlace, isUnion, placedOf, movedOf, nextOf, fieldOf, underOf, innerOf, deeperOf, openRow, WholeAt, leftAt, bodyOf, Bodying, Due}
 use Rattle.message_reader.specs.declared.Taken.{Taken}
 use Rattle.message_reader.specs.declared.Taken.the-variants as taken
 
@@ -63,14 +63,17 @@ shorter (suc j) [] = omega arith
 shorter (suc j) (l ∷ x) = omega (arith, shorter j x)
 
 -- ---- room
+room-placed : (f : Frame) (len n least at row j : ℕ) → Room f len n → Moved len (f .at) least (f .row) at row → j ≤ f .base + at → Room (placedOf f at row j) len n
+room-placed f len n least at row j r m h = record { short = r .short; here = m .within; few = omega (arith, r .few, m .counted, m .far); above = r .above; listed = h; known = r .known }
+
 pub room-moved : (f : Frame) (len n least at row : ℕ) → Room f len n → Moved len (f .at) least (f .row) at row → Room (movedOf f at row) len n
-room-moved f len n least at row r m = record { short = r .short; here = m .within; few = omega (arith, r .few, m .counted, m .far); above = r .above; known = r .known }
+room-moved f len n least at row r m = room-placed f len n least at row (f .index) r m (omega (arith, r .listed, m .far))
 
 pub room-under : (f : Frame) (len n at q : ℕ) → Room f len n → f .at < at → at ≤ len → Room (underOf f at q) len n
-room-under f len n at q r l h = record { short = r .short; here = h; few = omega (arith, r .few, l); above = omega (arith, r .few, r .short, r .here); known = r .known }
+room-under f len n at q r l h = record { short = r .short; here = h; few = omega (arith, r .few, l); above = omega (arith, r .few, r .short, r .here); listed = omega arith; known = r .known }
 
 pub room-inner : (f : Frame) (s : List ℕ) (n e u : ℕ) → Room f (length s) n → f .at < e → e ≤ length s → Room (innerOf f e u) (length (take (length s - e) (drop e s))) n
-room-inner f s n e u r l h = record { short = omega (arith, part-end (f .base) s e h, r .short); here = omega arith; few = omega (arith, r .few, l); above = omega (arith, r .few, r .short, r .here); known = r .known }
+room-inner f s n e u r l h = record { short = omega (arith, part-end (f .base) s e h, r .short); here = omega arith; few = omega (arith, r .few, l); above = omega (arith, r .few, r .short, r .here); listed = omega arith; known = r .known }
 
 -- ---- answers that are equal
 pub value-same : {o o′ : Result (Tree value)} (s : List ℕ) (f : Frame) (before after : List ℕ) (g : Got) → o ≡ o′ → EndsValue o′ s f before after g → EndsValue o s f before after g
@@ -78,43 +81,43 @@ value-same s f before after (Done u m) e h = record { ended = record { read = re
 value-same s f before after (Refused n q) e h = stopped-same e h
 
 -- ---- loops: the answer at the start, and the answer now
-pub line-start : {k : TreeSort} (o : Result (Tree k)) (s : List ℕ) (f : Frame) (before : List ℕ) → f .at ≤ length s → Line o o s f before before (f .at) (f .row)
+pub line-start : {k : TreeSort} (o : Result (Tree k)) (s : List ℕ) (f : Frame) (before : List ℕ) → f .at ≤ length s → Line o o s f before before (f .at) (f .row) (f .index)
 line-start o s f before h = record {
-  going = going-start o (lexemesAt (f .base) s (f .at)) before (f .row) (f .parameter) (f .parent);
+  going = going-start o (lexemesAt (f .base) s (f .at)) before (f .row) (f .parameter) (f .parent) (f .index);
   moved = record { far = omega arith; within = h; counted = omega arith };
 }
 
-module _ {k k′ : TreeSort} {o : Result (Tree k)} {o′ : Result (Tree k′)} {s : List ℕ} {f : Frame} {before after : List ℕ} {at row : ℕ} (l : Line o o′ s f before after at row) where
+module _ {k k′ : TreeSort} {o : Result (Tree k)} {o′ : Result (Tree k′)} {s : List ℕ} {f : Frame} {before after : List ℕ} {at row j : ℕ} (l : Line o o′ s f before after at row j) where
   moved-on : {len least e m : ℕ} → Moved len at least row e m → Moved len (f .at) least (f .row) e m
   moved-on w = record { far = omega (arith, l .moved .far, w .far); within = w .within; counted = omega (arith, l .moved .counted, w .counted) }
 
-  pub line-on : {o″ : Result (Tree k′)} {mid : List ℕ} {e m : ℕ} → Turned o′ o″ s (movedOf f at row) after mid e m → Line o o″ s f before mid e m
+  pub line-on : {o″ : Result (Tree k′)} {mid : List ℕ} {e m j′ : ℕ} → Turned o′ o″ s (placedOf f at row j) after mid e m j′ → Line o o″ s f before mid e m j′
   line-on t = record { going = going-on (l .going) (t .going); moved = record { far = omega (arith, l .moved .far, t .moved .far); within = t .moved .within; counted = omega (arith, l .moved .counted, t .moved .counted) } }
 
-  pub line-out : (mid : List ℕ) (least : ℕ) (r : Got) → Ends o′ s (movedOf f at row) after mid least r → Ends o s f before mid least r
+  pub line-out : (mid : List ℕ) (least : ℕ) (r : Got) → Ends o′ s (placedOf f at row j) after mid least r → Ends o s f before mid least r
   line-out mid least (Done u m) w = record { read = going-read (l .going) (w .read); moved = moved-on (w .moved) }
   line-out mid least (Refused n q) w = going-stopped (l .going) w
 
 -- with fuel
-pub loop-start : {k : TreeSort} (now : ℕ → Result (Tree k)) (s : List ℕ) (f : Frame) (before : List ℕ) → f .at ≤ length s → Loop (now (suc (length (tokensAt (f .base) s (f .at))))) now s f before before (f .at) (f .row)
+pub loop-start : {k : TreeSort} (now : ℕ → Result (Tree k)) (s : List ℕ) (f : Frame) (before : List ℕ) → f .at ≤ length s → Loop (now (suc (length (tokensAt (f .base) s (f .at))))) now s f before before (f .at) (f .row) (f .index)
 loop-start now s f before h = record {
   fuel = suc (length (tokensAt (f .base) s (f .at)));
   enough = omega arith;
   line = line-start (now (suc (length (tokensAt (f .base) s (f .at))))) s f before h;
 }
 
-module _ {k k′ : TreeSort} {o : Result (Tree k)} {now : ℕ → Result (Tree k′)} {s : List ℕ} {f : Frame} {before after : List ℕ} {at row : ℕ} (l : Loop o now s f before after at row) where
-  pub loop-on : {next : ℕ → Result (Tree k′)} {mid : List ℕ} {e m : ℕ} → Fewer s (movedOf f at row) e → ((fuel : ℕ) → Turned (now (suc fuel)) (next fuel) s (movedOf f at row) after mid e m) → Loop o next s f before mid e m
-  loop-on {next} {mid} {e} {m} w t = go (l .fuel) (l .enough) (l .line)
+module _ {k k′ : TreeSort} {o : Result (Tree k)} {now : ℕ → Result (Tree k′)} {s : List ℕ} {f : Frame} {before after : List ℕ} {at row j : ℕ} (l : Loop o now s f before after at row j) where
+  pub loop-on : {next : ℕ → Result (Tree k′)} {mid : List ℕ} {e m j′ : ℕ} → Fewer s (placedOf f at row j) e → ((fuel : ℕ) → Turned (now (suc fuel)) (next fuel) s (placedOf f at row j) after mid e m j′) → Loop o next s f before mid e m j′
+  loop-on {next} {mid} {e} {m} {j′} w t = go (l .fuel) (l .enough) (l .line)
     where
-      go : (fuel : ℕ) → length (tokensAt (f .base) s at) < fuel → Line o (now fuel) s f before after at row → Loop o next s f before mid e m
+      go : (fuel : ℕ) → length (tokensAt (f .base) s at) < fuel → Line o (now fuel) s f before after at row j → Loop o next s f before mid e m j′
       go zero h g = absurd (omega arith)
       go (suc fuel) h g = record { fuel = fuel; enough = omega (arith, h, w); line = line-on g (t fuel) }
 
-  pub loop-out : (mid : List ℕ) (least : ℕ) (r : Got) → ((fuel : ℕ) → Ends (now (suc fuel)) s (movedOf f at row) after mid least r) → Ends o s f before mid least r
+  pub loop-out : (mid : List ℕ) (least : ℕ) (r : Got) → ((fuel : ℕ) → Ends (now (suc fuel)) s (placedOf f at row j) after mid least r) → Ends o s f before mid least r
   loop-out mid least r t = go (l .fuel) (l .enough) (l .line)
     where
-      go : (fuel : ℕ) → length (tokensAt (f .base) s at) < fuel → Line o (now fuel) s f before after at row → Ends o s f before mid least r
+      go : (fuel : ℕ) → length (tokensAt (f .base) s at) < fuel → Line o (now fuel) s f before after at row j → Ends o s f before mid least r
       go zero h g = absurd (omega arith)
       go (suc fuel) h g = line-out g mid least r (t fuel)
 
@@ -132,38 +135,38 @@ module _ (S : Schema) (Vs : Values) (q c : ℕ) (x : List Lex) where
   unfolding afterValue need
   grows-is fuel v z e = rw e refl
 
-module _ (S : Schema) (s : List ℕ) (f : Frame) (c : ℕ) (before after : List ℕ) (v : Cursor) (m : ℕ) (h : EndedValue (valuesOf S (f .depth) (f .parameter) (here s f)) s f before after (v .at) m) where
-  pub element-more : (w : ℕ) → Grows S s (f .base) (f .parameter) (v .at) (c + 1) w → (fuel : ℕ) → Fewer s f w × Turned (listAt S (valuesOf S (f .depth)) (suc fuel) (f .parameter) c (here s f)) (listAt S (valuesOf S (f .depth)) fuel (f .parameter) (suc c) (tokensAt (f .base) s w)) s f before after w m
+module _ (S : Schema) (s : List ℕ) (f : Frame) (before after : List ℕ) (v : Cursor) (m : ℕ) (h : EndedValue (valuesOf S (f .depth) (f .parameter) (here s f)) s f before after (v .at) m) where
+  pub element-more : (w : ℕ) → Grows S s (f .base) (f .parameter) (v .at) (f .index + 1) w → (fuel : ℕ) → Fewer s f w × Turned (listAt S (valuesOf S (f .depth)) (suc fuel) (f .parameter) (f .index) (here s f)) (listAt S (valuesOf S (f .depth)) fuel (f .parameter) (suc (f .index)) (tokensAt (f .base) s w)) s f before after w m (suc (f .index))
   unfolding width rowsOf
   element-more w g fuel =
       let r = h .ended .read in
       let b = step-within (f .base) s (v .at) comma (g .place) w (g .step) in
       let l = step-left (f .base) s (v .at) comma (g .place) w (g .step) in
       let one-more : width (r .tree) + 1 ≡ suc (width (r .tree)) = omega arith in
-      let k : mayGrow (S .hi (f .parameter)) (suc c) ≡ true = rw (← add-one c) (g .may) in
+      let k : mayGrow (S .hi (f .parameter)) (suc (f .index)) ≡ true = rw (← add-one (f .index)) (g .may) in
       let y : lexemesAt (f .base) s w ≡ drop (suc (width (r .tree))) (lexemesAt (f .base) s (f .at)) = l ∙ (ap (drop 1) (r .left) ∙ (drop-drop 1 (width (r .tree)) (lexemesAt (f .base) s (f .at)) ∙ ap (λ j. drop j (lexemesAt (f .base) s (f .at))) one-more)) in (
         omega (arith, ap length (step-tokens (f .base) s (v .at) comma (g .place) w (g .step)), tokens-length (lexemesAt (f .base) s (v .at)), tokens-length (lexemesAt (f .base) s (f .at)), ap length (r .left), shorter (width (r .tree)) (lexemesAt (f .base) s (f .at))),
         record {
           going = going-step
-              (listAt S (valuesOf S (f .depth)) (suc fuel) (f .parameter) c (here s f)) (listAt S (valuesOf S (f .depth)) fuel (f .parameter) (suc c) (tokensAt (f .base) s w))
-              (lexemesAt (f .base) s (f .at)) (lexemesAt (f .base) s w) before after (f .row) (f .parameter) (f .parent) m (more (r .tree)) (suc (width (r .tree))) (rowsOf (lexemesAt (f .base) s (f .at)) (r .tree) 0 (f .row) (f .parameter) (f .parent))
-              (list-is S (valuesOf S (f .depth)) (f .parameter) c (lexemesAt (f .base) s (f .at)) fuel (r .tree) (tokensAt (f .base) s (v .at)) (r .is)
-              ∙ rw (step-tokens (f .base) s (v .at) comma (g .place) w (g .step)) (grows-is S (valuesOf S (f .depth)) (f .parameter) c (lexemesAt (f .base) s (f .at)) fuel (r .tree) (tokensAt (f .base) s w) k))
+              (listAt S (valuesOf S (f .depth)) (suc fuel) (f .parameter) (f .index) (here s f)) (listAt S (valuesOf S (f .depth)) fuel (f .parameter) (suc (f .index)) (tokensAt (f .base) s w))
+              (lexemesAt (f .base) s (f .at)) (lexemesAt (f .base) s w) before after (f .row) (f .parameter) (f .parent) (f .index) m (suc (f .index)) (more (r .tree)) (suc (width (r .tree))) (rowsOf (lexemesAt (f .base) s (f .at)) (r .tree) 0 (f .row) (f .parameter) (f .parent) (f .index))
+              (list-is S (valuesOf S (f .depth)) (f .parameter) (f .index) (lexemesAt (f .base) s (f .at)) fuel (r .tree) (tokensAt (f .base) s (v .at)) (r .is)
+              ∙ rw (step-tokens (f .base) s (v .at) comma (g .place) w (g .step)) (grows-is S (valuesOf S (f .depth)) (f .parameter) (f .index) (lexemesAt (f .base) s (f .at)) fuel (r .tree) (tokensAt (f .base) s w) k))
               y (λ t. omega arith)
               (λ t. rw (zero-add (suc (width (r .tree))), ← r .sized) refl)
-              (r .written) (r .sized ∙ ap (λ j. f .row + j) (sym (rows-counted (lexemesAt (f .base) s (f .at)) (r .tree) 0 (f .row) (f .parameter) (f .parent))));
+              (r .written) (r .sized ∙ ap (λ j. f .row + j) (sym (rows-counted (lexemesAt (f .base) s (f .at)) (r .tree) 0 (f .row) (f .parameter) (f .parent) (f .index))));
           moved = record { far = omega (arith, h .ended .moved .far, b .0); within = b .1; counted = omega (arith, h .ended .moved .counted, b .0) };
         },
       )
 
-  pub element-last : ((next : List Token → Result (Tree list)) (w : Tree value) → afterValue S (f .parameter) (c + 1) next w (tokensAt (f .base) s (v .at)) ≡ got (last w) (tokensAt (f .base) s (v .at))) → (fuel : ℕ) → Ended (listAt S (valuesOf S (f .depth)) (suc fuel) (f .parameter) c (here s f)) s f before after 1 (v .at) m
+  pub element-last : ((next : List Token → Result (Tree list)) (w : Tree value) → afterValue S (f .parameter) (f .index + 1) next w (tokensAt (f .base) s (v .at)) ≡ got (last w) (tokensAt (f .base) s (v .at))) → (fuel : ℕ) → Ended (listAt S (valuesOf S (f .depth)) (suc fuel) (f .parameter) (f .index) (here s f)) s f before after 1 (v .at) m
   unfolding width rowsOf rowCount
   element-last g fuel =
       let r = h .ended .read in
       record {
         read = record {
           tree = last (r .tree);
-          is = list-is S (valuesOf S (f .depth)) (f .parameter) c (lexemesAt (f .base) s (f .at)) fuel (r .tree) (tokensAt (f .base) s (v .at)) (r .is) ∙ rw (add-one c) at (g (listAt S (valuesOf S (f .depth)) fuel (f .parameter) (suc c)) (r .tree));
+          is = list-is S (valuesOf S (f .depth)) (f .parameter) (f .index) (lexemesAt (f .base) s (f .at)) fuel (r .tree) (tokensAt (f .base) s (v .at)) (r .is) ∙ rw (add-one (f .index)) at (g (listAt S (valuesOf S (f .depth)) fuel (f .parameter) (suc (f .index))) (r .tree));
           left = r .left;
           written = r .written;
           sized = r .sized;
@@ -171,25 +174,25 @@ module _ (S : Schema) (s : List ℕ) (f : Frame) (c : ℕ) (before after : List 
         moved = h .ended .moved;
       }
 
-  pub element-after : (n p : ℕ) → ((next : List Token → Result (Tree list)) (w : Tree value) → Stopped (afterValue S (f .parameter) (c + 1) next w (tokensAt (f .base) s (v .at))) (lexemesAt (f .base) s (v .at)) (f .base + length s) n p) → (fuel : ℕ) → Stopped (listAt S (valuesOf S (f .depth)) (suc fuel) (f .parameter) c (here s f)) (lexemesAt (f .base) s (f .at)) (f .base + length s) n p
+  pub element-after : (n p : ℕ) → ((next : List Token → Result (Tree list)) (w : Tree value) → Stopped (afterValue S (f .parameter) (f .index + 1) next w (tokensAt (f .base) s (v .at))) (lexemesAt (f .base) s (v .at)) (f .base + length s) n p) → (fuel : ℕ) → Stopped (listAt S (valuesOf S (f .depth)) (suc fuel) (f .parameter) (f .index) (here s f)) (lexemesAt (f .base) s (f .at)) (f .base + length s) n p
   element-after n p g fuel =
       let r = h .ended .read in
       let t : Tail (lexemesAt (f .base) s (v .at)) (lexemesAt (f .base) s (f .at)) = rw (r .left) (drop-tail (width (r .tree)) (lexemesAt (f .base) s (f .at))) in
       stopped-before (lexemesAt (f .base) s (f .at)) (lexemesAt (f .base) s (v .at)) t
-      (λ j z e. list-is S (valuesOf S (f .depth)) (f .parameter) c (lexemesAt (f .base) s (f .at)) fuel (r .tree) (tokensAt (f .base) s (v .at)) (r .is) ∙ e)
-      (rw (add-one c) at (g (listAt S (valuesOf S (f .depth)) fuel (f .parameter) (suc c)) (r .tree)))
+      (λ j z e. list-is S (valuesOf S (f .depth)) (f .parameter) (f .index) (lexemesAt (f .base) s (f .at)) fuel (r .tree) (tokensAt (f .base) s (v .at)) (r .is) ∙ e)
+      (rw (add-one (f .index)) at (g (listAt S (valuesOf S (f .depth)) fuel (f .parameter) (suc (f .index))) (r .tree)))
 
-pub element-refused : (S : Schema) (s : List ℕ) (f : Frame) (c n p : ℕ) → Stopped (valuesOf S (f .depth) (f .parameter) (here s f)) (lexemesAt (f .base) s (f .at)) (f .base + length s) n p → (fuel : ℕ) → Stopped (listAt S (valuesOf S (f .depth)) (suc fuel) (f .parameter) c (here s f)) (lexemesAt (f .base) s (f .at)) (f .base + length s) n p
-element-refused S s f c n p h fuel = stopped-before (lexemesAt (f .base) s (f .at)) (lexemesAt (f .base) s (f .at)) along.here (list-refused S (valuesOf S (f .depth)) (f .parameter) c (lexemesAt (f .base) s (f .at)) fuel) h
+pub element-refused : (S : Schema) (s : List ℕ) (f : Frame) (n p : ℕ) → Stopped (valuesOf S (f .depth) (f .parameter) (here s f)) (lexemesAt (f .base) s (f .at)) (f .base + length s) n p → (fuel : ℕ) → Stopped (listAt S (valuesOf S (f .depth)) (suc fuel) (f .parameter) (f .index) (here s f)) (lexemesAt (f .base) s (f .at)) (f .base + length s) n p
+element-refused S s f n p h fuel = stopped-before (lexemesAt (f .base) s (f .at)) (lexemesAt (f .base) s (f .at)) along.here (list-refused S (valuesOf S (f .depth)) (f .parameter) (f .index) (lexemesAt (f .base) s (f .at)) fuel) h
 
 -- ---- bodies
 module _ (S : Schema) (s : List ℕ) (f : Frame) (inside : Bool) (before : List ℕ) where
   -- what is empty
-  read-none : {k : TreeSort} (o : Result (Tree k)) (t : Tree k) → o ≡ got t (here s f) → width t ≡ 0 → rowsOf (lexemesAt (f .base) s (f .at)) t 0 (f .row) (f .parameter) (f .parent) ≡ [] → f .at ≤ length s → Ended o s f before before 0 (f .at) (f .row)
+  read-none : {k : TreeSort} (o : Result (Tree k)) (t : Tree k) → o ≡ got t (here s f) → width t ≡ 0 → rowsOf (lexemesAt (f .base) s (f .at)) t 0 (f .row) (f .parameter) (f .parent) (f .index) ≡ [] → f .at ≤ length s → Ended o s f before before 0 (f .at) (f .row)
   unfolding cells
   read-none o t e w r l =
       record {
-        read = record { tree = t; is = e; left = rw w refl; written = rw r refl; sized = omega (arith, ap length r, rows-counted (lexemesAt (f .base) s (f .at)) t 0 (f .row) (f .parameter) (f .parent)) };
+        read = record { tree = t; is = e; left = rw w refl; written = rw r refl; sized = omega (arith, ap length r, rows-counted (lexemesAt (f .base) s (f .at)) t 0 (f .row) (f .parameter) (f .parent) (f .index)) };
         moved = record { far = omega arith; within = l; counted = omega arith };
       }
 
@@ -203,18 +206,18 @@ module _ (S : Schema) (s : List ℕ) (f : Frame) (inside : Bool) (before : List 
 
 -- the list of the untagged field q
 module _ (S : Schema) (s : List ℕ) (f : Frame) (inside : Bool) (before : List ℕ) (q : ℕ) (qs : List ℕ) (e : listsAt S (valuesOf S (f .depth)) inside (f .parameter) (q ∷ qs) (here s f) ≡ listThen S (valuesOf S (f .depth)) (listsAt S (valuesOf S (f .depth)) inside (f .parameter) qs) q (here s f)) where
-  pub field-on : (after : List ℕ) (at m : ℕ) → Ended (wholeList S (valuesOf S (f .depth)) q (here s f)) s (fieldOf f (f .at) q) before after 1 at m → Turned (listsAt S (valuesOf S (f .depth)) inside (f .parameter) (q ∷ qs) (here s f)) (listsAt S (valuesOf S (f .depth)) inside (f .parameter) qs (tokensAt (f .base) s at)) s f before after at m
+  pub field-on : (after : List ℕ) (at m : ℕ) → Ended (wholeList S (valuesOf S (f .depth)) q (here s f)) s (fieldOf f (f .at) q) before after 1 at m → Turned (listsAt S (valuesOf S (f .depth)) inside (f .parameter) (q ∷ qs) (here s f)) (listsAt S (valuesOf S (f .depth)) inside (f .parameter) qs (tokensAt (f .base) s at)) s f before after at m (f .index)
   unfolding listThen width rowsOf
   field-on after at m h =
       let r = h .read in
       record {
         going = going-step
             (listsAt S (valuesOf S (f .depth)) inside (f .parameter) (q ∷ qs) (here s f)) (listsAt S (valuesOf S (f .depth)) inside (f .parameter) qs (tokensAt (f .base) s at))
-            (lexemesAt (f .base) s (f .at)) (lexemesAt (f .base) s at) before after (f .row) (f .parameter) (f .parent) m (listed q (r .tree)) (width (r .tree)) (rowsOf (lexemesAt (f .base) s (f .at)) (r .tree) 0 (f .row) q (f .parent))
+            (lexemesAt (f .base) s (f .at)) (lexemesAt (f .base) s at) before after (f .row) (f .parameter) (f .parent) (f .index) m (f .index) (listed q (r .tree)) (width (r .tree)) (rowsOf (lexemesAt (f .base) s (f .at)) (r .tree) 0 (f .row) q (f .parent) 0)
             (e ∙ then-got (wholeList S (valuesOf S (f .depth)) q (here s f)) _ (r .tree) (tokensAt (f .base) s at) (r .is))
             (r .left) (λ t. refl)
             (λ t. rw (zero-add (width (r .tree)), ← r .sized) refl)
-            (r .written) (r .sized ∙ ap (λ j. f .row + j) (sym (rows-counted (lexemesAt (f .base) s (f .at)) (r .tree) 0 (f .row) q (f .parent))));
+            (r .written) (r .sized ∙ ap (λ j. f .row + j) (sym (rows-counted (lexemesAt (f .base) s (f .at)) (r .tree) 0 (f .row) q (f .parent) 0)));
         moved = h .moved;
       }
 
@@ -225,7 +228,7 @@ module _ (S : Schema) (s : List ℕ) (f : Frame) (inside : Bool) (before : List 
 -- items
 module _ (S : Schema) (n : ℕ) (s : List ℕ) (f : Frame) (inside : Bool) (ks : List ℕ) (marks : List Bool) (before after : List ℕ) where
   -- a void field's item
-  pub item-void : (q a e : ℕ) → VoidItem S n s f inside ks q a e → Marks marks (q ∷ ks) → after ≡ sets before (rowWidth * f .row) (cells (record { parameter = q; parent = f .parent; start = f .base + a; end = f .base + e } ∷ [])) → Itemed S s f inside ks marks before after e (f .row + 1)
+  pub item-void : (q a e : ℕ) → VoidItem S n s f inside ks q a e → Marks marks (q ∷ ks) → after ≡ sets before (rowWidth * f .row) (cells (record { parameter = q; parent = f .parent; start = f .base + a; end = f .base + e; index = 0 } ∷ [])) → Itemed S s f inside ks marks before after e (f .row + 1)
   unfolding width rowsOf rowOver lexemeAt
   item-void q a e v k w =
       let b = step-within (f .base) s (f .at) (word (v .text)) a e (v .step) in
@@ -237,7 +240,7 @@ module _ (S : Schema) (n : ℕ) (s : List ℕ) (f : Frame) (inside : Bool) (ks :
         turned = λ fuel. record {
           going = going-step
               (itemsAt S (valuesOf S (f .depth)) inside (f .parameter) (suc fuel) ks (here s f)) (itemsAt S (valuesOf S (f .depth)) inside (f .parameter) fuel (q ∷ ks) (tokensAt (f .base) s e))
-              (lexemesAt (f .base) s (f .at)) (lexemesAt (f .base) s e) before after (f .row) (f .parameter) (f .parent) (f .row + 1) (voidItem q (v .text)) 1 (rowOver (lexemesAt (f .base) s (f .at)) 0 1 q (f .parent) ∷ [])
+              (lexemesAt (f .base) s (f .at)) (lexemesAt (f .base) s e) before after (f .row) (f .parameter) (f .parent) (f .index) (f .row + 1) (f .index) (voidItem q (v .text)) 1 (rowOver (lexemesAt (f .base) s (f .at)) 0 1 q (f .parent) 0 ∷ [])
               (v .is (valuesOf S (f .depth)) fuel)
               (step-left (f .base) s (f .at) (word (v .text)) a e (v .step)) (λ t. omega arith)
               (λ t. rw (add-one (f .row)) refl)
@@ -255,7 +258,7 @@ module _ (S : Schema) (n : ℕ) (s : List ℕ) (f : Frame) (inside : Bool) (ks :
         let b = step-within (f .base) s (f .at) (word (v .text)) (v .start) (v .past) (v .first) in
         let c = step-within (f .base) s (v .past) equals (v .place) e (v .second) in
         let l : lexemesAt (f .base) s e ≡ drop 2 (lexemesAt (f .base) s (f .at)) = step-left (f .base) s (v .past) equals (v .place) e (v .second) ∙ (ap (drop 1) (step-left (f .base) s (f .at) (word (v .text)) (v .start) (v .past) (v .first)) ∙ drop-drop 1 1 (lexemesAt (f .base) s (f .at))) in
-        let g : rowsOf (lexemesAt (f .base) s e) (r .tree) 0 (f .row) q (f .parent) ≡ rowsOf (lexemesAt (f .base) s (f .at)) (r .tree) (2 + 0) (f .row) q (f .parent) = rw l (rows-at 2 (lexemesAt (f .base) s (f .at)) (r .tree) 0 (2 + 0) (f .row) q (f .parent) (omega arith)) in
+        let g : rowsOf (lexemesAt (f .base) s e) (r .tree) 0 (f .row) q (f .parent) 0 ≡ rowsOf (lexemesAt (f .base) s (f .at)) (r .tree) (2 + 0) (f .row) q (f .parent) 0 = rw l (rows-at 2 (lexemesAt (f .base) s (f .at)) (r .tree) 0 (2 + 0) (f .row) q (f .parent) 0 (omega arith)) in
         record {
           seen = q ∷ ks;
           marked = k;
@@ -263,12 +266,12 @@ module _ (S : Schema) (n : ℕ) (s : List ℕ) (f : Frame) (inside : Bool) (ks :
           turned = λ fuel. record {
             going = going-step
                 (itemsAt S (valuesOf S (f .depth)) inside (f .parameter) (suc fuel) ks (here s f)) (itemsAt S (valuesOf S (f .depth)) inside (f .parameter) fuel (q ∷ ks) (tokensAt (f .base) s at))
-                (lexemesAt (f .base) s (f .at)) (lexemesAt (f .base) s at) before after (f .row) (f .parameter) (f .parent) m (listItem q (v .text) (r .tree)) (2 + 0 + width (r .tree)) (rowsOf (lexemesAt (f .base) s (f .at)) (r .tree) (2 + 0) (f .row) q (f .parent))
+                (lexemesAt (f .base) s (f .at)) (lexemesAt (f .base) s at) before after (f .row) (f .parameter) (f .parent) (f .index) m (f .index) (listItem q (v .text) (r .tree)) (2 + 0 + width (r .tree)) (rowsOf (lexemesAt (f .base) s (f .at)) (r .tree) (2 + 0) (f .row) q (f .parent) 0)
                 (v .is (valuesOf S (f .depth)) fuel ∙ then-got (wholeList S (valuesOf S (f .depth)) q (tokensAt (f .base) s e)) _ (r .tree) (tokensAt (f .base) s at) (r .is))
                 (r .left ∙ (ap (drop (width (r .tree))) l ∙ drop-drop (width (r .tree)) 2 (lexemesAt (f .base) s (f .at)))) (λ t. omega arith)
                 (λ t. rw (← r .sized) refl)
                 (r .written ∙ rw g refl)
-                (r .sized ∙ ap (λ j. f .row + j) (sym (rows-counted (lexemesAt (f .base) s (f .at)) (r .tree) (2 + 0) (f .row) q (f .parent))));
+                (r .sized ∙ ap (λ j. f .row + j) (sym (rows-counted (lexemesAt (f .base) s (f .at)) (r .tree) (2 + 0) (f .row) q (f .parent) 0)));
             moved = record { far = omega (arith, b .0, c .0, h .moved .far); within = h .moved .within; counted = omega (arith, b .0, c .0, h .moved .counted) };
           };
         }
@@ -286,7 +289,7 @@ module _ (S : Schema) (n : ℕ) (s : List ℕ) (f : Frame) (inside : Bool) (ks :
     marked = k;
     fewer = v .short;
     turned = λ fuel. record {
-      going = rw w (v .going (valuesOf S (f .depth)) fuel (f .row) (f .parent) before);
+      going = rw w (v .going (valuesOf S (f .depth)) fuel (f .row) (f .parent) (f .index) before);
       moved = record { far = omega (arith, v .less); within = v .within; counted = omega (arith, v .less) };
     };
   }
@@ -364,15 +367,15 @@ module _ (S : Schema) (s : List ℕ) (f : Frame) (u a e : ℕ) (before mid after
         let same-place : width t + 2 - 1 ≡ 0 + (width t + 2) - 1 = omega arith in
         let final′ : lexemeAt x (width t + 2 - 1) .end ≡ f .base + at = ap (λ (j : ℕ). lexemeAt x j .end) same-place ∙ final in
         let same-width : 1 + width t + 1 ≡ width t + 2 = omega arith in
-        let y : rowsOf x t 1 (suc (f .row)) (f .parameter) (f .row) ≡ rowsOf (lexemesAt (f .base + e) (take (length s - e) (drop e s)) 0) t 0 (f .row + 1) u (f .row) =
-        rw (part-start (f .base) s e, step-left (f .base) s (f .at) opening a e w, add-one (f .row)) (body-any x t 1 (suc (f .row)) (f .parameter) u (f .row) ∙ sym (rows-at 1 x t 0 1 (suc (f .row)) u (f .row) (omega arith))) in
+        let y : rowsOf x t 1 (suc (f .row)) (f .parameter) (f .row) 0 ≡ rowsOf (lexemesAt (f .base + e) (take (length s - e) (drop e s)) 0) t 0 (f .row + 1) u (f .row) 0 =
+        rw (part-start (f .base) s e, step-left (f .base) s (f .at) opening a e w, add-one (f .row)) (body-any x t 1 (suc (f .row)) (f .parameter) u (f .row) 0 ∙ sym (rows-at 1 x t 0 1 (suc (f .row)) u (f .row) 0 (omega arith))) in
         record {
           ended = record {
             read = record {
               tree = braced t;
               is = struct-is ∙ (then-got (bodyAt S (f .depth) true u (tokensAt (f .base) s e)) shut t (tokensAt (f .base) s (e + v .at)) inside-is ∙ shut-is t at (k .place) (k .step));
               left = step-left (f .base) s (e + v .at) closing (k .place) at (k .step) ∙ (ap (drop 1) inside-left ∙ (drop-drop 1 (1 + width t) x ∙ ap (λ (j : ℕ). drop j x) same-width));
-              written = k .written ∙ rw (h .read .written, y, first, final) (row-first before (f .row) (record { parameter = f .parameter; parent = f .parent; start = f .base + a; end = f .base + at }) (rowsOf (lexemesAt (f .base + e) (take (length s - e) (drop e s)) 0) t 0 (f .row + 1) u (f .row)));
+              written = k .written ∙ rw (h .read .written, y, first, final) (row-first before (f .row) (record { parameter = f .parameter; parent = f .parent; start = f .base + a; end = f .base + at; index = f .index }) (rowsOf (lexemesAt (f .base + e) (take (length s - e) (drop e s)) 0) t 0 (f .row + 1) u (f .row) 0));
               sized = omega (arith, k .same, h .read .sized);
             };
             moved = record { far = omega (arith, b .0, c .0); within = c .1; counted = omega (arith, b .0, c .0, k .same, h .moved .counted) };
@@ -420,8 +423,8 @@ pub quick-ended : (S : Schema) (s : List ℕ) (f : Frame) (before after : List �
 unfolding byKind
 quick-ended S s f before after u m q = value-same s f before after (Done u m) (value-is S (bodyAt S (f .depth) true) (length (here s f)) (f .parameter) (here s f) schema.simple (q .simple)) (q .value)
 
-pub quick-element : (S : Schema) (s : List ℕ) (f : Frame) (c : ℕ) (before after : List ℕ) (u : Cursor) (m : ℕ) → QuickOn S s f c before after (u .at) m → ElementAt S s f c before after (taken.On u m)
-quick-element S s f c before after u m q = element-more S s f c before after (record { at = q .end }) m (quick-ended S s f before after (record { at = q .end }) m (q .value)) (u .at) (q .more)
+pub quick-element : (S : Schema) (s : List ℕ) (f : Frame) (before after : List ℕ) (u : Cursor) (m : ℕ) → QuickOn S s f before after (u .at) m → ElementAt S s f before after (taken.On u m)
+quick-element S s f before after u m q = element-more S s f before after (record { at = q .end }) m (quick-ended S s f before after (record { at = q .end }) m (q .value)) (u .at) (q .more)
 
 -- ---- choices
 pub is-union : (k : schema.Kind) → isUnion k ≡ true → k ≡ schema.union
@@ -437,24 +440,24 @@ unfolding isUnion
 no-union k e q = let h : isUnion schema.union ≡ false = rw q at e in let z : _≡_ {A = ℕ} 0 1 = cc in omega arith
 
 -- the frame of what is read next down a chain
-abbrev pub chainOf : Frame → ℕ → ℕ → ℕ → ℕ → Frame
-chainOf f at row q up = record { base = f .base; at = at; row = row; parameter = q; parent = up; depth = f .depth }
+abbrev pub chainOf : Frame → ℕ → ℕ → ℕ → ℕ → ℕ → Frame
+chainOf f at row q up j = record { base = f .base; at = at; row = row; parameter = q; parent = up; index = j; depth = f .depth }
 
 -- where the loop down a chain stands
-pub record Down (S : Schema) (s : List ℕ) (f : Frame) (at row q up n : ℕ) (before after : List ℕ) : Type 0 where
+pub record Down (S : Schema) (s : List ℕ) (f : Frame) (at row q up j n : ℕ) (before after : List ℕ) : Type 0 where
   pub fuel : ℕ
   pub enough : length (tokensAt (f .base) s at) < fuel
-  pub chain : Chain (valuesOf S (f .depth) (f .parameter) (here s f)) (valueAt S (bodyAt S (f .depth) true) fuel q (tokensAt (f .base) s at)) (lexemesAt (f .base) s (f .at)) (lexemesAt (f .base) s at) before after (f .row) (f .parameter) (f .parent) row q up
-  pub room : Room (chainOf f at row q up) (length s) n
+  pub chain : Chain (valuesOf S (f .depth) (f .parameter) (here s f)) (valueAt S (bodyAt S (f .depth) true) fuel q (tokensAt (f .base) s at)) (lexemesAt (f .base) s (f .at)) (lexemesAt (f .base) s at) before after (f .row) (f .parameter) (f .parent) (f .index) row q up j
+  pub room : Room (chainOf f at row q up j) (length s) n
   pub named : q < n
   pub far : f .at ≤ at
   pub counted : row + 2 * f .at ≤ f .row + 2 * at
 
-pub down-start : (S : Schema) (s : List ℕ) (f : Frame) (n : ℕ) (before : List ℕ) → Room f (length s) n → f .parameter < n → Down S s f (f .at) (f .row) (f .parameter) (f .parent) n before before
+pub down-start : (S : Schema) (s : List ℕ) (f : Frame) (n : ℕ) (before : List ℕ) → Room f (length s) n → f .parameter < n → Down S s f (f .at) (f .row) (f .parameter) (f .parent) (f .index) n before before
 down-start S s f n before r q = record {
   fuel = suc (length (here s f));
   enough = omega arith;
-  chain = chain-start (valuesOf S (f .depth) (f .parameter) (here s f)) (lexemesAt (f .base) s (f .at)) before (f .row) (f .parameter) (f .parent);
+  chain = chain-start (valuesOf S (f .depth) (f .parameter) (here s f)) (lexemesAt (f .base) s (f .at)) before (f .row) (f .parameter) (f .parent) (f .index);
   room = r;
   named = q;
   far = omega arith;
@@ -465,9 +468,9 @@ union-is : (S : Schema) (B : ℕ → List Token → Result (Tree body)) (fuel q 
 unfolding valueAt byKind
 union-is S B fuel q u x c e = rw (← c, is-union (S .kind u) e) refl
 
-module _ (S : Schema) (s : List ℕ) (f : Frame) (at row q up n : ℕ) (before after : List ℕ) (d : Down S s f at row q up n before after) where
+module _ (S : Schema) (s : List ℕ) (f : Frame) (at row q up j n : ℕ) (before after : List ℕ) (d : Down S s f at row q up j n before after) where
   -- one choice deeper
-  pub down-on : (u c a e : ℕ) (mid : List ℕ) → u ≡ S .core q → isUnion (S .kind u) ≡ true → Deeper S n s (chainOf f at row q up) u c a e → mid ≡ openRow (chainOf f at row q up) a after → Down S s f e (row + 1) c row n before mid
+  pub down-on : (u c a e : ℕ) (mid : List ℕ) → u ≡ S .core q → isUnion (S .kind u) ≡ true → Deeper S n s (chainOf f at row q up j) u c a e → mid ≡ openRow (chainOf f at row q up j) a after → Down S s f e (row + 1) c row 0 n before mid
   down-on u c a e mid i k w r = go (d .fuel) (d .enough) (d .chain)
     where
       b : (at < w .past) × (w .past ≤ length s)
@@ -482,21 +485,21 @@ module _ (S : Schema) (s : List ℕ) (f : Frame) (at row q up n : ℕ) (before a
       p : lexemeAt (lexemesAt (f .base) s at) 0 .start ≡ f .base + a
       p = place-first (f .base) (lexemesAt (f .base) s at) a (w .past) (step-lex (f .base) s at (word (w .text)) a (w .past) (w .first))
 
-      go : (fuel : ℕ) → length (tokensAt (f .base) s at) < fuel → Chain (valuesOf S (f .depth) (f .parameter) (here s f)) (valueAt S (bodyAt S (f .depth) true) fuel q (tokensAt (f .base) s at)) (lexemesAt (f .base) s (f .at)) (lexemesAt (f .base) s at) before after (f .row) (f .parameter) (f .parent) row q up → Down S s f e (row + 1) c row n before mid
+      go : (fuel : ℕ) → length (tokensAt (f .base) s at) < fuel → Chain (valuesOf S (f .depth) (f .parameter) (here s f)) (valueAt S (bodyAt S (f .depth) true) fuel q (tokensAt (f .base) s at)) (lexemesAt (f .base) s (f .at)) (lexemesAt (f .base) s at) before after (f .row) (f .parameter) (f .parent) (f .index) row q up j → Down S s f e (row + 1) c row 0 n before mid
       go zero h z = absurd (omega arith)
       go (suc fuel) h z = record {
         fuel = fuel;
         enough = omega (arith, h, ap length (step-tokens (f .base) s at (word (w .text)) a (w .past) (w .first)), ap length (step-tokens (f .base) s (w .past) equals (w .place) e (w .second)));
         chain = chain-on z c (w .text) (union-is S (bodyAt S (f .depth) true) fuel q u (tokensAt (f .base) s at) i k ∙ w .is (valueAt S (bodyAt S (f .depth) true) fuel)) l (r ∙ rw p refl);
-        room = room-under (chainOf f at row q up) (length s) n e c (d .room) (omega (arith, b .0, b′ .0)) (b′ .1);
+        room = room-under (chainOf f at row q up j) (length s) n e c (d .room) (omega (arith, b .0, b′ .0)) (b′ .1);
         named = w .below;
         far = omega (arith, d .far, b .0, b′ .0);
         counted = omega (arith, d .counted, b .0, b′ .0);
       }
 
   -- what the chain holds is read
-  down-read : (o : Result (Tree value)) → Chain (valuesOf S (f .depth) (f .parameter) (here s f)) o (lexemesAt (f .base) s (f .at)) (lexemesAt (f .base) s at) before after (f .row) (f .parameter) (f .parent) row q up
-      → (mid final : List ℕ) (r : Got) → EndsValue o s (chainOf f at row q up) after mid r → final ≡ closedRows r (f .base) (f .row) row mid
+  down-read : (o : Result (Tree value)) → Chain (valuesOf S (f .depth) (f .parameter) (here s f)) o (lexemesAt (f .base) s (f .at)) (lexemesAt (f .base) s at) before after (f .row) (f .parameter) (f .parent) (f .index) row q up j
+      → (mid final : List ℕ) (r : Got) → EndsValue o s (chainOf f at row q up j) after mid r → final ≡ closedRows r (f .base) (f .row) row mid
       → EndsValue (valuesOf S (f .depth) (f .parameter) (here s f)) s f before final r
   down-read o z mid final (Done v m) h e =
       let c = chain-read z (h .ended .read) (h .wide) (h .last) e in
@@ -510,19 +513,19 @@ module _ (S : Schema) (s : List ℕ) (f : Frame) (at row q up n : ℕ) (before a
       }
   down-read o z mid final (Refused k p) h e = chain-stopped z h
 
-  pub down-value : (mid final : List ℕ) (r g : Got) → isUnion (S .kind (S .core q)) ≡ false → PlainAt S s (chainOf f at row q up) after mid g → r ≡ g → final ≡ closedRows g (f .base) (f .row) row mid → EndsValue (valuesOf S (f .depth) (f .parameter) (here s f)) s f before final r
+  pub down-value : (mid final : List ℕ) (r g : Got) → isUnion (S .kind (S .core q)) ≡ false → PlainAt S s (chainOf f at row q up j) after mid g → r ≡ g → final ≡ closedRows g (f .base) (f .row) row mid → EndsValue (valuesOf S (f .depth) (f .parameter) (here s f)) s f before final r
   down-value mid final r g u h i e = rw i (go (d .fuel) (d .enough) (d .chain))
     where
-      go : (fuel : ℕ) → length (tokensAt (f .base) s at) < fuel → Chain (valuesOf S (f .depth) (f .parameter) (here s f)) (valueAt S (bodyAt S (f .depth) true) fuel q (tokensAt (f .base) s at)) (lexemesAt (f .base) s (f .at)) (lexemesAt (f .base) s at) before after (f .row) (f .parameter) (f .parent) row q up → EndsValue (valuesOf S (f .depth) (f .parameter) (here s f)) s f before final g
+      go : (fuel : ℕ) → length (tokensAt (f .base) s at) < fuel → Chain (valuesOf S (f .depth) (f .parameter) (here s f)) (valueAt S (bodyAt S (f .depth) true) fuel q (tokensAt (f .base) s at)) (lexemesAt (f .base) s (f .at)) (lexemesAt (f .base) s at) before after (f .row) (f .parameter) (f .parent) (f .index) row q up j → EndsValue (valuesOf S (f .depth) (f .parameter) (here s f)) s f before final g
       go zero l z = absurd (omega arith)
       go (suc fuel) l z = down-read (valueAt S (bodyAt S (f .depth) true) (suc fuel) q (tokensAt (f .base) s at)) z mid final g (h fuel (no-union (S .kind (S .core q)) u)) e
 
-  whole-read : (u c a e : ℕ) (mid : List ℕ) (fuel : ℕ) → u ≡ S .core q → isUnion (S .kind u) ≡ true → Whole S n s (chainOf f at row q up) u c a e → (g : Got) → WholeAt (chainOf f at row q up) c a e after mid g → EndsValue (valueAt S (bodyAt S (f .depth) true) (suc fuel) q (tokensAt (f .base) s at)) s (chainOf f at row q up) after mid g
+  whole-read : (u c a e : ℕ) (mid : List ℕ) (fuel : ℕ) → u ≡ S .core q → isUnion (S .kind u) ≡ true → Whole S n s (chainOf f at row q up j) u c a e → (g : Got) → WholeAt (chainOf f at row q up j) c a e after mid g → EndsValue (valueAt S (bodyAt S (f .depth) true) (suc fuel) q (tokensAt (f .base) s at)) s (chainOf f at row q up j) after mid g
   unfolding rowOver lexemeAt
   whole-read u c a e mid fuel i k w (Done v m) t =
       let x = step-lex (f .base) s at (word (w .text)) a e (w .step) in
       let b = step-within (f .base) s at (word (w .text)) a e (w .step) in
-      let y : rowsOf (lexemesAt (f .base) s at) (w .tree) 0 row q up ≡ record { parameter = q; parent = up; start = f .base + a; end = f .base + e } ∷ record { parameter = c; parent = row; start = f .base + a; end = f .base + e } ∷ [] = w .rows (lexemesAt (f .base) s at) row q up ∙ rw x refl in
+      let y : rowsOf (lexemesAt (f .base) s at) (w .tree) 0 row q up j ≡ record { parameter = q; parent = up; start = f .base + a; end = f .base + e; index = j } ∷ record { parameter = c; parent = row; start = f .base + a; end = f .base + e; index = 0 } ∷ [] = w .rows (lexemesAt (f .base) s at) row q up j ∙ rw x refl in
       record {
         ended = record {
           read = record {
@@ -530,7 +533,7 @@ module _ (S : Schema) (s : List ℕ) (f : Frame) (at row q up n : ℕ) (before a
             is = union-is S (bodyAt S (f .depth) true) fuel q u (tokensAt (f .base) s at) i k ∙ (w .is (valueAt S (bodyAt S (f .depth) true) fuel) ∙ rw (t .same) refl);
             left = rw (w .wide, t .same) (step-left (f .base) s at (word (w .text)) a e (w .step));
             written = t .written ∙ rw y refl;
-            sized = omega (arith, t .sized, ap length y, rows-counted (lexemesAt (f .base) s at) (w .tree) 0 row q up);
+            sized = omega (arith, t .sized, ap length y, rows-counted (lexemesAt (f .base) s at) (w .tree) 0 row q up j);
           };
           moved = record { far = omega (arith, b .0, t .same); within = omega (arith, b .1, t .same); counted = omega (arith, b .0, t .same, t .sized) };
         };
@@ -539,17 +542,17 @@ module _ (S : Schema) (s : List ℕ) (f : Frame) (at row q up n : ℕ) (before a
       }
   whole-read u c a e mid fuel i k w (Refused j p) t = absurd t
 
-  pub down-whole : (u c a e : ℕ) (mid final : List ℕ) (r g : Got) → u ≡ S .core q → isUnion (S .kind u) ≡ true → Whole S n s (chainOf f at row q up) u c a e → WholeAt (chainOf f at row q up) c a e after mid g → r ≡ g → final ≡ closedRows g (f .base) (f .row) row mid → EndsValue (valuesOf S (f .depth) (f .parameter) (here s f)) s f before final r
+  pub down-whole : (u c a e : ℕ) (mid final : List ℕ) (r g : Got) → u ≡ S .core q → isUnion (S .kind u) ≡ true → Whole S n s (chainOf f at row q up j) u c a e → WholeAt (chainOf f at row q up j) c a e after mid g → r ≡ g → final ≡ closedRows g (f .base) (f .row) row mid → EndsValue (valuesOf S (f .depth) (f .parameter) (here s f)) s f before final r
   down-whole u c a e mid final r g i k w t y z = rw y (go (d .fuel) (d .enough) (d .chain))
     where
-      go : (fuel : ℕ) → length (tokensAt (f .base) s at) < fuel → Chain (valuesOf S (f .depth) (f .parameter) (here s f)) (valueAt S (bodyAt S (f .depth) true) fuel q (tokensAt (f .base) s at)) (lexemesAt (f .base) s (f .at)) (lexemesAt (f .base) s at) before after (f .row) (f .parameter) (f .parent) row q up → EndsValue (valuesOf S (f .depth) (f .parameter) (here s f)) s f before final g
+      go : (fuel : ℕ) → length (tokensAt (f .base) s at) < fuel → Chain (valuesOf S (f .depth) (f .parameter) (here s f)) (valueAt S (bodyAt S (f .depth) true) fuel q (tokensAt (f .base) s at)) (lexemesAt (f .base) s (f .at)) (lexemesAt (f .base) s at) before after (f .row) (f .parameter) (f .parent) (f .index) row q up j → EndsValue (valuesOf S (f .depth) (f .parameter) (here s f)) s f before final g
       go zero l x = absurd (omega arith)
       go (suc fuel) l x = down-read (valueAt S (bodyAt S (f .depth) true) (suc fuel) q (tokensAt (f .base) s at)) x mid final g (whole-read u c a e mid fuel i k w g t) z
 
   pub down-stopped : (u k p : ℕ) → u ≡ S .core q → isUnion (S .kind u) ≡ true → ((Vs : Values) → Stopped (unionAt S Vs u (tokensAt (f .base) s at)) (lexemesAt (f .base) s at) (f .base + length s) k p) → Stopped (valuesOf S (f .depth) (f .parameter) (here s f)) (lexemesAt (f .base) s (f .at)) (f .base + length s) k p
   down-stopped u k p i e h = go (d .fuel) (d .enough) (d .chain)
     where
-      go : (fuel : ℕ) → length (tokensAt (f .base) s at) < fuel → Chain (valuesOf S (f .depth) (f .parameter) (here s f)) (valueAt S (bodyAt S (f .depth) true) fuel q (tokensAt (f .base) s at)) (lexemesAt (f .base) s (f .at)) (lexemesAt (f .base) s at) before after (f .row) (f .parameter) (f .parent) row q up → Stopped (valuesOf S (f .depth) (f .parameter) (here s f)) (lexemesAt (f .base) s (f .at)) (f .base + length s) k p
+      go : (fuel : ℕ) → length (tokensAt (f .base) s at) < fuel → Chain (valuesOf S (f .depth) (f .parameter) (here s f)) (valueAt S (bodyAt S (f .depth) true) fuel q (tokensAt (f .base) s at)) (lexemesAt (f .base) s (f .at)) (lexemesAt (f .base) s at) before after (f .row) (f .parameter) (f .parent) (f .index) row q up j → Stopped (valuesOf S (f .depth) (f .parameter) (here s f)) (lexemesAt (f .base) s (f .at)) (f .base + length s) k p
       go zero l z = absurd (omega arith)
       go (suc fuel) l z = chain-stopped z (stopped-same (union-is S (bodyAt S (f .depth) true) fuel q u (tokensAt (f .base) s at) i e) (h (valueAt S (bodyAt S (f .depth) true) fuel)))
 
@@ -557,19 +560,25 @@ module _ (S : Schema) (s : List ℕ) (f : Frame) (at row q up n : ℕ) (before a
 sets-length : (before after : List ℕ) (i : ℕ) (vs : List ℕ) → after ≡ sets before i vs → length after ≡ length before
 sets-length before after i vs e = ap length e ∙ length-sets before i vs
 
--- a list, c of whose values are read
-pub record Listing (S : Schema) (s : List ℕ) (f g : Frame) (before after : List ℕ) (c : ℕ) : Type 0 where
-  pub same : g ≡ movedOf f (g .at) (g .row)
-  pub loop : Loop (wholeList S (valuesOf S (f .depth)) (f .parameter) (here s f)) (λ fuel. listAt S (valuesOf S (f .depth)) fuel (f .parameter) c (tokensAt (f .base) s (g .at))) s f before after (g .at) (g .row)
-  pub few : c ≤ g .at
+-- a list, some of whose values are read: as many as the next one's place says
+pub record Listing (S : Schema) (s : List ℕ) (f g : Frame) (before after : List ℕ) : Type 0 where
+  pub same : g ≡ placedOf f (g .at) (g .row) (g .index)
+  pub loop : Loop (wholeList S (valuesOf S (f .depth)) (f .parameter) (here s f)) (λ fuel. listAt S (valuesOf S (f .depth)) fuel (f .parameter) (g .index) (tokensAt (f .base) s (g .at))) s f before after (g .at) (g .row) (g .index)
+  pub few : g .index ≤ g .at
   pub size : length after ≡ length before
 
-pub listing-start : (S : Schema) (s : List ℕ) (f : Frame) (before : List ℕ) → f .at ≤ length s → Listing S s f f before before 0
-listing-start S s f before h = record { same = refl; loop = loop-start (λ fuel. listAt S (valuesOf S (f .depth)) fuel (f .parameter) 0 (here s f)) s f before h; few = omega arith; size = refl }
+pub listing-start : (S : Schema) (s : List ℕ) (f : Frame) (before : List ℕ) → f .at ≤ length s → f .index ≡ 0 → Listing S s f f before before
+listing-start S s f before h z = record {
+  same = refl;
+  loop = subst (λ c. Loop (listAt S (valuesOf S (f .depth)) (suc (length (here s f))) (f .parameter) c (here s f)) (λ fuel. listAt S (valuesOf S (f .depth)) fuel (f .parameter) (f .index) (here s f)) s f before before (f .at) (f .row) (f .index)) z
+      (loop-start (λ fuel. listAt S (valuesOf S (f .depth)) fuel (f .parameter) (f .index) (here s f)) s f before h);
+  few = omega (arith, z);
+  size = refl;
+}
 
-module _ {S : Schema} {s : List ℕ} {f g : Frame} {before after : List ℕ} {c : ℕ} (i : Listing S s f g before after c) where
+module _ {S : Schema} {s : List ℕ} {f g : Frame} {before after : List ℕ} (i : Listing S s f g before after) where
   pub listing-room : (n : ℕ) → Room f (length s) n → Room g (length s) n
-  listing-room n r = rw (i .same) (room-moved f (length s) n 0 (g .at) (g .row) r (i .loop .line .moved))
+  listing-room n r = rw (i .same) (room-placed f (length s) n 0 (g .at) (g .row) (g .index) r (i .loop .line .moved) (omega (arith, i .few)))
 
   pub listing-named : g .parameter ≡ f .parameter
   listing-named = ap (λ (z : Frame). z .parameter) (i .same)
@@ -580,33 +589,33 @@ module _ {S : Schema} {s : List ℕ} {f g : Frame} {before after : List ℕ} {c 
   pub listing-ints : (e : Ints) → IntsOf S (f .parameter) e → IntsOf S (g .parameter) e
   listing-ints e h = subst (λ q. IntsOf S q e) (sym listing-named) h
 
-  pub listing-turn : (mid : List ℕ) (t : Taken) (u : Cursor) (m : ℕ) → ElementAt S s g c after mid t → t ≡ taken.On u m → (g .at < u .at) × (u .at ≤ length s)
-  listing-turn mid t u m h e = let w : (fuel : ℕ) → Fewer s g (u .at) × Turned (listAt S (valuesOf S (g .depth)) (suc fuel) (g .parameter) c (here s g)) (listAt S (valuesOf S (g .depth)) fuel (g .parameter) (suc c) (tokensAt (g .base) s (u .at))) s g after mid (u .at) m = subst (ElementAt S s g c after mid) e h in (omega (arith, w 0 .1 .moved .far), w 0 .1 .moved .within)
+  pub listing-turn : (mid : List ℕ) (t : Taken) (u : Cursor) (m : ℕ) → ElementAt S s g after mid t → t ≡ taken.On u m → (g .at < u .at) × (u .at ≤ length s)
+  listing-turn mid t u m h e = let w : (fuel : ℕ) → Fewer s g (u .at) × Turned (listAt S (valuesOf S (g .depth)) (suc fuel) (g .parameter) (g .index) (here s g)) (listAt S (valuesOf S (g .depth)) fuel (g .parameter) (suc (g .index)) (tokensAt (g .base) s (u .at))) s g after mid (u .at) m (suc (g .index)) = subst (ElementAt S s g after mid) e h in (omega (arith, w 0 .1 .moved .far), w 0 .1 .moved .within)
 
-  pub listing-on : (mid : List ℕ) (t : Taken) (u : Cursor) (m : ℕ) (g′ : Frame) → ElementAt S s g c after mid t → t ≡ taken.On u m → g′ ≡ movedOf g (u .at) m → Listing S s f g′ before mid (c + 1)
+  pub listing-on : (mid : List ℕ) (t : Taken) (u : Cursor) (m : ℕ) (g′ : Frame) → ElementAt S s g after mid t → t ≡ taken.On u m → g′ ≡ nextOf g (u .at) m (g .parent) → Listing S s f g′ before mid
   listing-on mid t u m g′ h e q =
-      let w : (fuel : ℕ) → Fewer s (movedOf f (g .at) (g .row)) (u .at) × Turned (listAt S (valuesOf S (f .depth)) (suc fuel) (f .parameter) c (tokensAt (f .base) s (g .at))) (listAt S (valuesOf S (f .depth)) fuel (f .parameter) (suc c) (tokensAt (f .base) s (u .at))) s (movedOf f (g .at) (g .row)) after mid (u .at) m
-      = subst (λ z. ElementAt S s z c after mid (taken.On u m)) (i .same) (subst (ElementAt S s g c after mid) e h) in
+      let w : (fuel : ℕ) → Fewer s (placedOf f (g .at) (g .row) (g .index)) (u .at) × Turned (listAt S (valuesOf S (f .depth)) (suc fuel) (f .parameter) (g .index) (tokensAt (f .base) s (g .at))) (listAt S (valuesOf S (f .depth)) fuel (f .parameter) (suc (g .index)) (tokensAt (f .base) s (u .at))) s (placedOf f (g .at) (g .row) (g .index)) after mid (u .at) m (suc (g .index))
+      = subst (λ z. ElementAt S s z after mid (taken.On u m)) (i .same) (subst (ElementAt S s g after mid) e h) in
       let b = listing-turn mid t u m h e in
-      let k : g′ ≡ movedOf f (u .at) m = q ∙ ap (λ z. movedOf z (u .at) m) (i .same) in
-      rw (k, add-one c) record {
+      let k : g′ ≡ placedOf f (u .at) m (suc (g .index)) = q ∙ (ap (λ z. nextOf z (u .at) m (z .parent)) (i .same) ∙ ap (λ j. placedOf f (u .at) m j) (add-one (g .index))) in
+      rw k record {
         same = refl;
         loop = loop-on (i .loop) (w 0 .0) (λ fuel. w fuel .1);
         few = omega (arith, i .few, b .0);
         size = sets-length after mid (rowWidth * g .row) (cells (w 0 .1 .going .acc)) (w 0 .1 .going .written) ∙ i .size;
       }
 
-  pub listing-done : (mid : List ℕ) (t : Taken) (u : Cursor) (m : ℕ) → ElementAt S s g c after mid t → t ≡ taken.Done u m → Ends (wholeList S (valuesOf S (f .depth)) (f .parameter) (here s f)) s f before mid 1 (Done u m)
-  listing-done mid t u m h e = loop-out (i .loop) mid 1 (Done u m) (subst (λ z. ElementAt S s z c after mid (taken.Done u m)) (i .same) (subst (ElementAt S s g c after mid) e h))
+  pub listing-done : (mid : List ℕ) (t : Taken) (u : Cursor) (m : ℕ) → ElementAt S s g after mid t → t ≡ taken.Done u m → Ends (wholeList S (valuesOf S (f .depth)) (f .parameter) (here s f)) s f before mid 1 (Done u m)
+  listing-done mid t u m h e = loop-out (i .loop) mid 1 (Done u m) (subst (λ z. ElementAt S s z after mid (taken.Done u m)) (i .same) (subst (ElementAt S s g after mid) e h))
 
-  pub listing-refused : (mid : List ℕ) (t : Taken) (n q : ℕ) → ElementAt S s g c after mid t → t ≡ taken.Refused n q → Ends (wholeList S (valuesOf S (f .depth)) (f .parameter) (here s f)) s f before mid 1 (Refused n q)
-  listing-refused mid t n q h e = loop-out (i .loop) mid 1 (Refused n q) (subst (λ z. ElementAt S s z c after mid (taken.Refused n q)) (i .same) (subst (ElementAt S s g c after mid) e h))
+  pub listing-refused : (mid : List ℕ) (t : Taken) (n q : ℕ) → ElementAt S s g after mid t → t ≡ taken.Refused n q → Ends (wholeList S (valuesOf S (f .depth)) (f .parameter) (here s f)) s f before mid 1 (Refused n q)
+  listing-refused mid t n q h e = loop-out (i .loop) mid 1 (Refused n q) (subst (λ z. ElementAt S s z after mid (taken.Refused n q)) (i .same) (subst (ElementAt S s g after mid) e h))
 
 -- a body: lists of untagged fields, then items
-left-start : (S : Schema) (Vs : Values) (inside : Bool) (p : ℕ) (qs : List ℕ) (x : List Lex) (rows : List ℕ) (row up : ℕ) → Going (listsAt S Vs inside p qs (tokensOf x)) (leftAt S Vs inside p qs [] (suc (length (tokensOf x))) (tokensOf x)) x x rows rows row p up row
+left-start : (S : Schema) (Vs : Values) (inside : Bool) (p : ℕ) (qs : List ℕ) (x : List Lex) (rows : List ℕ) (row up j : ℕ) → Going (listsAt S Vs inside p qs (tokensOf x)) (leftAt S Vs inside p qs [] (suc (length (tokensOf x))) (tokensOf x)) x x rows rows row p up j row j
 unfolding listsAt width rowsOf cells
-left-start S Vs inside p [] x rows row up = going-step (listsAt S Vs inside p [] (tokensOf x)) (itemsAt S Vs inside p (suc (length (tokensOf x))) [] (tokensOf x)) x x rows rows row p up row itemized 0 [] refl refl (λ t. omega arith) (λ t. refl) refl (omega arith)
-left-start S Vs inside p (q ∷ qs) x rows row up = going-start (listsAt S Vs inside p (q ∷ qs) (tokensOf x)) x rows row p up
+left-start S Vs inside p [] x rows row up j = going-step (listsAt S Vs inside p [] (tokensOf x)) (itemsAt S Vs inside p (suc (length (tokensOf x))) [] (tokensOf x)) x x rows rows row p up j row j itemized 0 [] refl refl (λ t. omega arith) (λ t. refl) refl (omega arith)
+left-start S Vs inside p (q ∷ qs) x rows row up j = going-start (listsAt S Vs inside p (q ∷ qs) (tokensOf x)) x rows row p up j
 
 pub bodying-start : (t o : List ℕ) (n : ℕ) (s : List ℕ) (f : Frame) (inside : Bool) (before : List ℕ) (marks : List Bool) → marks ≡ noMarks → f .at ≤ length s → Bodying (schemaAt t o n) s f f inside before before marks (untaggedFrom t o n (f .parameter) 0)
 bodying-start t o n s f inside before marks m h = subst (Bodying (schemaAt t o n) s f f inside before before marks) (untagged-all t o n (f .parameter)) record {
@@ -618,7 +627,7 @@ bodying-start t o n s f inside before marks m h = subst (Bodying (schemaAt t o n
     fuel = suc (length (here s f));
     enough = omega arith;
     line = record {
-      going = left-start (schemaAt t o n) (valuesOf (schemaAt t o n) (f .depth)) inside (f .parameter) (schemaAt t o n .untagged (f .parameter)) (lexemesAt (f .base) s (f .at)) before (f .row) (f .parent);
+      going = left-start (schemaAt t o n) (valuesOf (schemaAt t o n) (f .depth)) inside (f .parameter) (schemaAt t o n .untagged (f .parameter)) (lexemesAt (f .base) s (f .at)) before (f .row) (f .parent) (f .index);
       moved = record { far = omega arith; within = h; counted = omega arith };
     };
   };
@@ -665,10 +674,10 @@ module _ {S : Schema} {s : List ℕ} {f g : Frame} {inside : Bool} {before after
 
 -- before the list of the untagged field q
 module _ {S : Schema} {s : List ℕ} {f g : Frame} {inside : Bool} {before after : List ℕ} {marks : List Bool} {q : ℕ} {qs : List ℕ} (i : Bodying S s f g inside before after marks (q ∷ qs)) where
-  bodying-field : (mid : List ℕ) (at m : ℕ) → Turned (listsAt S (valuesOf S (g .depth)) inside (g .parameter) (q ∷ qs) (here s g)) (listsAt S (valuesOf S (g .depth)) inside (g .parameter) qs (tokensAt (g .base) s at)) s g after mid at m → Bodying S s f (movedOf g at m) inside before mid marks qs
+  bodying-field : (mid : List ℕ) (at m : ℕ) → Turned (listsAt S (valuesOf S (g .depth)) inside (g .parameter) (q ∷ qs) (here s g)) (listsAt S (valuesOf S (g .depth)) inside (g .parameter) qs (tokensAt (g .base) s at)) s g after mid at m (g .index) → Bodying S s f (movedOf g at m) inside before mid marks qs
   bodying-field mid at m h =
-      let w : Turned (listsAt S (valuesOf S (f .depth)) inside (f .parameter) (q ∷ qs) (tokensAt (f .base) s (g .at))) (listsAt S (valuesOf S (f .depth)) inside (f .parameter) qs (tokensAt (f .base) s at)) s (movedOf f (g .at) (g .row)) after mid at m
-      = subst (λ z. Turned (listsAt S (valuesOf S (z .depth)) inside (z .parameter) (q ∷ qs) (here s z)) (listsAt S (valuesOf S (z .depth)) inside (z .parameter) qs (tokensAt (z .base) s at)) s z after mid at m) (i .same) h in
+      let w : Turned (listsAt S (valuesOf S (f .depth)) inside (f .parameter) (q ∷ qs) (tokensAt (f .base) s (g .at))) (listsAt S (valuesOf S (f .depth)) inside (f .parameter) qs (tokensAt (f .base) s at)) s (movedOf f (g .at) (g .row)) after mid at m (f .index)
+      = subst (λ z. Turned (listsAt S (valuesOf S (z .depth)) inside (z .parameter) (q ∷ qs) (here s z)) (listsAt S (valuesOf S (z .depth)) inside (z .parameter) qs (tokensAt (z .base) s at)) s z after mid at m (z .index)) (i .same) h in
       let l = line-on (i .loop .line) w in
       record {
         same = ap (λ z. movedOf z at m) (i .same);
@@ -678,7 +687,7 @@ module _ {S : Schema} {s : List ℕ} {f g : Frame} {inside : Bool} {before after
         loop = record {
           fuel = suc (length (tokensAt (f .base) s at));
           enough = omega arith;
-          line = record { going = going-on (l .going) (left-start S (valuesOf S (f .depth)) inside (f .parameter) qs (lexemesAt (f .base) s at) mid m (f .parent)); moved = l .moved };
+          line = record { going = going-on (l .going) (left-start S (valuesOf S (f .depth)) inside (f .parameter) qs (lexemesAt (f .base) s at) mid m (f .parent) (f .index)); moved = l .moved };
         };
         size = sets-length after mid (rowWidth * g .row) (cells (w .going .acc)) (w .going .written) ∙ i .size;
       }
@@ -699,8 +708,8 @@ untagged-end t o n p = ap (numbersWhere (isUntaggedOf p) n) (drop-of-length-le (
 
 -- down a chain of choices
 pub record Choosing (S : Schema) (s : List ℕ) (f g : Frame) (n : ℕ) (before after : List ℕ) : Type 0 where
-  pub same : g ≡ chainOf f (g .at) (g .row) (g .parameter) (g .parent)
-  pub down : Down S s f (g .at) (g .row) (g .parameter) (g .parent) n before after
+  pub same : g ≡ chainOf f (g .at) (g .row) (g .parameter) (g .parent) (g .index)
+  pub down : Down S s f (g .at) (g .row) (g .parameter) (g .parent) (g .index) n before after
   pub size : length after ≡ length before
 
 pub choosing-start : (S : Schema) (s : List ℕ) (f : Frame) (n : ℕ) (before : List ℕ) → Room f (length s) n → f .parameter < n → Choosing S s f f n before before
@@ -714,22 +723,22 @@ module _ {S : Schema} {s : List ℕ} {f g : Frame} {n : ℕ} {before after : Lis
   choosing-depth = ap (λ (z : Frame). z .depth) (i .same)
 
   pub choosing-value : (u : ℕ) (mid final : List ℕ) (r x : Got) → u ≡ S .core (g .parameter) → isUnion (S .kind u) ≡ false → PlainAt S s g after mid x → r ≡ x → final ≡ closedRows x (f .base) (f .row) (g .row) mid → EndsValue (valuesOf S (f .depth) (f .parameter) (here s f)) s f before final r
-  choosing-value u mid final r x c k h e w = down-value S s f (g .at) (g .row) (g .parameter) (g .parent) n before after (i .down) mid final r x (rw c at k) (subst (λ z. PlainAt S s z after mid x) (i .same) h) e w
+  choosing-value u mid final r x c k h e w = down-value S s f (g .at) (g .row) (g .parameter) (g .parent) (g .index) n before after (i .down) mid final r x (rw c at k) (subst (λ z. PlainAt S s z after mid x) (i .same) h) e w
 
   pub choosing-whole : (u c a e : ℕ) (mid final : List ℕ) (r x : Got) → u ≡ S .core (g .parameter) → isUnion (S .kind u) ≡ true → Whole S n s g u c a e → WholeAt g c a e after mid x → r ≡ x → final ≡ closedRows x (f .base) (f .row) (g .row) mid → EndsValue (valuesOf S (f .depth) (f .parameter) (here s f)) s f before final r
-  choosing-whole u c a e mid final r x d k h t q w = down-whole S s f (g .at) (g .row) (g .parameter) (g .parent) n before after (i .down) u c a e mid final r x d k (subst (λ z. Whole S n s z u c a e) (i .same) h) (subst (λ z. WholeAt z c a e after mid x) (i .same) t) q w
+  choosing-whole u c a e mid final r x d k h t q w = down-whole S s f (g .at) (g .row) (g .parameter) (g .parent) (g .index) n before after (i .down) u c a e mid final r x d k (subst (λ z. Whole S n s z u c a e) (i .same) h) (subst (λ z. WholeAt z c a e after mid x) (i .same) t) q w
 
   pub choosing-stopped : (u k p : ℕ) → u ≡ S .core (g .parameter) → isUnion (S .kind u) ≡ true → ((Vs : Values) → Stopped (unionAt S Vs u (here s g)) (lexemesAt (g .base) s (g .at)) (g .base + length s) k p) → Stopped (valuesOf S (f .depth) (f .parameter) (here s f)) (lexemesAt (f .base) s (f .at)) (f .base + length s) k p
-  choosing-stopped u k p d e h = down-stopped S s f (g .at) (g .row) (g .parameter) (g .parent) n before after (i .down) u k p d e (subst (λ z. (Vs : Values) → Stopped (unionAt S Vs u (here s z)) (lexemesAt (z .base) s (z .at)) (z .base + length s) k p) (i .same) h)
+  choosing-stopped u k p d e h = down-stopped S s f (g .at) (g .row) (g .parameter) (g .parent) (g .index) n before after (i .down) u k p d e (subst (λ z. (Vs : Values) → Stopped (unionAt S Vs u (here s z)) (lexemesAt (z .base) s (z .at)) (z .base + length s) k p) (i .same) h)
 
   pub choosing-on : (u c a e : ℕ) (mid : List ℕ) (g′ : Frame) → u ≡ S .core (g .parameter) → isUnion (S .kind u) ≡ true → Deeper S n s g u c a e → mid ≡ openRow g a after → g′ ≡ underOf g e c → Choosing S s f g′ n before mid
   choosing-on u c a e mid g′ d k h w q =
-      let y : g′ ≡ chainOf f e (g .row + 1) c (g .row) = q ∙ ap (λ z. underOf z e c) (i .same) in
-      let x : mid ≡ openRow (chainOf f (g .at) (g .row) (g .parameter) (g .parent)) a after = w ∙ ap (λ z. openRow z a after) (i .same) in
+      let y : g′ ≡ chainOf f e (g .row + 1) c (g .row) 0 = q ∙ ap (λ z. underOf z e c) (i .same) in
+      let x : mid ≡ openRow (chainOf f (g .at) (g .row) (g .parameter) (g .parent) (g .index)) a after = w ∙ ap (λ z. openRow z a after) (i .same) in
       rw y record {
         same = refl;
-        down = down-on S s f (g .at) (g .row) (g .parameter) (g .parent) n before after (i .down) u c a e mid d k (subst (λ z. Deeper S n s z u c a e) (i .same) h) x;
-        size = sets-length after mid (rowWidth * g .row) (cells (record { parameter = g .parameter; parent = g .parent; start = g .base + a; end = 0 } ∷ [])) w ∙ i .size;
+        down = down-on S s f (g .at) (g .row) (g .parameter) (g .parent) (g .index) n before after (i .down) u c a e mid d k (subst (λ z. Deeper S n s z u c a e) (i .same) h) x;
+        size = sets-length after mid (rowWidth * g .row) (cells (record { parameter = g .parameter; parent = g .parent; start = g .base + a; end = 0; index = g .index } ∷ [])) w ∙ i .size;
       }
 
   pub deeper-less : (u c a e : ℕ) → Deeper S n s g u c a e → (g .at < e) × (e ≤ length s) × (a ≤ length s) × (a < e)

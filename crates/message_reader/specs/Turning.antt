@@ -39,40 +39,40 @@ here s f = tokensAt (f .base) s (f .at)
 abbrev pub Fewer : List ℕ → Frame → ℕ → Type 0
 Fewer s f at = length (tokensAt (f .base) s at) < length (tokensAt (f .base) s (f .at))
 
--- one turn: the answer o is o′ from at on, with what was read in front
-pub record Turned {k : TreeSort} (o o′ : Result (Tree k)) (s : List ℕ) (f : Frame) (before after : List ℕ) (at next : ℕ) : Type 0 where
-  pub going : Going o o′ (lexemesAt (f .base) s (f .at)) (lexemesAt (f .base) s at) before after (f .row) (f .parameter) (f .parent) next
+-- one turn: the answer o is o′ from at on, the j-th of its list, with what was read in front
+pub record Turned {k : TreeSort} (o o′ : Result (Tree k)) (s : List ℕ) (f : Frame) (before after : List ℕ) (at next j : ℕ) : Type 0 where
+  pub going : Going o o′ (lexemesAt (f .base) s (f .at)) (lexemesAt (f .base) s at) before after (f .row) (f .parameter) (f .parent) (f .index) next j
   pub moved : Moved (length s) (f .at) 1 (f .row) at next
 
 -- loops: the answer at the start, and the answer now
-pub record Line {k k′ : TreeSort} (o : Result (Tree k)) (o′ : Result (Tree k′)) (s : List ℕ) (f : Frame) (before after : List ℕ) (at row : ℕ) : Type 0 where
-  pub going : Going o o′ (lexemesAt (f .base) s (f .at)) (lexemesAt (f .base) s at) before after (f .row) (f .parameter) (f .parent) row
+pub record Line {k k′ : TreeSort} (o : Result (Tree k)) (o′ : Result (Tree k′)) (s : List ℕ) (f : Frame) (before after : List ℕ) (at row j : ℕ) : Type 0 where
+  pub going : Going o o′ (lexemesAt (f .base) s (f .at)) (lexemesAt (f .base) s at) before after (f .row) (f .parameter) (f .parent) (f .index) row j
   pub moved : Moved (length s) (f .at) 0 (f .row) at row
 
 -- with fuel
-pub record Loop {k k′ : TreeSort} (o : Result (Tree k)) (now : ℕ → Result (Tree k′)) (s : List ℕ) (f : Frame) (before after : List ℕ) (at row : ℕ) : Type 0 where
+pub record Loop {k k′ : TreeSort} (o : Result (Tree k)) (now : ℕ → Result (Tree k′)) (s : List ℕ) (f : Frame) (before after : List ℕ) (at row j : ℕ) : Type 0 where
   pub fuel : ℕ
   pub enough : length (tokensAt (f .base) s at) < fuel
-  pub line : Line o (now fuel) s f before after at row
+  pub line : Line o (now fuel) s f before after at row j
 
--- the c-th value of a list
-abbrev pub ElementAt : Schema → List ℕ → Frame → ℕ → List ℕ → List ℕ → Taken → Type 0
-ElementAt S s f c before after (taken.On u next) = (fuel : ℕ) → Fewer s f (u .at) × Turned (listAt S (valuesOf S (f .depth)) (suc fuel) (f .parameter) c (here s f)) (listAt S (valuesOf S (f .depth)) fuel (f .parameter) (suc c) (tokensAt (f .base) s (u .at))) s f before after (u .at) next
-ElementAt S s f c before after (taken.Done u next) = (fuel : ℕ) → Ends (listAt S (valuesOf S (f .depth)) (suc fuel) (f .parameter) c (here s f)) s f before after 1 (Done u next)
-ElementAt S s f c before after (taken.Refused n q) = (fuel : ℕ) → Ends (listAt S (valuesOf S (f .depth)) (suc fuel) (f .parameter) c (here s f)) s f before after 1 (Refused n q)
+-- a value of a list, at its place there
+abbrev pub ElementAt : Schema → List ℕ → Frame → List ℕ → List ℕ → Taken → Type 0
+ElementAt S s f before after (taken.On u next) = (fuel : ℕ) → Fewer s f (u .at) × Turned (listAt S (valuesOf S (f .depth)) (suc fuel) (f .parameter) (f .index) (here s f)) (listAt S (valuesOf S (f .depth)) fuel (f .parameter) (suc (f .index)) (tokensAt (f .base) s (u .at))) s f before after (u .at) next (suc (f .index))
+ElementAt S s f before after (taken.Done u next) = (fuel : ℕ) → Ends (listAt S (valuesOf S (f .depth)) (suc fuel) (f .parameter) (f .index) (here s f)) s f before after 1 (Done u next)
+ElementAt S s f before after (taken.Refused n q) = (fuel : ℕ) → Ends (listAt S (valuesOf S (f .depth)) (suc fuel) (f .parameter) (f .index) (here s f)) s f before after 1 (Refused n q)
 
 -- the same before what follows is read
-abbrev pub TakenAt : Schema → List ℕ → Frame → ℕ → List ℕ → List ℕ → Taken → Type 0
-TakenAt S s f c before after (taken.On u next) = ElementAt S s f c before after (taken.On u next)
-TakenAt S s f c before after (taken.Done u next) = EndsValue (valuesOf S (f .depth) (f .parameter) (here s f)) s f before after (Done u next)
-TakenAt S s f c before after (taken.Refused n q) = EndsValue (valuesOf S (f .depth) (f .parameter) (here s f)) s f before after (Refused n q)
+abbrev pub TakenAt : Schema → List ℕ → Frame → List ℕ → List ℕ → Taken → Type 0
+TakenAt S s f before after (taken.On u next) = ElementAt S s f before after (taken.On u next)
+TakenAt S s f before after (taken.Done u next) = EndsValue (valuesOf S (f .depth) (f .parameter) (here s f)) s f before after (Done u next)
+TakenAt S s f before after (taken.Refused n q) = EndsValue (valuesOf S (f .depth) (f .parameter) (here s f)) s f before after (Refused n q)
 
 -- one item, with the marks of the fields seen
 pub record Itemed (S : Schema) (s : List ℕ) (f : Frame) (inside : Bool) (ks : List ℕ) (marks : List Bool) (before after : List ℕ) (at next : ℕ) : Type 0 where
   pub seen : List ℕ
   pub marked : Marks marks seen
   pub fewer : Fewer s f at
-  pub turned : (fuel : ℕ) → Turned (itemsAt S (valuesOf S (f .depth)) inside (f .parameter) (suc fuel) ks (here s f)) (itemsAt S (valuesOf S (f .depth)) inside (f .parameter) fuel seen (tokensAt (f .base) s at)) s f before after at next
+  pub turned : (fuel : ℕ) → Turned (itemsAt S (valuesOf S (f .depth)) inside (f .parameter) (suc fuel) ks (here s f)) (itemsAt S (valuesOf S (f .depth)) inside (f .parameter) fuel seen (tokensAt (f .base) s at)) s f before after at next (f .index)
 
 -- a value of what is no union
 abbrev pub PlainAt : Schema → List ℕ → Frame → List ℕ → List ℕ → Got → Type 0
@@ -95,31 +95,34 @@ isUnion schema.union = true
 isUnion schema.reference = false
 
 -- frames
+abbrev pub placedOf : Frame → ℕ → ℕ → ℕ → Frame
+placedOf f at row j = record { base = f .base; at = at; row = row; parameter = f .parameter; parent = f .parent; index = j; depth = f .depth }
+
 abbrev pub movedOf : Frame → ℕ → ℕ → Frame
-movedOf f at row = record { base = f .base; at = at; row = row; parameter = f .parameter; parent = f .parent; depth = f .depth }
+movedOf f at row = placedOf f at row (f .index)
 
 abbrev pub nextOf : Frame → ℕ → ℕ → ℕ → Frame
-nextOf f at row up = record { base = f .base; at = at; row = row; parameter = f .parameter; parent = up; depth = f .depth }
+nextOf f at row up = record { base = f .base; at = at; row = row; parameter = f .parameter; parent = up; index = f .index + 1; depth = f .depth }
 
 abbrev pub fieldOf : Frame → ℕ → ℕ → Frame
-fieldOf f at q = record { base = f .base; at = at; row = f .row; parameter = q; parent = f .parent; depth = f .depth }
+fieldOf f at q = record { base = f .base; at = at; row = f .row; parameter = q; parent = f .parent; index = 0; depth = f .depth }
 
 abbrev pub underOf : Frame → ℕ → ℕ → Frame
-underOf f at q = record { base = f .base; at = at; row = f .row + 1; parameter = q; parent = f .row; depth = f .depth }
+underOf f at q = record { base = f .base; at = at; row = f .row + 1; parameter = q; parent = f .row; index = 0; depth = f .depth }
 
 abbrev pub innerOf : Frame → ℕ → ℕ → Frame
-innerOf f e u = record { base = f .base + e; at = 0; row = f .row + 1; parameter = u; parent = f .row; depth = f .depth }
+innerOf f e u = record { base = f .base + e; at = 0; row = f .row + 1; parameter = u; parent = f .row; index = 0; depth = f .depth }
 
 abbrev pub deeperOf : Frame → Frame
-deeperOf f = record { base = f .base; at = f .at; row = f .row; parameter = f .parameter; parent = f .parent; depth = f .depth - 1 }
+deeperOf f = record { base = f .base; at = f .at; row = f .row; parameter = f .parameter; parent = f .parent; index = f .index; depth = f .depth - 1 }
 
 -- the rows of a choice
 abbrev pub openRow : Frame → ℕ → List ℕ → List ℕ
-openRow f a before = sets before (rowWidth * f .row) (cells (record { parameter = f .parameter; parent = f .parent; start = f .base + a; end = 0 } ∷ []))
+openRow f a before = sets before (rowWidth * f .row) (cells (record { parameter = f .parameter; parent = f .parent; start = f .base + a; end = 0; index = f .index } ∷ []))
 
 pub record Twice (f : Frame) (q a e : ℕ) (before after : List ℕ) (at next : ℕ) : Type 0 where
   pub same : at ≡ e
-  pub written : after ≡ sets before (rowWidth * f .row) (cells (record { parameter = f .parameter; parent = f .parent; start = f .base + a; end = f .base + e } ∷ record { parameter = q; parent = f .row; start = f .base + a; end = f .base + e } ∷ []))
+  pub written : after ≡ sets before (rowWidth * f .row) (cells (record { parameter = f .parameter; parent = f .parent; start = f .base + a; end = f .base + e; index = f .index } ∷ record { parameter = q; parent = f .row; start = f .base + a; end = f .base + e; index = 0 } ∷ []))
   pub sized : next ≡ f .row + 2
 
 abbrev pub WholeAt : Frame → ℕ → ℕ → ℕ → List ℕ → List ℕ → Got → Type 0
@@ -150,7 +153,7 @@ pub record Bodying (S : Schema) (s : List ℕ) (f g : Frame) (inside : Bool) (be
   pub seen : List ℕ
   pub marked : Marks marks seen
   pub fresh : (q : ℕ) (rest : List ℕ) → qs ≡ q ∷ rest → seen ≡ []
-  pub loop : Loop (bodyOf S s f inside) (λ fuel. leftAt S (valuesOf S (f .depth)) inside (f .parameter) qs seen fuel (tokensAt (f .base) s (g .at))) s f before after (g .at) (g .row)
+  pub loop : Loop (bodyOf S s f inside) (λ fuel. leftAt S (valuesOf S (f .depth)) inside (f .parameter) qs seen fuel (tokensAt (f .base) s (g .at))) s f before after (g .at) (g .row) (f .index)
   pub size : length after ≡ length before
 
 -- the list of the field q is due from at on: what holds once it is read, and where it is refused

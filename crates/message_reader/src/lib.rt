@@ -38,12 +38,14 @@ fn moved(f: Frame, v: Cursor, row: usize) -> Frame
         row: row,
         parameter: f.parameter,
         parent: f.parent,
+        index: f.index,
         depth: f.depth,
     }
 }
 
 // The frame of a list's next value, under the row that the list stands under.
 fn next_value(f: Frame, v: Cursor, row: usize, up: usize) -> Frame
+    requires { ⌜ f .index < 4294967296 ⌝ }
     ensures { λ r. ⌜ r ≡ nextOf f (v .at) row up ⌝ }
 {
     Frame {
@@ -52,11 +54,12 @@ fn next_value(f: Frame, v: Cursor, row: usize, up: usize) -> Frame
         row: row,
         parameter: f.parameter,
         parent: up,
+        index: f.index + 1,
         depth: f.depth,
     }
 }
 
-// The same frame for a field.
+// The same frame for the first value of a field.
 fn for_field(f: Frame, v: Cursor, q: usize) -> Frame
     ensures { λ r. ⌜ r ≡ fieldOf f (v .at) q ⌝ }
 {
@@ -66,6 +69,7 @@ fn for_field(f: Frame, v: Cursor, q: usize) -> Frame
         row: f.row,
         parameter: q,
         parent: f.parent,
+        index: 0,
         depth: f.depth,
     }
 }
@@ -81,6 +85,7 @@ fn under(f: Frame, v: Cursor, q: usize) -> Frame
         row: f.row + 1,
         parameter: q,
         parent: f.row,
+        index: 0,
         depth: f.depth,
     }
 }
@@ -96,6 +101,7 @@ fn inner(f: Frame, e: usize, u: usize) -> Frame
         row: f.row + 1,
         parameter: u,
         parent: f.row,
+        index: 0,
         depth: f.depth,
     }
 }
@@ -111,6 +117,7 @@ fn deeper(f: Frame) -> Frame
         row: f.row,
         parameter: f.parameter,
         parent: f.parent,
+        index: f.index,
         depth: f.depth - 1,
     }
 }
@@ -132,7 +139,7 @@ fn is_union(table: &[u8], unpacked: &[u32], n: usize, u: usize) -> bool
 // The two rows of a choice that is whole: the value's and the alternative's.
 fn whole(rows: &mut [u32], f: Frame, q: usize, start: usize, past: Cursor) -> Got
     requires { ⌜ (f .base + past .at ≤ messageLimit) × (start ≤ past .at) ⌝ }
-    requires { ⌜ (f .row < 65536) × (f .parent < 4294967296) × (f .parameter < 4294967296) × (q < 4294967296) ⌝ }
+    requires { ⌜ (f .row < 65536) × (f .parent < 4294967296) × (f .parameter < 4294967296) × (f .index < 4294967296) × (q < 4294967296) ⌝ }
     ensures { λ r. ⌜ WholeAt f q start (past .at) (now (rows .entry)) (now (rows .exit)) r ⌝ }
 {
     let row = f.row;
@@ -145,6 +152,7 @@ fn whole(rows: &mut [u32], f: Frame, q: usize, start: usize, past: Cursor) -> Go
             parent: f.parent,
             start: f.base + start,
             end: end,
+            index: f.index,
         },
     );
     message_rows::put_row(
@@ -155,6 +163,7 @@ fn whole(rows: &mut [u32], f: Frame, q: usize, start: usize, past: Cursor) -> Go
             parent: row,
             start: f.base + start,
             end: end,
+            index: 0,
         },
     );
     Got::Done(past, row + 2)
@@ -178,7 +187,7 @@ fn close_chain(rows: &mut [u32], base: usize, first: usize, row: usize, g: Got) 
 // A row of a choice whose end is not known yet.
 fn open_row(rows: &mut [u32], f: Frame, start: usize)
     requires { ⌜ (f .base + start ≤ messageLimit) ⌝ }
-    requires { ⌜ (f .row < 4294967296) × (f .parent < 4294967296) × (f .parameter < 4294967296) ⌝ }
+    requires { ⌜ (f .row < 4294967296) × (f .parent < 4294967296) × (f .parameter < 4294967296) × (f .index < 4294967296) ⌝ }
     ensures { λ _. ⌜ now (rows .exit) ≡ openRow f start (now (rows .entry)) ⌝ }
 {
     message_rows::put_row(
@@ -189,6 +198,7 @@ fn open_row(rows: &mut [u32], f: Frame, start: usize)
             parent: f.parent,
             start: f.base + start,
             end: 0,
+            index: f.index,
         },
     );
 }
@@ -284,7 +294,7 @@ enum Taken {
     Refused(u32, usize),
 }
 
-// The value of a list after c others, quickly where it is plain digits of a list of ints.
+// The value of a list, quickly where it is plain digits of a list of ints.
 fn list_value(
     table: &[u8],
     unpacked: &[u32],
@@ -292,15 +302,14 @@ fn list_value(
     s: &[u8],
     rows: &mut [u32],
     f: Frame,
-    c: usize,
     e: Ints,
 ) -> Taken
     requires { ⌜ Room f (length (now s)) n ⌝ }
-    requires { ⌜ (f .parameter < n) × (c < 4294967296) ⌝ }
+    requires { ⌜ f .parameter < n ⌝ }
     requires { ⌜ IntsOf (schemaAt (now table) (now unpacked) n) (f .parameter) e ⌝ }
-    ensures { λ r. ⌜ TakenAt (schemaAt (now (table .entry)) (now (unpacked .entry)) n) (now (s .entry)) f c (now (rows .entry)) (now (rows .exit)) r ⌝ }
+    ensures { λ r. ⌜ TakenAt (schemaAt (now (table .entry)) (now (unpacked .entry)) n) (now (s .entry)) f (now (rows .entry)) (now (rows .exit)) r ⌝ }
 {
-    match message_lists::quick_int(table, unpacked, n, s, rows, f, c, e) {
+    match message_lists::quick_int(table, unpacked, n, s, rows, f, e) {
         Quick::On(v, m) => Taken::On(v, m),
         Quick::Value(v, m) => Taken::Done(v, m),
         Quick::Slow => match value(table, unpacked, n, s, rows, f) {
@@ -310,7 +319,7 @@ fn list_value(
     }
 }
 
-// The value of a list after c others, and what follows it.
+// The value of a list, and what follows it.
 fn element(
     table: &[u8],
     unpacked: &[u32],
@@ -318,15 +327,14 @@ fn element(
     s: &[u8],
     rows: &mut [u32],
     f: Frame,
-    c: usize,
     e: Ints,
 ) -> Taken
     requires { ⌜ Room f (length (now s)) n ⌝ }
-    requires { ⌜ (f .parameter < n) × (c < 4294967296) ⌝ }
+    requires { ⌜ f .parameter < n ⌝ }
     requires { ⌜ IntsOf (schemaAt (now table) (now unpacked) n) (f .parameter) e ⌝ }
-    ensures { λ r. ⌜ ElementAt (schemaAt (now (table .entry)) (now (unpacked .entry)) n) (now (s .entry)) f c (now (rows .entry)) (now (rows .exit)) r ⌝ }
+    ensures { λ r. ⌜ ElementAt (schemaAt (now (table .entry)) (now (unpacked .entry)) n) (now (s .entry)) f (now (rows .entry)) (now (rows .exit)) r ⌝ }
 {
-    match list_value(table, unpacked, n, s, rows, f, c, e) {
+    match list_value(table, unpacked, n, s, rows, f, e) {
         Taken::On(v, m) => Taken::On(v, m),
         Taken::Done(v, m) => match message_lists::after_value(
             table,
@@ -336,7 +344,7 @@ fn element(
             f.base,
             f.parameter,
             v,
-            c + 1,
+            f.index + 1,
         ) {
             After::More(w) => Taken::On(w, m),
             After::Last => Taken::Done(v, m),
@@ -346,19 +354,18 @@ fn element(
     }
 }
 
+// The whole list of a field, whose first value f is for.
 fn list(table: &[u8], unpacked: &[u32], n: usize, s: &[u8], rows: &mut [u32], f: Frame) -> Got
     requires { ⌜ Room f (length (now s)) n ⌝ }
-    requires { ⌜ f .parameter < n ⌝ }
+    requires { ⌜ (f .parameter < n) × (f .index ≡ 0) ⌝ }
     ensures { λ r. ⌜ Ends (wholeList (schemaAt (now (table .entry)) (now (unpacked .entry)) n) (valuesOf (schemaAt (now (table .entry)) (now (unpacked .entry)) n) (f .depth)) (f .parameter) (here (now (s .entry)) f)) (now (s .entry)) f (now (rows .entry)) (now (rows .exit)) 1 r ⌝ }
 {
     let e = message_lookup::ints_of(table, unpacked, n, f.parameter);
     let mut g = f;
-    let mut c: usize = 0;
     loop {
-        match element(table, unpacked, n, s, rows, g, c, e) {
+        match element(table, unpacked, n, s, rows, g, e) {
             Taken::On(v, next) => {
                 g = next_value(g, v, next, g.parent);
-                c += 1;
             }
             Taken::Done(v, m) => {
                 return Got::Done(v, m);
@@ -408,6 +415,7 @@ fn item(
                     parent: f.parent,
                     start: f.base + a,
                     end: f.base + v.at,
+                    index: 0,
                 },
             );
             Part::On(v, f.row + 1)

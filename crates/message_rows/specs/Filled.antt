@@ -11,9 +11,10 @@ pub record Small (r : Row) : Type 0 where
   pub parent : r .parent < 4294967296
   pub start : r .start < 4294967296
   pub end : r .end < 4294967296
+  pub index : r .index < 4294967296
 
 abbrev pub rowOf : Row → model.Row
-rowOf r = record { parameter = r .parameter; parent = r .parent; start = r .start; end = r .end }
+rowOf r = record { parameter = r .parameter; parent = r .parent; start = r .start; end = r .end; index = r .index }
 
 -- the numbers with the end e in each of n rows from the k-th on
 unfoldable pub withEnds : List ℕ → ℕ → ℕ → ℕ → List ℕ
@@ -23,4 +24,4 @@ withEnds l k (suc n) e = withEnds (set l (rowWidth * k + 3) e) (suc k) n e
 -- the rows with the end e
 unfoldable pub ended : ℕ → List model.Row → List model.Row
 ended e [] = []
-ended e (r ∷ rs) = record { parameter = r .parameter; parent = r .parent; start = r .start; end = e } ∷ ended e rs
+ended e (r ∷ rs) = record { parameter = r .parameter; parent = r .parent; start = r .start; end = e; index = r .index } ∷ ended e rs

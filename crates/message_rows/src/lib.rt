@@ -8,12 +8,13 @@ ghost use Rattle.numbers.specs.Limits.{rowWidth};
 ghost use Rattle.message_rules.specs.Rows.{cells};
 ghost use Rattle.message_rows.specs.Filled.{Small, rowOf, withEnds};
 
-// Parameter, parent row, start, end.
+// Parameter, parent row, start, end, the value's place in its list.
 pub struct Row {
     pub parameter: usize,
     pub parent: usize,
     pub start: usize,
     pub end: usize,
+    pub index: usize,
 }
 
 // A number of a row fits 32 bits.
@@ -39,12 +40,14 @@ pub fn put_row(rows: &mut [u32], row: usize, r: Row)
         rows[i + numbers::ROW_PARENT] = r.parent as u32;
         rows[i + numbers::ROW_START] = r.start as u32;
         rows[i + numbers::ROW_END] = r.end as u32;
+        rows[i + numbers::ROW_INDEX] = r.index as u32;
         return;
     }
     put(rows, i, r.parameter);
     put(rows, i + numbers::ROW_PARENT, r.parent);
     put(rows, i + numbers::ROW_START, r.start);
     put(rows, i + numbers::ROW_END, r.end);
+    put(rows, i + numbers::ROW_INDEX, r.index);
 }
 
 // The same end for each row from first up to last. Both are small, as messages are.

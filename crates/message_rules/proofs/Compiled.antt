@@ -9,7 +9,7 @@ use lib.ListN.{length, drop}
 use Rattle.classes.specs.Bytes.{IsBytes}
 use Rattle.numbers.specs.Limits.{parameterLimit, rowWidth}
 use Rattle.reading_rules.specs.Record.{Record, recordAt}
-use Rattle.reading_rules.specs.Schema.{nowhere, found, schemaOf}
+use Rattle.reading_rules.specs.Schema.{struct, nowhere, found, schemaOf}
 use Rattle.reading_rules.specs.Reading.{Tree, body}
 use Rattle.reading_rules.proofs.CountLaws.{clash-bool}
 use Rattle.reading_rules.proofs.Rules.{ReadingRules}
@@ -18,11 +18,13 @@ use Rattle.table_rules.specs.RecordRules.{tableRules}
 use Rattle.table_rules.specs.Compilable.{Compilable}
 use Rattle.table_rules.proofs.Theorems.{rules-iff, no-text-iff, bytes-records}
 use Rattle.table_rules.proofs.Facts.{rules-formed, reading-rules}
+use Rattle.table_rules.proofs.Values.{root-kind}
 use Rattle.message_rules.specs.Scan.{Lexeme, Spelled}
-use Rattle.message_rules.specs.Rows.{Row, messageRows, cells}
+use Rattle.message_rules.specs.Rows.{Row, messageRows, cells, IndicesStand}
 use Rattle.message_rules.specs.Verdict.{LawfulReading, Within, isUnlawful, MessageAnswer, accepted, refusal, orEmpty, recordsIn, readWith, rowsWith, readAnswer, rowsAfter}
 use Rattle.message_rules.specs.Promise.{Reading, Outside, ReadPromise}
 use Rattle.message_rules.proofs.Spelling.{spelled-once}
+use Rattle.message_rules.proofs.Indices.{indices-stand}
 use Rattle.message_rules.proofs.Promises.{one-reading, lawful-accepted, lawful-29, accepted-lawful, refused-29, refused-unlawful, refusal-number, accepted-written, refused-unchanged, refused-21, refused-22, refused-30, number-unlawful, spelled-clean}
 
 -- the records of a table that keeps the rules keep what a reading rests on
@@ -32,6 +34,14 @@ table-reading table e =
     let x = bytes-records table e in
     let q : recordsIn table ≡ x .0 = ap orEmpty (x .1) in
     rw q (reading-rules (x .0) (rules-formed parameterLimit (x .0) (x .2)))
+
+-- and its root is a struct
+table-root : (table : List ℕ) → tableRules parameterLimit table ≡ true → schemaOf (recordsIn table) .kind (schemaOf (recordsIn table) .core 0) ≡ struct
+unfolding recordsIn orEmpty
+table-root table e =
+    let x = bytes-records table e in
+    let q : recordsIn table ≡ x .0 = ap orEmpty (x .1) in
+    rw q (root-kind parameterLimit (x .0) (x .2))
 
 -- the two sides of number 20
 pub good-answer : (table message : List ℕ) (room : ℕ) → tableRules parameterLimit table ≡ true → readAnswer table message room ≡ readWith (recordsIn table) message room
@@ -139,6 +149,9 @@ module _ (table message lent : List ℕ) (ok : tableRules parameterLimit table �
       back f (accepted k) e = let g = accepted-lawful records R message room k e in absurd (f (g .1) (same (g .0) (g .1) (g .2)))
       back f (refusal n place) e = (n, place, is-answer (refusal n place) e, number f n place e)
 
+  reading-indices : (rs : List Row) → Reading table message rs → IndicesStand (schemaOf records) rs
+  reading-indices rs r = rw (r .rows) (indices-stand records message (r .tokens) (r .tree) (table-root table ok) (r .lawful .lawful))
+
   beyond-range : (place : ℕ) → readAnswer table message room ≡ refusal 30 place → Outside table message place
   unfolding schemaOf
   beyond-range place e =
@@ -167,6 +180,7 @@ read-promise table message lent bytes = by (tableRules parameterLimit table) ref
           noRoom = λ k. ((λ e. (c, lacks-room table message lent ok k .0 e)), λ x. lacks-room table message lent ok k .1 (x .1));
           unlawful = λ _ ls s w. no-reading table message lent ok ls s w;
           outside = beyond-range table message lent ok;
+          indices = λ _ rs r. reading-indices table message lent ok rs r;
           unchanged = λ n place e. good-after table message lent ok ∙ refused-unchanged (recordsIn table) (table-reading table ok) message lent n place (answer-is table message lent ok (refusal n place) e);
         }
     by false bad =
@@ -180,5 +194,6 @@ read-promise table message lent bytes = by (tableRules parameterLimit table) ref
           noRoom = λ k. ((λ e. let q : _≡_ {A = ℕ} 20 29 = cc in absurd (omega arith)), λ x. absurd (f (x .0)));
           unlawful = λ c. absurd (f c);
           outside = λ place e. let q : _≡_ {A = ℕ} 20 30 = cc in absurd (omega arith);
+          indices = λ c. absurd (f c);
           unchanged = λ n place e. bad-after table message lent bad;
         }

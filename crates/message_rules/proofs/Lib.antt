@@ -12,6 +12,7 @@ pub mod RowLaws
 pub mod Spans
 pub mod Nest
 pub mod Rising
+pub mod Indices
 -- T9, T11 to T14, T17
 pub mod Promises
 pub mod Compiled

@@ -66,52 +66,52 @@ module _ (at e : ℕ) (ls : List Lexeme) (o : Ordered at ls e) where
   among i a b k rs h x y p q = rises-wide (startIn e ls i) (startIn e ls a) rs (startIn e ls b) (startIn e ls k) h (rw (← p) (start-up i x)) (rw (← q) (start-up b y))
 
   -- a row over the i-th token and more
-  first-row : (i n p up k : ℕ) (rs : List Row) → i < length ls → Rises (startIn e ls i) rs (startIn e ls k) → Rises (startIn e ls i) (rowOver ls i n p up ∷ rs) (startIn e ls k)
+  first-row : (i n p up j k : ℕ) (rs : List Row) → i < length ls → Rises (startIn e ls i) rs (startIn e ls k) → Rises (startIn e ls i) (rowOver ls i n p up j ∷ rs) (startIn e ls k)
   unfolding Rises rowOver
-  first-row i n p up k rs m h = let z = start-there e ls i m in (omega (arith, z), rw z at h)
+  first-row i n p up j k rs m h = let z = start-there e ls i m in (omega (arith, z), rw z at h)
 
   none : (i n : ℕ) → Rises (startIn e ls i) [] (startIn e ls (i + n))
   unfolding Rises
   none i n = start-up i n
 
-  rows-rise : {z : TreeSort} (t : Tree z) (i n p up : ℕ) → i + width t ≤ length ls → Rises (startIn e ls i) (rowsOf ls t i n p up) (startIn e ls (i + width t))
+  rows-rise : {z : TreeSort} (t : Tree z) (i n p up j : ℕ) → i + width t ≤ length ls → Rises (startIn e ls i) (rowsOf ls t i n p up j) (startIn e ls (i + width t))
   unfolding rowsOf width
-  rows-rise (unknownWord w) i n p up m = none i 1
-  rows-rise (unknownString w) i n p up m = none i 1
-  rows-rise (unknownBraces ts) i n p up m = none i (width (unknownBraces ts))
-  rows-rise (unknownPair w v) i n p up m = none i (width (unknownPair w v))
-  rows-rise (unknownLast v) i n p up m = none i (width (unknownLast v))
-  rows-rise (unknownMore v l) i n p up m = none i (width (unknownMore v l))
-  rows-rise (leaf t) i n p up m = first-row i 1 p up (i + 1) [] (omega arith) (none i 1)
-  rows-rise (braced b) i n p up m =
-      first-row i (width b + 2) p up (i + (width b + 2)) (rowsOf ls b (suc i) (suc n) p n) (omega arith)
-      (among i (suc i) (suc i + width b) (i + (width b + 2)) (rowsOf ls b (suc i) (suc n) p n) (rows-rise b (suc i) (suc n) p n (omega arith)) 1 1 (omega arith) (omega arith))
-  rows-rise (chosenVoid q w) i n p up m = first-row i 1 p up (i + 1) (rowOver ls i 1 q n ∷ []) (omega arith) (first-row i 1 q n (i + 1) [] (omega arith) (none i 1))
-  rows-rise (chosen q w v) i n p up m =
-      first-row i (2 + width v) p up (i + (2 + width v)) (rowsOf ls v (2 + i) (suc n) q n) (omega arith)
-      (among i (2 + i) (2 + i + width v) (i + (2 + width v)) (rowsOf ls v (2 + i) (suc n) q n) (rows-rise v (2 + i) (suc n) q n (omega arith)) 2 0 (omega arith) (omega arith))
-  rows-rise (chosenInt q w) i n p up m = first-row i 1 p up (i + 1) (rowOver ls i 1 q n ∷ []) (omega arith) (first-row i 1 q n (i + 1) [] (omega arith) (none i 1))
-  rows-rise (last v) i n p up m = rows-rise v i n p up m
-  rows-rise (more v l) i n p up m =
-      rises-append (startIn e ls i) (startIn e ls (i + width v)) (startIn e ls (i + (width v + suc (width l)))) (rowsOf ls v i n p up) (rowsOf ls l (i + suc (width v)) (n + rowCount v) p up)
-      (rows-rise v i n p up (omega arith))
-      (among (i + width v) (i + suc (width v)) (i + suc (width v) + width l) (i + (width v + suc (width l))) (rowsOf ls l (i + suc (width v)) (n + rowCount v) p up) (rows-rise l (i + suc (width v)) (n + rowCount v) p up (omega arith)) 1 0 (omega arith) (omega arith))
-  rows-rise (listed q l b) i n p up m =
-      rises-append (startIn e ls i) (startIn e ls (i + width l)) (startIn e ls (i + (width l + width b))) (rowsOf ls l i n q up) (rowsOf ls b (i + width l) (n + rowCount l) p up)
-      (rows-rise l i n q up (omega arith))
-      (among (i + width l) (i + width l) (i + width l + width b) (i + (width l + width b)) (rowsOf ls b (i + width l) (n + rowCount l) p up) (rows-rise b (i + width l) (n + rowCount l) p up (omega arith)) 0 0 (omega arith) (omega arith))
-  rows-rise stopped i n p up m = none i 0
-  rows-rise (itemized t) i n p up m = rows-rise t i n p up m
-  rows-rise noItem i n p up m = none i 0
-  rows-rise (voidItem q w t) i n p up m =
-      first-row i 1 q up (i + suc (width t)) (rowsOf ls t (suc i) (suc n) p up) (omega arith)
-      (among i (suc i) (suc i + width t) (i + suc (width t)) (rowsOf ls t (suc i) (suc n) p up) (rows-rise t (suc i) (suc n) p up (omega arith)) 1 0 (omega arith) (omega arith))
-  rows-rise (listItem q w l t) i n p up m =
-      rises-append (startIn e ls i) (startIn e ls (2 + i + width l)) (startIn e ls (i + (2 + (width l + width t)))) (rowsOf ls l (2 + i) n q up) (rowsOf ls t (2 + i + width l) (n + rowCount l) p up)
-      (among i (2 + i) (2 + i + width l) (2 + i + width l) (rowsOf ls l (2 + i) n q up) (rows-rise l (2 + i) n q up (omega arith)) 2 0 (omega arith) (omega arith))
-      (among (2 + i + width l) (2 + i + width l) (2 + i + width l + width t) (i + (2 + (width l + width t))) (rowsOf ls t (2 + i + width l) (n + rowCount l) p up) (rows-rise t (2 + i + width l) (n + rowCount l) p up (omega arith)) 0 0 (omega arith) (omega arith))
-  rows-rise (unknownItem w t) i n p up m = among i (suc i) (suc i + width t) (i + suc (width t)) (rowsOf ls t (suc i) n p up) (rows-rise t (suc i) n p up (omega arith)) 1 0 (omega arith) (omega arith)
-  rows-rise (unknownListItem w l t) i n p up m = among i (2 + i + width l) (2 + i + width l + width t) (i + (2 + (width l + width t))) (rowsOf ls t (2 + i + width l) n p up) (rows-rise t (2 + i + width l) n p up (omega arith)) (2 + width l) 0 (omega arith) (omega arith)
+  rows-rise (unknownWord w) i n p up j m = none i 1
+  rows-rise (unknownString w) i n p up j m = none i 1
+  rows-rise (unknownBraces ts) i n p up j m = none i (width (unknownBraces ts))
+  rows-rise (unknownPair w v) i n p up j m = none i (width (unknownPair w v))
+  rows-rise (unknownLast v) i n p up j m = none i (width (unknownLast v))
+  rows-rise (unknownMore v l) i n p up j m = none i (width (unknownMore v l))
+  rows-rise (leaf t) i n p up j m = first-row i 1 p up j (i + 1) [] (omega arith) (none i 1)
+  rows-rise (braced b) i n p up j m =
+      first-row i (width b + 2) p up j (i + (width b + 2)) (rowsOf ls b (suc i) (suc n) p n 0) (omega arith)
+      (among i (suc i) (suc i + width b) (i + (width b + 2)) (rowsOf ls b (suc i) (suc n) p n 0) (rows-rise b (suc i) (suc n) p n 0 (omega arith)) 1 1 (omega arith) (omega arith))
+  rows-rise (chosenVoid q w) i n p up j m = first-row i 1 p up j (i + 1) (rowOver ls i 1 q n 0 ∷ []) (omega arith) (first-row i 1 q n 0 (i + 1) [] (omega arith) (none i 1))
+  rows-rise (chosen q w v) i n p up j m =
+      first-row i (2 + width v) p up j (i + (2 + width v)) (rowsOf ls v (2 + i) (suc n) q n 0) (omega arith)
+      (among i (2 + i) (2 + i + width v) (i + (2 + width v)) (rowsOf ls v (2 + i) (suc n) q n 0) (rows-rise v (2 + i) (suc n) q n 0 (omega arith)) 2 0 (omega arith) (omega arith))
+  rows-rise (chosenInt q w) i n p up j m = first-row i 1 p up j (i + 1) (rowOver ls i 1 q n 0 ∷ []) (omega arith) (first-row i 1 q n 0 (i + 1) [] (omega arith) (none i 1))
+  rows-rise (last v) i n p up j m = rows-rise v i n p up j m
+  rows-rise (more v l) i n p up j m =
+      rises-append (startIn e ls i) (startIn e ls (i + width v)) (startIn e ls (i + (width v + suc (width l)))) (rowsOf ls v i n p up j) (rowsOf ls l (i + suc (width v)) (n + rowCount v) p up (suc j))
+      (rows-rise v i n p up j (omega arith))
+      (among (i + width v) (i + suc (width v)) (i + suc (width v) + width l) (i + (width v + suc (width l))) (rowsOf ls l (i + suc (width v)) (n + rowCount v) p up (suc j)) (rows-rise l (i + suc (width v)) (n + rowCount v) p up (suc j) (omega arith)) 1 0 (omega arith) (omega arith))
+  rows-rise (listed q l b) i n p up j m =
+      rises-append (startIn e ls i) (startIn e ls (i + width l)) (startIn e ls (i + (width l + width b))) (rowsOf ls l i n q up 0) (rowsOf ls b (i + width l) (n + rowCount l) p up j)
+      (rows-rise l i n q up 0 (omega arith))
+      (among (i + width l) (i + width l) (i + width l + width b) (i + (width l + width b)) (rowsOf ls b (i + width l) (n + rowCount l) p up j) (rows-rise b (i + width l) (n + rowCount l) p up j (omega arith)) 0 0 (omega arith) (omega arith))
+  rows-rise stopped i n p up j m = none i 0
+  rows-rise (itemized t) i n p up j m = rows-rise t i n p up j m
+  rows-rise noItem i n p up j m = none i 0
+  rows-rise (voidItem q w t) i n p up j m =
+      first-row i 1 q up 0 (i + suc (width t)) (rowsOf ls t (suc i) (suc n) p up j) (omega arith)
+      (among i (suc i) (suc i + width t) (i + suc (width t)) (rowsOf ls t (suc i) (suc n) p up j) (rows-rise t (suc i) (suc n) p up j (omega arith)) 1 0 (omega arith) (omega arith))
+  rows-rise (listItem q w l t) i n p up j m =
+      rises-append (startIn e ls i) (startIn e ls (2 + i + width l)) (startIn e ls (i + (2 + (width l + width t)))) (rowsOf ls l (2 + i) n q up 0) (rowsOf ls t (2 + i + width l) (n + rowCount l) p up j)
+      (among i (2 + i) (2 + i + width l) (2 + i + width l) (rowsOf ls l (2 + i) n q up 0) (rows-rise l (2 + i) n q up 0 (omega arith)) 2 0 (omega arith) (omega arith))
+      (among (2 + i + width l) (2 + i + width l) (2 + i + width l + width t) (i + (2 + (width l + width t))) (rowsOf ls t (2 + i + width l) (n + rowCount l) p up j) (rows-rise t (2 + i + width l) (n + rowCount l) p up j (omega arith)) 0 0 (omega arith) (omega arith))
+  rows-rise (unknownItem w t) i n p up j m = among i (suc i) (suc i + width t) (i + suc (width t)) (rowsOf ls t (suc i) n p up j) (rows-rise t (suc i) n p up j (omega arith)) 1 0 (omega arith) (omega arith)
+  rows-rise (unknownListItem w l t) i n p up j m = among i (2 + i + width l) (2 + i + width l + width t) (i + (2 + (width l + width t))) (rowsOf ls t (2 + i + width l) n p up j) (rows-rise t (2 + i + width l) n p up j (omega arith)) (2 + width l) 0 (omega arith) (omega arith)
 
 pub message-rises : (message : List ℕ) (ls : List Lexeme) (t : Tree body) → Spelled 0 message ls → leavesThen t [] ≡ tokensOf ls → StartsRise 0 (messageRows message ls t)
 unfolding messageRows StartsRise
@@ -119,5 +119,5 @@ message-rises message ls t h all =
     let o = spelled-ordered 0 message ls h in
     let end = 0 + length message in
     let n : width t ≡ length ls = omega (arith, leaves-width t [], ap length all, tokens-length ls) in
-    let r = rows-rise 0 end ls o t 0 1 0 0 (omega arith) in
-    (omega arith, rises-starts 0 (startIn end ls (0 + width t)) (rowsOf ls t 0 1 0 0) (rises-wide 0 (startIn end ls 0) (rowsOf ls t 0 1 0 0) (startIn end ls (0 + width t)) (startIn end ls (0 + width t)) r (omega arith) (omega arith)))
+    let r = rows-rise 0 end ls o t 0 1 0 0 0 (omega arith) in
+    (omega arith, rises-starts 0 (startIn end ls (0 + width t)) (rowsOf ls t 0 1 0 0 0) (rises-wide 0 (startIn end ls 0) (rowsOf ls t 0 1 0 0 0) (startIn end ls (0 + width t)) (startIn end ls (0 + width t)) r (omega arith) (omega arith)))

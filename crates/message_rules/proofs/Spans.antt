@@ -68,50 +68,50 @@ module _ (ls : List Lexeme) (at end : ℕ) (o : Ordered at ls end) (s e : ℕ) w
   pub part : (i n k m : ℕ) → Covers i n → i ≤ k → k + m ≤ i + n → Covers k m
   part i n k m c a b = record { there = omega (arith, c .there); above = λ j x y. c .above j (omega arith) (omega arith); below = λ j x y. c .below j (omega arith) (omega arith) }
 
-  pub row-inside : (i n p up : ℕ) → 1 ≤ n → Covers i n → (s ≤ rowOver ls i n p up .start) × (rowOver ls i n p up .start ≤ rowOver ls i n p up .end) × (rowOver ls i n p up .end ≤ e)
+  pub row-inside : (i n p up j : ℕ) → 1 ≤ n → Covers i n → (s ≤ rowOver ls i n p up j .start) × (rowOver ls i n p up j .start ≤ rowOver ls i n p up j .end) × (rowOver ls i n p up j .end ≤ e)
   unfolding rowOver lexemeAt
-  row-inside i n p up m c =
+  row-inside i n p up j m c =
       let there : i + n ≤ length ls = c .there in
       let a = ordered-at at end ls o i (omega arith) in
       let b = ordered-up at end ls o i (i + n - 1) (omega arith) (omega arith) in
       (c .above i (omega arith) (omega arith), omega (arith, a .1, b .1), c .below (i + n - 1) (omega arith) (omega arith))
 
-  one-row : (i n p up : ℕ) (rs : List Row) → 1 ≤ n → Covers i n → Inside s e rs → Inside s e (rowOver ls i n p up ∷ rs)
+  one-row : (i n p up j : ℕ) (rs : List Row) → 1 ≤ n → Covers i n → Inside s e rs → Inside s e (rowOver ls i n p up j ∷ rs)
   unfolding Inside
-  one-row i n p up rs m c h = let g = row-inside i n p up m c in (g .0, g .1, g .2, h)
+  one-row i n p up j rs m c h = let g = row-inside i n p up j m c in (g .0, g .1, g .2, h)
 
-  pub rows-inside : {z : TreeSort} (t : Tree z) (i n p up : ℕ) → Covers i (width t) → Inside s e (rowsOf ls t i n p up)
+  pub rows-inside : {z : TreeSort} (t : Tree z) (i n p up j : ℕ) → Covers i (width t) → Inside s e (rowsOf ls t i n p up j)
   unfolding rowsOf width Inside
-  rows-inside (unknownWord w) i n p up c = tt
-  rows-inside (unknownString w) i n p up c = tt
-  rows-inside (unknownBraces ts) i n p up c = tt
-  rows-inside (unknownPair w v) i n p up c = tt
-  rows-inside (unknownLast v) i n p up c = tt
-  rows-inside (unknownMore v l) i n p up c = tt
-  rows-inside (leaf t) i n p up c = one-row i 1 p up [] (omega arith) c tt
-  rows-inside (braced b) i n p up c = one-row i (width b + 2) p up (rowsOf ls b (suc i) (suc n) p n) (omega arith) c (rows-inside b (suc i) (suc n) p n (part i (width b + 2) (suc i) (width b) c (omega arith) (omega arith)))
-  rows-inside (chosenVoid q w) i n p up c = one-row i 1 p up (rowOver ls i 1 q n ∷ []) (omega arith) c (one-row i 1 q n [] (omega arith) c tt)
-  rows-inside (chosen q w v) i n p up c = one-row i (2 + width v) p up (rowsOf ls v (2 + i) (suc n) q n) (omega arith) c (rows-inside v (2 + i) (suc n) q n (part i (2 + width v) (2 + i) (width v) c (omega arith) (omega arith)))
-  rows-inside (chosenInt q w) i n p up c = one-row i 1 p up (rowOver ls i 1 q n ∷ []) (omega arith) c (one-row i 1 q n [] (omega arith) c tt)
-  rows-inside (last v) i n p up c = rows-inside v i n p up c
-  rows-inside (more v l) i n p up c =
-      inside-append s e (rowsOf ls v i n p up) (rowsOf ls l (i + suc (width v)) (n + rowCount v) p up)
-      (rows-inside v i n p up (part i (width v + suc (width l)) i (width v) c (omega arith) (omega arith)))
-      (rows-inside l (i + suc (width v)) (n + rowCount v) p up (part i (width v + suc (width l)) (i + suc (width v)) (width l) c (omega arith) (omega arith)))
-  rows-inside (listed q l b) i n p up c =
-      inside-append s e (rowsOf ls l i n q up) (rowsOf ls b (i + width l) (n + rowCount l) p up)
-      (rows-inside l i n q up (part i (width l + width b) i (width l) c (omega arith) (omega arith)))
-      (rows-inside b (i + width l) (n + rowCount l) p up (part i (width l + width b) (i + width l) (width b) c (omega arith) (omega arith)))
-  rows-inside stopped i n p up c = tt
-  rows-inside (itemized t) i n p up c = rows-inside t i n p up c
-  rows-inside noItem i n p up c = tt
-  rows-inside (voidItem q w t) i n p up c = one-row i 1 q up (rowsOf ls t (suc i) (suc n) p up) (omega arith) (part i (suc (width t)) i 1 c (omega arith) (omega arith)) (rows-inside t (suc i) (suc n) p up (part i (suc (width t)) (suc i) (width t) c (omega arith) (omega arith)))
-  rows-inside (listItem q w l t) i n p up c =
-      inside-append s e (rowsOf ls l (2 + i) n q up) (rowsOf ls t (2 + i + width l) (n + rowCount l) p up)
-      (rows-inside l (2 + i) n q up (part i (2 + (width l + width t)) (2 + i) (width l) c (omega arith) (omega arith)))
-      (rows-inside t (2 + i + width l) (n + rowCount l) p up (part i (2 + (width l + width t)) (2 + i + width l) (width t) c (omega arith) (omega arith)))
-  rows-inside (unknownItem w t) i n p up c = rows-inside t (suc i) n p up (part i (suc (width t)) (suc i) (width t) c (omega arith) (omega arith))
-  rows-inside (unknownListItem w l t) i n p up c = rows-inside t (2 + i + width l) n p up (part i (2 + (width l + width t)) (2 + i + width l) (width t) c (omega arith) (omega arith))
+  rows-inside (unknownWord w) i n p up j c = tt
+  rows-inside (unknownString w) i n p up j c = tt
+  rows-inside (unknownBraces ts) i n p up j c = tt
+  rows-inside (unknownPair w v) i n p up j c = tt
+  rows-inside (unknownLast v) i n p up j c = tt
+  rows-inside (unknownMore v l) i n p up j c = tt
+  rows-inside (leaf t) i n p up j c = one-row i 1 p up j [] (omega arith) c tt
+  rows-inside (braced b) i n p up j c = one-row i (width b + 2) p up j (rowsOf ls b (suc i) (suc n) p n 0) (omega arith) c (rows-inside b (suc i) (suc n) p n 0 (part i (width b + 2) (suc i) (width b) c (omega arith) (omega arith)))
+  rows-inside (chosenVoid q w) i n p up j c = one-row i 1 p up j (rowOver ls i 1 q n 0 ∷ []) (omega arith) c (one-row i 1 q n 0 [] (omega arith) c tt)
+  rows-inside (chosen q w v) i n p up j c = one-row i (2 + width v) p up j (rowsOf ls v (2 + i) (suc n) q n 0) (omega arith) c (rows-inside v (2 + i) (suc n) q n 0 (part i (2 + width v) (2 + i) (width v) c (omega arith) (omega arith)))
+  rows-inside (chosenInt q w) i n p up j c = one-row i 1 p up j (rowOver ls i 1 q n 0 ∷ []) (omega arith) c (one-row i 1 q n 0 [] (omega arith) c tt)
+  rows-inside (last v) i n p up j c = rows-inside v i n p up j c
+  rows-inside (more v l) i n p up j c =
+      inside-append s e (rowsOf ls v i n p up j) (rowsOf ls l (i + suc (width v)) (n + rowCount v) p up (suc j))
+      (rows-inside v i n p up j (part i (width v + suc (width l)) i (width v) c (omega arith) (omega arith)))
+      (rows-inside l (i + suc (width v)) (n + rowCount v) p up (suc j) (part i (width v + suc (width l)) (i + suc (width v)) (width l) c (omega arith) (omega arith)))
+  rows-inside (listed q l b) i n p up j c =
+      inside-append s e (rowsOf ls l i n q up 0) (rowsOf ls b (i + width l) (n + rowCount l) p up j)
+      (rows-inside l i n q up 0 (part i (width l + width b) i (width l) c (omega arith) (omega arith)))
+      (rows-inside b (i + width l) (n + rowCount l) p up j (part i (width l + width b) (i + width l) (width b) c (omega arith) (omega arith)))
+  rows-inside stopped i n p up j c = tt
+  rows-inside (itemized t) i n p up j c = rows-inside t i n p up j c
+  rows-inside noItem i n p up j c = tt
+  rows-inside (voidItem q w t) i n p up j c = one-row i 1 q up 0 (rowsOf ls t (suc i) (suc n) p up j) (omega arith) (part i (suc (width t)) i 1 c (omega arith) (omega arith)) (rows-inside t (suc i) (suc n) p up j (part i (suc (width t)) (suc i) (width t) c (omega arith) (omega arith)))
+  rows-inside (listItem q w l t) i n p up j c =
+      inside-append s e (rowsOf ls l (2 + i) n q up 0) (rowsOf ls t (2 + i + width l) (n + rowCount l) p up j)
+      (rows-inside l (2 + i) n q up 0 (part i (2 + (width l + width t)) (2 + i) (width l) c (omega arith) (omega arith)))
+      (rows-inside t (2 + i + width l) (n + rowCount l) p up j (part i (2 + (width l + width t)) (2 + i + width l) (width t) c (omega arith) (omega arith)))
+  rows-inside (unknownItem w t) i n p up j c = rows-inside t (suc i) n p up j (part i (suc (width t)) (suc i) (width t) c (omega arith) (omega arith))
+  rows-inside (unknownListItem w l t) i n p up j c = rows-inside t (2 + i + width l) n p up j (part i (2 + (width l + width t)) (2 + i + width l) (width t) c (omega arith) (omega arith))
 
 pub tokens-length : (ls : List Lexeme) → length (tokensOf ls) ≡ length ls
 unfolding tokensOf
@@ -128,6 +128,6 @@ message-inside message ls t h all =
       omega arith,
       omega arith,
       omega arith,
-      rows-inside ls 0 end o 0 (length message) t 0 1 0 0
+      rows-inside ls 0 end o 0 (length message) t 0 1 0 0 0
           (record { there = omega arith; above = λ j x y. omega arith; below = λ j x y. omega (arith, ordered-at 0 end ls o j (omega arith) .2) }),
     )

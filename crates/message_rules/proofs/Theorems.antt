@@ -1,4 +1,4 @@
--- The theorems on messages, by the sentence that each renders. T9, T11 to T14 and T17 are `read-promise` (Compiled).
+-- The theorems on messages, by the sentence that each renders. T9, T11 to T14 and T17 are `read-promise` (Compiled), T18 of a row's fifth number is `indices-stand` (Indices).
 use mathlib.Core.Path.{_≡_, refl, ap, sym, _∙_}
 use mathlib.Core.Bool.{true}
 use mathlib.Core.List.{List, []}
@@ -79,7 +79,7 @@ module _ (table message : List ℕ) (room : ℕ) (bytes : IsBytes table) (some :
 pub rows-stand : (message : List ℕ) (ls : List Lexeme) (t : Tree body) → Spelled 0 message ls → leaves t ≡ tokensOf ls → RowsStand message ls t
 rows-stand message ls t h all =
     record {
-      root = (rowsOf ls t 0 1 0 0, (unfold messageRows in refl), parents-first ls t 0 1 0 0 (omega arith), message-nested message ls t h all);
+      root = (rowsOf ls t 0 1 0 0 0, (unfold messageRows in refl), parents-first ls t 0 1 0 0 0 (omega arith), message-nested message ls t h all);
       inside = message-inside message ls t h all;
       inOrder = message-rises message ls t h all;
     }

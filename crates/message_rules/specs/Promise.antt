@@ -8,10 +8,11 @@ use lib.ListN.{length, drop}
 use Rattle.numbers.specs.Limits.{rowWidth}
 use Rattle.reading_rules.specs.Record.{recordAt}
 use Rattle.reading_rules.specs.Value.{tokenForm, tokenWithin}
+use Rattle.reading_rules.specs.Schema.{schemaOf}
 use Rattle.reading_rules.specs.Reading.{Tree, body}
 use Rattle.table_rules.specs.Compilable.{Compilable}
 use Rattle.message_rules.specs.Scan.{Lexeme, Spelled}
-use Rattle.message_rules.specs.Rows.{Row, messageRows, cells}
+use Rattle.message_rules.specs.Rows.{Row, messageRows, cells, IndicesStand}
 use Rattle.message_rules.specs.Verdict.{LawfulReading, Within, isUnlawful, MessageAnswer, accepted, refusal, recordsIn}
 
 -- a lawful reading of the message, within the limits, and its rows
@@ -48,5 +49,7 @@ pub record ReadPromise (table message lent : List ℕ) (answer : MessageAnswer) 
   pub unlawful : Compilable table → (ls : List Lexeme) → Spelled 0 message ls → Within message ls → ((n : ℕ) × (place : ℕ) × (answer ≡ refusal n place) × (isUnlawful n ≡ true)) ↔ ((t : Tree body) → LawfulReading (recordsIn table) message ls t → ⊥)
   -- 30: the token at that place has the form of some parameter's type, and lies outside what this allows
   pub outside : (place : ℕ) → answer ≡ refusal 30 place → Outside table message place
+  -- 02 (request 11): "the place of the value in its list, from 0; the root, voids and chosen alternatives have 0"
+  pub indices : Compilable table → (rs : List Row) → Reading table message rs → IndicesStand (schemaOf (recordsIn table)) rs
   -- "Nothing lent is changed."
   pub unchanged : (n place : ℕ) → answer ≡ refusal n place → after ≡ lent

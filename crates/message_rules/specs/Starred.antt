@@ -8,6 +8,7 @@ use lib.Dec.{eqb}
 use lib.ListN.{length, take, drop, replicate}
 use Rattle.classes.specs.Lists.{pick, every, some, notEmpty, runOf, sameBytes}
 use Rattle.classes.specs.Bytes.{isBlank, isDigit, isLetter, isRunByte, isMark, isNameByte, isTagByte, isWordByte, isStringByte}
+use Rattle.numbers.specs.Limits.{rowWidth}
 use Rattle.numbers.specs.Decimal.{readDigits, isDigits, isNatural, isIntLike, isInt, intWithin, biasedInt}
 use Rattle.numbers.specs.Range.{numberWhen, readInt, readCount, readUpper, beforeSides, secondDot, cutRange, onSides, lowOf, highOf, bothRead, readIntRange, readCountRange}
 use Rattle.numbers.specs.LittleEndian.{le16, put16, put32, signed}
@@ -37,9 +38,9 @@ unfoldable pub bytesOf : String → List ℕ
 bytesOf noMore = []
 bytesOf (c then s) = code c ∷ bytesOf s
 
--- "parameter, parent row, start, end"
+-- "parameter, parent row, start, end", and "the place of the value in its list"
 pub data CaseRow : Type 0 where
-  row : ℕ → ℕ → ℕ → ℕ → CaseRow
+  row : ℕ → ℕ → ℕ → ℕ → ℕ → CaseRow
 
 -- a definition's text and what is said of it: its refusal; how many records and bytes its table has, and the bytes of one record;
 -- or a message, and its rows or its refusal
@@ -78,11 +79,11 @@ nthRecord (suc n) t = nthRecord n (drop (le16 t 0) t)
 -- the numbers of the rows, one after the other
 unfoldable pub numbersOf : List CaseRow → List ℕ
 numbersOf [] = []
-numbersOf (row p u s e ∷ rs) = p ∷ u ∷ s ∷ e ∷ numbersOf rs
+numbersOf (row p u s e j ∷ rs) = p ∷ u ∷ s ∷ e ∷ j ∷ numbersOf rs
 
 -- the message is accepted with these rows, and the lent numbers beyond them stay
 unfoldable pub acceptedAs : MessageAnswer → List ℕ → List CaseRow → Bool
-acceptedAs (accepted k) after rs = eqb k (length rs) && sameBytes after (numbersOf rs ++ drop (4 * length rs) lentNumbers)
+acceptedAs (accepted k) after rs = eqb k (length rs) && sameBytes after (numbersOf rs ++ drop (rowWidth * length rs) lentNumbers)
 acceptedAs (refusedAt m q) after rs = false
 
 -- the message is refused so, and the lent numbers stay
@@ -122,8 +123,9 @@ starredCases =
     -- D gives five records, 139 bytes. Record 3 is 19 00 03 00 00 00 00 00 01 00 FF FF 00 00 00 00 30 75 00 00 FF FF 01 00 64. (Not starred.)
     tabled text·D 5 139 3 (0x19 ∷ 0x00 ∷ 0x03 ∷ 0x00 ∷ 0x00 ∷ 0x00 ∷ 0x00 ∷ 0x00 ∷ 0x01 ∷ 0x00 ∷ 0xFF ∷ 0xFF ∷ 0x00 ∷ 0x00 ∷ 0x00 ∷ 0x00 ∷ 0x30 ∷ 0x75 ∷ 0x00 ∷ 0x00 ∷ 0xFF ∷ 0xFF ∷ 0x01 ∷ 0x00 ∷ 0x64 ∷ [])
     ∷
-    -- * D, `17 surveyed=20240310 d=812,790`: rows (0, 4294967295, 0, 30), (1, 0, 0, 2), (2, 0, 12, 20), (3, 0, 23, 26), (3, 0, 27, 30).
-    read text·D "17 surveyed=20240310 d=812,790" (row 0 4294967295 0 30 ∷ row 1 0 0 2 ∷ row 2 0 12 20 ∷ row 3 0 23 26 ∷ row 3 0 27 30 ∷ [])
+    -- * D, `17 surveyed=20240310 d=812,790`: rows (0, 4294967295, 0, 30), (1, 0, 0, 2), (2, 0, 12, 20), (3, 0, 23, 26), (3, 0, 27, 30);
+    -- by 02 (request 11) with a fifth number: "D's first case ends in 0, 0, 0, 0, 1."
+    read text·D "17 surveyed=20240310 d=812,790" (row 0 4294967295 0 30 0 ∷ row 1 0 0 2 0 ∷ row 2 0 12 20 0 ∷ row 3 0 23 26 0 ∷ row 3 0 27 30 1 ∷ [])
     ∷
     -- * D, empty: 27 at 0.
     refusedMessage text·D "" 27 0
@@ -141,7 +143,7 @@ starredCases =
     refusedMessage text·D "17 surveyed=20240310 d=" 23 23
     ∷
     -- * E, empty: accepted, 1 row. (The root's: 0, 4,294,967,295, 0, length.)
-    read text·E "" (row 0 4294967295 0 0 ∷ [])
+    read text·E "" (row 0 4294967295 0 0 0 ∷ [])
     ∷
     -- * E, `surveyed=20240310`: 23 at 8.
     refusedMessage text·E "surveyed=20240310" 23 8
@@ -168,7 +170,7 @@ requestedCases =
     refusedMessage text·D "17 surveyed=19000229 d=1" 30 12
     ∷
     -- 2: "`20000229` stays accepted."
-    read text·D "17 surveyed=20000229 d=1" (row 0 4294967295 0 24 ∷ row 1 0 0 2 ∷ row 2 0 12 20 ∷ row 3 0 23 24 ∷ [])
+    read text·D "17 surveyed=20000229 d=1" (row 0 4294967295 0 24 0 ∷ row 1 0 0 2 0 ∷ row 2 0 12 20 0 ∷ row 3 0 23 24 0 ∷ [])
     ∷
     -- 4: "`017` stays 24."
     refusedMessage text·D "017" 24 0

@@ -24,7 +24,7 @@ NoValue s f r = (before after : List ℕ) → EndsValue (noneAt (tokensAt (f .ba
 pub record Leaf (f : Frame) (number a e : ℕ) (before after : List ℕ) (at next : ℕ) : Type 0 where
   pub fits : number ≡ 0
   pub same : at ≡ e
-  pub written : after ≡ sets before (rowWidth * f .row) (cells (record { parameter = f .parameter; parent = f .parent; start = f .base + a; end = f .base + e } ∷ []))
+  pub written : after ≡ sets before (rowWidth * f .row) (cells (record { parameter = f .parameter; parent = f .parent; start = f .base + a; end = f .base + e; index = f .index } ∷ []))
   pub sized : next ≡ f .row + 1
 
 pub record Misfit (f : Frame) (number a n q : ℕ) : Type 0 where
@@ -43,7 +43,7 @@ OpenedAt s f (opened.Refused n q) = (bodyOf : ℕ → List Token → Result (Tre
 pub record Shut (s : List ℕ) (f : Frame) (a at row : ℕ) (before after : List ℕ) (e next : ℕ) : Type 0 where
   pub place : ℕ
   pub step : Step (cutAt (f .base) s at) (f .base) s at closing place e
-  pub written : after ≡ sets before (rowWidth * f .row) (cells (record { parameter = f .parameter; parent = f .parent; start = f .base + a; end = f .base + e } ∷ []))
+  pub written : after ≡ sets before (rowWidth * f .row) (cells (record { parameter = f .parameter; parent = f .parent; start = f .base + a; end = f .base + e; index = f .index } ∷ []))
   pub same : next ≡ row
 
 abbrev pub ShutAt : List ℕ → Frame → ℕ → ℕ → ℕ → List ℕ → List ℕ → Got → Type 0

@@ -30,7 +30,7 @@ pub fn no_value(s: &[u8], f: Frame) -> Got
 // A token that was judged, from start to past.
 fn leaf(rows: &mut [u32], f: Frame, number: u32, start: usize, past: Cursor) -> Got
     requires { ⌜ (f .base + past .at ≤ messageLimit) × (start ≤ past .at) ⌝ }
-    requires { ⌜ (f .row < 4294967296) × (f .parent < 4294967296) × (f .parameter < 4294967296) ⌝ }
+    requires { ⌜ (f .row < 4294967296) × (f .parent < 4294967296) × (f .parameter < 4294967296) × (f .index < 4294967296) ⌝ }
     ensures { λ r. ⌜ LeafAt f number start (past .at) (now (rows .entry)) (now (rows .exit)) r ⌝ }
 {
     if number != 0 {
@@ -44,6 +44,7 @@ fn leaf(rows: &mut [u32], f: Frame, number: u32, start: usize, past: Cursor) -> 
             parent: f.parent,
             start: f.base + start,
             end: f.base + past.at,
+            index: f.index,
         },
     );
     Got::Done(past, f.row + 1)
@@ -116,7 +117,7 @@ pub fn open_brace(s: &[u8], f: Frame) -> Opened
 // The `}` after a body that ended at at, and the row over all from start on.
 pub fn shut(s: &[u8], rows: &mut [u32], f: Frame, start: usize, at: usize, row: usize) -> Got
     requires { ⌜ (f .base + length (now s) ≤ messageLimit) × (start ≤ length (now s)) ⌝ }
-    requires { ⌜ (f .row < 4294967296) × (f .parent < 4294967296) × (f .parameter < 4294967296) ⌝ }
+    requires { ⌜ (f .row < 4294967296) × (f .parent < 4294967296) × (f .parameter < 4294967296) × (f .index < 4294967296) ⌝ }
     ensures { λ r. ⌜ ShutAt (now (s .entry)) f start at row (now (rows .entry)) (now (rows .exit)) r ⌝ }
 {
     let u = Cursor { at: at };
@@ -131,6 +132,7 @@ pub fn shut(s: &[u8], rows: &mut [u32], f: Frame, start: usize, at: usize, row: 
                 parent: f.parent,
                 start: f.base + start,
                 end: f.base + past.at,
+                index: f.index,
             },
         );
         return Got::Done(past, row);

@@ -91,3 +91,14 @@ in-cons k j l h f g = same-case j k f (λ e. g (omega arith))
 pub in-nil : {X : Type 0} (k : ℕ) → In k [] → X
 unfolding times
 in-nil k h = absurd (omega arith)
+
+pub once-tail : (k : ℕ) (ks : List ℕ) → Once (k ∷ ks) → Once ks
+unfolding times
+once-tail k ks o q = omega (arith, o q)
+
+pub once-apart : (k : ℕ) (ks : List ℕ) → Once (k ∷ ks) → (q : ℕ) → In q ks → same k q ≡ 0
+unfolding times
+once-apart k ks o q h = omega (arith, o q)
+
+pub out-apart : (k : ℕ) (ks : List ℕ) (q : ℕ) → (In q (k ∷ ks) → ⊥) → same k q ≡ 0
+out-apart k ks q f = same-case k q (λ e. absurd (f (rw (← e) (in-head k ks)))) (λ z. z)

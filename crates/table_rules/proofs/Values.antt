@@ -101,12 +101,21 @@ root-struct : (rs : List Record) → recordAt rs 0 .kind ≡ 8 → (schemaOf rs 
 unfolding schemaOf kindOf coreOf
 root-struct rs k = (ap kindOf k, ap (λ n. coreOf 0 (recordAt rs 0 .target) (kindOf n)) k)
 
-pub rules-root : (limit : ℕ) (rs : List Record) → recordRules limit rs ≡ true → (b : Tree body) × Lawful (schemaOf rs) b × (areTokens (leaves (braced b)) ≡ true)
-unfolding rootNoStruct kindIsCompound
-rules-root limit rs e =
+-- its root is a struct
+rules-kind : (limit : ℕ) (rs : List Record) → recordRules limit rs ≡ true → recordAt rs 0 .kind ≡ 8
+unfolding rootNoStruct
+rules-kind limit rs e =
     let x = rules-last limit rs e in
-    let k : recordAt rs 0 .kind ≡ 8 = eqb-true (recordAt rs 0 .kind) 8 (not-false (eqb (recordAt rs 0 .kind) 8) (none-of rootNoStruct rs (x .1) 0 (x .0))) in
-    let v = rules-values limit rs e 0 (x .0) (ap kindIsCompound k) in
+    eqb-true (recordAt rs 0 .kind) 8 (not-false (eqb (recordAt rs 0 .kind) 8) (none-of rootNoStruct rs (x .1) 0 (x .0)))
+
+pub root-kind : (limit : ℕ) (rs : List Record) → recordRules limit rs ≡ true → schemaOf rs .kind (schemaOf rs .core 0) ≡ struct
+root-kind limit rs e = let s = root-struct rs (rules-kind limit rs e) in ap (schemaOf rs .kind) (s .1) ∙ s .0
+
+pub rules-root : (limit : ℕ) (rs : List Record) → recordRules limit rs ≡ true → (b : Tree body) × Lawful (schemaOf rs) b × (areTokens (leaves (braced b)) ≡ true)
+unfolding kindIsCompound
+rules-root limit rs e =
+    let k = rules-kind limit rs e in
+    let v = rules-values limit rs e 0 (rules-last limit rs e .0) (ap kindIsCompound k) in
     let s = root-struct rs k in
     root-body (schemaOf rs) (s .0) (s .1) (v .0) (v .1) (v .2)
 

@@ -8,7 +8,7 @@ use message::Verdict;
 use test_frames::Front;
 use test_frames::Head;
 
-// Lines are written out once they have as many bytes. The longest line, of 25,000 rows, has at most
+// Lines are written out once they have as many bytes. The longest line, of 20,000 rows, has at most
 // 1,100,017 bytes and fits behind them.
 const MANY: usize = 65_536;
 

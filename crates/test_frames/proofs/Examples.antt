@@ -13,9 +13,9 @@ table-kept : tableLine 2 (0x1A ∷ 0xFF ∷ 0xA5 ∷ []) ≡ 111 ∷ 107 ∷ 32 
 unfolding tableLine okText spaced decimal placesFrom each hexByte keptText every
 table-kept = refl
 
--- "ok 1 0 7 0 3 touched", where a number behind the row is changed
-rows-touched : rowsLine 1 (0 ∷ 7 ∷ 0 ∷ 3 ∷ 0xA5A5A5A4 ∷ [])
-    ≡ 111 ∷ 107 ∷ 32 ∷ 49 ∷ 32 ∷ 48 ∷ 32 ∷ 55 ∷ 32 ∷ 48 ∷ 32 ∷ 51 ∷ 32 ∷ 116 ∷ 111 ∷ 117 ∷ 99 ∷ 104 ∷ 101 ∷ 100 ∷ 10 ∷ []
+-- "ok 1 0 7 0 3 1 touched", where a number behind the row is changed
+rows-touched : rowsLine 1 (0 ∷ 7 ∷ 0 ∷ 3 ∷ 1 ∷ 0xA5A5A5A4 ∷ [])
+    ≡ 111 ∷ 107 ∷ 32 ∷ 49 ∷ 32 ∷ 48 ∷ 32 ∷ 55 ∷ 32 ∷ 48 ∷ 32 ∷ 51 ∷ 32 ∷ 49 ∷ 32 ∷ 116 ∷ 111 ∷ 117 ∷ 99 ∷ 104 ∷ 101 ∷ 100 ∷ 10 ∷ []
 unfolding rowsLine okText spaced decimal placesFrom each keptText every
 rows-touched = refl
 

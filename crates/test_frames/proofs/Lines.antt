@@ -8,6 +8,7 @@ use native.Mathlib.Nat.{sub-zero}
 use native.Mathlib.Omega.{arith}
 use lib.ListN.{length, take, drop, drop-of-length-le}
 use lib.Seq.{take-all}
+use Rattle.numbers.specs.Limits.{rowWidth}
 use Rattle.test_frames.specs.Lent.{keptFrom}
 use Rattle.classes.specs.Lists.{part}
 use Rattle.text.specs.Text.{Wrote, each, hexByte, spaced}
@@ -36,12 +37,12 @@ drop-least n l (no h) =
     let e : min n (length l) ≡ length l = omega (arith, h) in
     rw e (drop-of-length-le l {i = length l} (omega arith) ∙ sym (drop-of-length-le l {i = n} (omega (arith, h))))
 
-pub rows-line : {o o₁ : List ℕ} {at r : ℕ} (count n : ℕ) (lent : List ℕ) (kept : Bool) → n ≡ min (4 * count) (length lent) → kept ≡ keptFrom 0xA5A5A5A5 lent n
+pub rows-line : {o o₁ : List ℕ} {at r : ℕ} (count n : ℕ) (lent : List ℕ) (kept : Bool) → n ≡ min (rowWidth * count) (length lent) → kept ≡ keptFrom 0xA5A5A5A5 lent n
     → Wrote (okText ++ spaced count ++ each spaced (take n lent) ++ keptText kept) o at o₁ r → Wrote (rowsLine count lent) o at o₁ r
 unfolding rowsLine
 rows-line count n lent kept e k u =
-    let d = decLe (4 * count) (length lent) in
-    rw (k, e, take-least (4 * count) lent d, drop-least (4 * count) lent d) at u
+    let d = decLe (rowWidth * count) (length lent) in
+    rw (k, e, take-least (rowWidth * count) lent d, drop-least (rowWidth * count) lent d) at u
 
 pub bytes-line : {o o₁ : List ℕ} {at r : ℕ} (l : List ℕ) → (length l ≡ 0 → ⊥)
     → Wrote ((98 ∷ 121 ∷ 116 ∷ 101 ∷ 115 ∷ 32 ∷ []) ++ each hexByte l ++ (10 ∷ [])) o at o₁ r → Wrote (bytesLine l) o at o₁ r

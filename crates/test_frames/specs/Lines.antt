@@ -3,6 +3,7 @@ use mathlib.Core.Bool.{Bool, true, false}
 use mathlib.Core.List.{List, [], _∷_, _++_}
 use Prim.Native.Nat.{ℕ, _*_}
 use lib.ListN.{take}
+use Rattle.numbers.specs.Limits.{rowWidth}
 use Rattle.test_frames.specs.Lent.{keptFrom}
 use Rattle.text.specs.Text.{each, hexByte, spaced}
 
@@ -24,10 +25,10 @@ unfoldable pub tableLine : ℕ → List ℕ → List ℕ
 tableLine length lent =
     okText ++ spaced length ++ (32 ∷ []) ++ each hexByte (take length lent) ++ keptText (keptFrom 0xA5 lent length)
 
--- "ok COUNT n n n n .. kept"
+-- "ok COUNT n n n n n .. kept"
 unfoldable pub rowsLine : ℕ → List ℕ → List ℕ
 rowsLine count lent =
-    okText ++ spaced count ++ each spaced (take (4 * count) lent) ++ keptText (keptFrom 0xA5A5A5A5 lent (4 * count))
+    okText ++ spaced count ++ each spaced (take (rowWidth * count) lent) ++ keptText (keptFrom 0xA5A5A5A5 lent (rowWidth * count))
 
 -- "refused NUMBER PLACE kept", where the lent numbers were each of some value
 unfoldable pub refusedLine : ℕ → ℕ → ℕ → List ℕ → List ℕ

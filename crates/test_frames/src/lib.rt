@@ -8,6 +8,7 @@ ghost use lib.Seq.{sets};
 ghost use Rattle.test_frames.specs.Frame.{frameHead, lengthOf, frontBy};
 ghost use Rattle.test_frames.specs.Lent.{keptFrom, Words};
 ghost use Rattle.classes.specs.Lists.{part};
+ghost use Rattle.numbers.specs.Limits.{rowWidth};
 ghost use Rattle.text.specs.Text.{Wrote, each, spaced};
 ghost use Rattle.test_frames.specs.Lines.{keptText, refusedText, tableLine, rowsLine, refusedLine, yesLine, bytesLine};
 
@@ -227,12 +228,12 @@ pub fn put_no_table(out: &mut [u8], at: usize, number: u32, place: usize, lent: 
 
 // How many numbers some rows have, as far as they lie within some numbers.
 fn cells(count: usize, within: usize) -> usize
-    ensures { λ r. ⌜ r ≡ min (4 * count) within ⌝ }
+    ensures { λ r. ⌜ r ≡ min (rowWidth * count) within ⌝ }
 {
-    if within / 4 < count {
+    if within / numbers::ROW_WIDTH < count {
         return within;
     }
-    4 * count
+    numbers::ROW_WIDTH * count
 }
 
 // The line of some rows in the lent numbers.

@@ -4,8 +4,9 @@
 /// A table is never longer.
 pub const TABLE_MOST: usize = 22_272;
 
-/// The numbers of a row: parameter, parent row, start, end.
-pub const ROW_WIDTH: usize = 4;
+/// The numbers of a row: parameter, parent row, start, end, index (the place of the value in its
+/// list, from 0).
+pub const ROW_WIDTH: usize = 5;
 
 /// Why a definition (1 to 11) or a message (20 to 30) is refused, and the place that goes with it.
 #[derive(Clone, Copy, Debug, PartialEq, Eq)]

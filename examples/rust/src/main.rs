@@ -18,7 +18,7 @@ fn print_reading(table: &[u8], message: &[u8]) {
     println!("rows: {count}");
     for (row, r) in rows.chunks(ROW_WIDTH).take(count).enumerate() {
         let part = String::from_utf8_lossy(lumas::row_bytes(message, &rows, row));
-        println!("{} {} {} {}: {part}", r[0], r[1], r[2], r[3]);
+        println!("{} {} {} {} {}: {part}", r[0], r[1], r[2], r[3], r[4]);
     }
 }
 

@@ -4,6 +4,7 @@
 use crate::definition;
 use crate::generate::Rng;
 use crate::plain;
+use crate::ROW_WIDTH;
 use std::hint::black_box;
 use std::path::Path;
 use std::time::{Duration, Instant};
@@ -111,7 +112,7 @@ impl Input {
     /// A reader's answers and all lent numbers after each.
     fn answers(&self, reader: Reader) -> Vec<(Answer, Vec<u32>)> {
         let answer = |message: &Vec<u8>| {
-            let mut rows = vec![LENT; 4 * MOST_ROWS + 3];
+            let mut rows = vec![LENT; ROW_WIDTH * MOST_ROWS + ROW_WIDTH - 1];
             let answer = reader(&self.table, message, &mut rows);
             (answer, rows)
         };
@@ -145,7 +146,7 @@ impl Input {
 
     /// Each reader's best time for one message, in nanoseconds.
     fn best(&self, readers: &[Reader]) -> Vec<f64> {
-        let mut rows = vec![LENT; 4 * MOST_ROWS];
+        let mut rows = vec![LENT; ROW_WIDTH * MOST_ROWS];
         let turns = |&reader: &Reader| (reader, self.turns(reader, &mut rows));
         let timed: Vec<(Reader, u32)> = readers.iter().map(turns).collect();
         let mut best = vec![f64::INFINITY; readers.len()];
@@ -370,7 +371,7 @@ mod tests {
 
     /// The reference program's answer to a message and all lent numbers after.
     fn reference(table: &[u8], message: &[u8]) -> (Answer, Vec<u32>) {
-        let mut rows = vec![LENT; 4 * MOST_ROWS + 3];
+        let mut rows = vec![LENT; ROW_WIDTH * MOST_ROWS + ROW_WIDTH - 1];
         let answer = message::read_into(table, message, &mut rows);
         (
             answer.map_err(|refusal| (refusal.number, refusal.place)),

@@ -2,7 +2,7 @@
 
 use crate::generate::{self, Entry, Frame, Rng, Stream, Token, AMPLE};
 use crate::record::{self, Record};
-use crate::{definition, message, table, Refusal, Row};
+use crate::{definition, message, table, Refusal, Row, ROW_WIDTH};
 
 /// A part of a lawful reading.
 #[derive(Clone, Debug, PartialEq, Eq)]
@@ -641,7 +641,7 @@ impl Rows<'_> {
                 Tree::List(f, row) => self.list(*f, row, parent),
                 Tree::Item(f, parts) => match parts.last() {
                     Some(Tree::List(_, row)) => self.list(*f, row, parent),
-                    Some(tag) => self.value(*f, tag, parent),
+                    Some(tag) => self.value(*f, tag, parent, 0),
                     None => {}
                 },
                 _ => {}
@@ -651,19 +651,20 @@ impl Rows<'_> {
 
     /// The values of a list; every second part is a comma.
     fn list(&mut self, f: usize, row: &[Tree], parent: u32) {
-        for value in row.iter().step_by(2) {
-            self.value(f, value, parent);
+        for (index, value) in row.iter().step_by(2).enumerate() {
+            self.value(f, value, parent, index as u32);
         }
     }
 
-    fn value(&mut self, f: usize, value: &Tree, parent: u32) {
+    fn value(&mut self, f: usize, value: &Tree, parent: u32, index: u32) {
         let (first, last) = ends(value);
         let own = self.out.len() as u32;
         let (start, end) = (self.spans[first].0, self.spans[last].1);
-        self.out.push([f as u32, parent, start as u32, end as u32]);
+        self.out
+            .push([f as u32, parent, start as u32, end as u32, index]);
         match value {
             Tree::Struct(parts) => self.body(&parts[1], own),
-            Tree::Choice(a, parts) => self.value(*a, &parts[parts.len() - 1], own),
+            Tree::Choice(a, parts) => self.value(*a, &parts[parts.len() - 1], own, 0),
             _ => {}
         }
     }
@@ -736,7 +737,7 @@ fn compare(tally: &mut Tally, rng: &mut Rng, entry: &Entry, row: &[Token]) {
     match (&answer, trees.first()) {
         (Ok(rows), Some(tree)) => {
             tally.accepted += 1;
-            let root = [0, u32::MAX, 0, bytes.len() as u32];
+            let root = [0, u32::MAX, 0, bytes.len() as u32, 0];
             let mut own = Rows {
                 spans: &spans,
                 out: vec![root],
@@ -1223,7 +1224,7 @@ fn check_frame(tally: &mut Tally, frame: &Frame) {
 
 fn check_bytes(tally: &mut Tally, frame: &Frame, rows: &[u32], row: usize) {
     let span = rows
-        .chunks_exact(4)
+        .chunks_exact(ROW_WIDTH)
         .nth(row)
         .map(|r| r[2] as usize..r[3] as usize);
     let part = span.and_then(|s| frame.b.get(s)).unwrap_or_default();

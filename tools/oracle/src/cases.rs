@@ -204,13 +204,16 @@ const SIMPLE: &[u8] = b"struct r { bool b[0..1]; int<-5..12> i[0..1]; ascii<0..3
 
 const T: &[u8] = b"struct s { time t as ?; ascii<1..3> a; };";
 
+const N: &[u8] = b"struct r { s p[1..*]; void v; }; struct s { int q[1..*]; };";
+const UNTAGGED: &[u8] = b"struct r { int a[1..3] as ?; };";
+
 const FIRST_MESSAGE: &[u8] = b"17 surveyed=20240310 d=812,790";
 const FIRST_ROWS: [Row; 5] = [
-    [0, R, 0, 30],
-    [1, 0, 0, 2],
-    [2, 0, 12, 20],
-    [3, 0, 23, 26],
-    [3, 0, 27, 30],
+    [0, R, 0, 30, 0],
+    [1, 0, 0, 2, 0],
+    [2, 0, 12, 20, 0],
+    [3, 0, 23, 26, 0],
+    [3, 0, 27, 30, 1],
 ];
 
 /// Every case, one a line where it fits.
@@ -385,7 +388,7 @@ pub static CASES: &[Case] = &[
         want: Refused(20, 0),
     },
     made_message("over 16,384 bytes", NOTHING, || vec![b'('; 16_385], Refused(21, 16_384)),
-    made_message("16,384 bytes", NOTHING, || vec![b' '; 16_384], Rows(&[[0, R, 0, 16_384]])),
+    made_message("16,384 bytes", NOTHING, || vec![b' '; 16_384], Rows(&[[0, R, 0, 16_384, 0]])),
     // 3: message tokens.
     read("`//c` is a word", D, b"17 surveyed=20240310 d=1 //c", Count(4)),
     read("22 before 23", D, b"= (", Refused(22, 2)),
@@ -408,31 +411,42 @@ pub static CASES: &[Case] = &[
     read("balanced", NOTHING, b"x={a} b={c}", Count(1)),
     read("any balanced tokens", D, b"17 z={ = , = } surveyed=20240310 d=1", Count(4)),
     read("only a word takes `=`", D, b"17 z=\"x\"=1", Refused(23, 8)),
-    read("complete before b", LISTS, b"1,2", Rows(&[[0, R, 0, 3], [1, 0, 0, 1], [1, 0, 2, 3]])),
+    read("complete before b", LISTS, b"1,2", Rows(&[[0, R, 0, 3, 0], [1, 0, 0, 1, 0], [1, 0, 2, 3, 1]])),
     read("first list missing", LISTS, b"", Refused(27, 0)),
     read("both lists, no item", LISTS, b"1 true", Refused(27, 6)),
     read("both lists and the item", LISTS, b"1 true c=3", Count(4)),
     read("no tag at b's place", LISTS, b"1 c=3", Refused(24, 2)),
     // 5: rows and spans.
-    read("S, date", S, b"c=on=20240310", Rows(&[[0, R, 0, 13], [1, 0, 2, 13], [2, 1, 5, 13]])),
-    read("S, struct", S, b"c=box={k=1}", Rows(&[[0, R, 0, 11], [1, 0, 2, 11], [3, 1, 6, 11], [4, 2, 9, 10]])),
+    read("S, date", S, b"c=on=20240310", Rows(&[[0, R, 0, 13, 0], [1, 0, 2, 13, 0], [2, 1, 5, 13, 0]])),
+    read("S, struct", S, b"c=box={k=1}", Rows(&[
+        [0, R, 0, 11, 0], [1, 0, 2, 11, 0], [3, 1, 6, 11, 0], [4, 2, 9, 10, 0],
+    ])),
     read("U, chain", U, b"x=deep=deep=7", Rows(&[
-        [0, R, 0, 13], [1, 0, 2, 13], [5, 1, 7, 13], [5, 2, 12, 13], [3, 3, 12, 13],
+        [0, R, 0, 13, 0], [1, 0, 2, 13, 0], [5, 1, 7, 13, 0], [5, 2, 12, 13, 0], [3, 3, 12, 13, 0],
     ])),
     read("U, void twice", U, b"x=any,any", Rows(&[
-        [0, R, 0, 9], [1, 0, 2, 5], [4, 1, 2, 5], [1, 0, 6, 9], [4, 3, 6, 9],
+        [0, R, 0, 9, 0], [1, 0, 2, 5, 0], [4, 1, 2, 5, 0], [1, 0, 6, 9, 1], [4, 3, 6, 9, 0],
     ])),
     read("U, blanks", U, b"x = deep = 7 , any", Rows(&[
-        [0, R, 0, 18], [1, 0, 4, 12], [5, 1, 11, 12], [3, 2, 11, 12], [1, 0, 15, 18], [4, 4, 15, 18],
+        [0, R, 0, 18, 0], [1, 0, 4, 12, 0], [5, 1, 11, 12, 0], [3, 2, 11, 12, 0], [1, 0, 15, 18, 1], [4, 4, 15, 18, 0],
     ])),
-    read("X", X, b"p={q=4}", Rows(&[[0, R, 0, 7], [1, 0, 2, 7], [3, 1, 5, 6]])),
+    read("X", X, b"p={q=4}", Rows(&[[0, R, 0, 7, 0], [1, 0, 2, 7, 0], [3, 1, 5, 6, 0]])),
     read("V, both", V, b"v x=any,any", Rows(&[
-        [0, R, 0, 11], [2, 0, 0, 1], [1, 0, 4, 7], [4, 2, 4, 7], [1, 0, 8, 11], [4, 4, 8, 11],
+        [0, R, 0, 11, 0], [2, 0, 0, 1, 0], [1, 0, 4, 7, 0], [4, 2, 4, 7, 0], [1, 0, 8, 11, 1], [4, 4, 8, 11, 0],
     ])),
-    read("a string's quotes", SIMPLE, b" a = \"b c\" ", Rows(&[[0, R, 0, 11], [3, 0, 5, 10]])),
-    read_in("19 numbers lent", D, FIRST_MESSAGE, 19, Refused(29, 5)),
-    read_in("20 numbers lent", D, FIRST_MESSAGE, 20, Rows(&FIRST_ROWS)),
-    read_in("23 numbers lent", D, FIRST_MESSAGE, 23, Rows(&FIRST_ROWS)),
+    read("a string's quotes", SIMPLE, b" a = \"b c\" ", Rows(&[[0, R, 0, 11, 0], [3, 0, 5, 10, 0]])),
+    // The place in a list (02, request 11).
+    read("each list counts anew", N, b"p={q=1,2},{q=3} v", Rows(&[
+        [0, R, 0, 17, 0],
+        [1, 0, 2, 9, 0], [4, 1, 5, 6, 0], [4, 1, 7, 8, 1],
+        [1, 0, 10, 15, 1], [4, 4, 13, 14, 0],
+        [2, 0, 16, 17, 0],
+    ])),
+    read("an untagged list counts too", UNTAGGED, b"5,6", Rows(&[[0, R, 0, 3, 0], [1, 0, 0, 1, 0], [1, 0, 2, 3, 1]])),
+    read_in("20 numbers lent", D, FIRST_MESSAGE, 20, Refused(29, 5)),
+    read_in("24 numbers lent", D, FIRST_MESSAGE, 24, Refused(29, 5)),
+    read_in("25 numbers lent", D, FIRST_MESSAGE, 25, Rows(&FIRST_ROWS)),
+    read_in("29 numbers lent", D, FIRST_MESSAGE, 29, Rows(&FIRST_ROWS)),
     read_in("nothing lent", D, FIRST_MESSAGE, 0, Refused(29, 5)),
     read_in("nothing lent, 27 before 29", D, b"", 0, Refused(27, 0)),
     row_bytes("the root's bytes", FIRST_ROWS.as_flattened(), FIRST_MESSAGE, 0, Bytes(FIRST_MESSAGE)),
@@ -440,12 +454,16 @@ pub static CASES: &[Case] = &[
     row_bytes("the last row's bytes", FIRST_ROWS.as_flattened(), FIRST_MESSAGE, 4, Bytes(b"790")),
     row_bytes("no such row", FIRST_ROWS.as_flattened(), FIRST_MESSAGE, 5, Bytes(b"")),
     row_bytes("far beyond", FIRST_ROWS.as_flattened(), FIRST_MESSAGE, 100_000, Bytes(b"")),
+    row_bytes("24 numbers hold four rows", FIRST_ROWS.as_flattened().split_at(24).0, FIRST_MESSAGE, 4, Bytes(b"")),
+    row_bytes("nine numbers hold one row", FIRST_ROWS.as_flattened().split_at(9).0, FIRST_MESSAGE, 1, Bytes(b"")),
     row_bytes("part of a row", &[0, R, 0], b"abc", 0, Bytes(b"")),
-    row_bytes("reversed", &[0, R, 2, 1], b"abc", 0, Bytes(b"")),
-    row_bytes("past the message", &[0, R, 1, 4], b"abc", 0, Bytes(b"")),
-    row_bytes("to the message's end", &[0, R, 1, 3], b"abc", 0, Bytes(b"bc")),
-    row_bytes("nothing, past the message", &[0, R, 4, 4], b"abc", 0, Bytes(b"")),
-    row_bytes("largest span", &[0, R, 0, R], b"abc", 0, Bytes(b"")),
+    row_bytes("four numbers of a row", &[0, R, 1, 3], b"abc", 0, Bytes(b"")),
+    row_bytes("reversed", &[0, R, 2, 1, 0], b"abc", 0, Bytes(b"")),
+    row_bytes("past the message", &[0, R, 1, 4, 0], b"abc", 0, Bytes(b"")),
+    row_bytes("to the message's end", &[0, R, 1, 3, 0], b"abc", 0, Bytes(b"bc")),
+    row_bytes("any place in a list", &[0, R, 1, 3, R], b"abc", 0, Bytes(b"bc")),
+    row_bytes("nothing, past the message", &[0, R, 4, 4, 0], b"abc", 0, Bytes(b"")),
+    row_bytes("largest span", &[0, R, 0, R, 0], b"abc", 0, Bytes(b"")),
     // 6: points.
     read("a tag only at an item's place", D, b"17 d d=1", Refused(23, 5)),
     read("known tag again", D, b"17 surveyed=20240310 surveyed=x", Refused(26, 21)),
@@ -489,7 +507,7 @@ pub static CASES: &[Case] = &[
     read("first value, end in braces", NEEDED_INSIDE, b"s={", Refused(23, 3)),
     read("first value, `=` in braces", NEEDED_INSIDE, b"s={=", Refused(23, 3)),
     read("first value, comma in braces", NEEDED_INSIDE, b"s={,", Refused(23, 3)),
-    read("first value, lo 0 closes", SPARE_INSIDE, b"s={}", Rows(&[[0, R, 0, 4], [1, 0, 2, 4]])),
+    read("first value, lo 0 closes", SPARE_INSIDE, b"s={}", Rows(&[[0, R, 0, 4, 0], [1, 0, 2, 4, 0]])),
     read("first value, lo 0, end in braces", SPARE_INSIDE, b"s={", Refused(23, 3)),
     read("then 27", SPARE_INSIDE, b"s={1}", Refused(27, 4)),
     // An item.
@@ -498,7 +516,7 @@ pub static CASES: &[Case] = &[
     read("item, `=`", NOTHING, b"=", Refused(23, 0)),
     read("item, comma", NOTHING, b",", Refused(23, 0)),
     read("item, `}`", NOTHING, b"}", Refused(23, 0)),
-    read("item, end", NOTHING, b"", Rows(&[[0, R, 0, 0]])),
+    read("item, end", NOTHING, b"", Rows(&[[0, R, 0, 0, 0]])),
     read("item, `}` in braces, 27", W, b"s={a=1}", Refused(27, 6)),
     read("item, `}` in braces closes", W, b"s={a=1 b=1,2}", Count(5)),
     read("item, end in braces", W, b"s={a=1 b=1,2", Refused(23, 12)),

@@ -6,7 +6,7 @@
 //! - Kind 1, compile: a is the text, and a table of room bytes is lent, each 0xA5 before. The line
 //!   is `ok LENGTH HEX` or `refused NUMBER PLACE`, then ` kept` or ` touched`.
 //! - Kind 2, read: a is the table, b the message, and room numbers are lent, each 0xA5A5A5A5 before.
-//!   The line is `ok COUNT n n n n ..` with four numbers a row, or `refused NUMBER PLACE`, then
+//!   The line is `ok COUNT n n n n n ..` with five numbers a row, or `refused NUMBER PLACE`, then
 //!   ` kept` or ` touched`.
 //! - Kind 3, table: does some definition compile to the table a? `yes` or `no`.
 //! - Kind 4, row bytes: a is rows as u32s, b the message, room the row's number. `bytes HEX`, or
@@ -21,7 +21,7 @@
 //! are skipped. An unknown kind gets `unknown`. Where the input ends inside a frame, skipped bytes
 //! included, the line is `short` and the program ends.
 
-use crate::{definition, message, table, Refusal};
+use crate::{definition, message, table, Refusal, ROW_WIDTH};
 use std::fmt::Write as _;
 use std::io::{self, BufRead, Read, Write};
 
@@ -160,13 +160,13 @@ fn read_line(table: &[u8], message: &[u8], room: usize) -> String {
     match answer {
         Ok(count) => {
             put(&mut line, format_args!("ok {count}"));
-            for number in &lent[..4 * count] {
+            for number in &lent[..ROW_WIDTH * count] {
                 put(&mut line, format_args!(" {number}"));
             }
         }
         Err(refusal) => put_refusal(&mut line, refusal),
     }
-    let stays = &lent[4 * answer.unwrap_or(0)..];
+    let stays = &lent[ROW_WIDTH * answer.unwrap_or(0)..];
     put_kept(&mut line, stays.iter().all(|&number| number == before));
     line
 }

@@ -4,7 +4,7 @@ use std::io::{self, BufWriter, Write};
 
 use crate::cases::{self, Ask, Case};
 use crate::record::{self, Record};
-use crate::{definition, message};
+use crate::{definition, message, ROW_WIDTH};
 
 /// A room no answer of these frames can fill.
 pub const AMPLE: usize = 1 << 30;
@@ -1316,12 +1316,12 @@ impl Stream {
     fn read_room(&mut self, a: &[u8], b: &[u8]) -> u32 {
         let room = match message::read(a, b, AMPLE) {
             Ok(rows) => {
-                let n = 4 * rows.len();
+                let n = ROW_WIDTH * rows.len();
                 let some = n + self.rng.below(20);
                 self.rng
-                    .pick(&[n, n, n, n - 1, n - 4, n + 1, n + 3, some, some, 0])
+                    .pick(&[n, n, n, n - 1, n - 5, n + 1, n + 4, some, some, 0])
             }
-            Err(_) => self.rng.pick(&[0, 3, 4, 40, 100]),
+            Err(_) => self.rng.pick(&[0, 4, 5, 40, 100]),
         };
         room as u32
     }
@@ -1347,11 +1347,11 @@ impl Stream {
         let b = spaced(rng, &list);
         let read = message::read(&entry.table, &b, AMPLE);
         let mut rows: Vec<u32> = read.unwrap_or_default().concat();
-        let row = rng.below(rows.len() / 4 + 2);
+        let row = rng.below(rows.len() / ROW_WIDTH + 2);
         damage_rows(rng, &mut rows, b.len() as u32);
-        let last = rows.len() as u32 / 4;
+        let last = (rows.len() / ROW_WIDTH) as u32;
         let ends = [last, last + 1, last.saturating_sub(1), 65_535, 99_999];
-        let huge = [100_001, u32::MAX, u32::MAX / 4, 1 << 30, 1 << 31];
+        let huge = [100_001, u32::MAX, u32::MAX / 5, 1 << 30, 1 << 31];
         let room = match rng.below(12) {
             0 => rng.pick(&huge),
             1..=3 => rng.pick(&ends),
@@ -1393,17 +1393,17 @@ fn damage_rows(rng: &mut Rng, rows: &mut Vec<u32>, len: u32) {
         1 => rows.push(7),
         2 => rows[at] = rng.pick(&[len, len + 1, 0, len.saturating_sub(1), u32::MAX, 1 << 31]),
         3 => {
-            for row in rows.chunks_exact_mut(4) {
+            for row in rows.chunks_exact_mut(ROW_WIDTH) {
                 row.swap(2, 3);
             }
         }
         4 => {
-            for row in rows.chunks_exact_mut(4) {
+            for row in rows.chunks_exact_mut(ROW_WIDTH) {
                 row[3] = len + rng.pick(&[0, 0, 1]);
             }
         }
         _ => {
-            for row in rows.chunks_exact_mut(4) {
+            for row in rows.chunks_exact_mut(ROW_WIDTH) {
                 row[2] = rng.pick(&[row[3], row[3] + 1, row[3].saturating_sub(1)]);
             }
         }

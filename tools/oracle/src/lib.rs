@@ -31,5 +31,9 @@ impl Refusal {
     }
 }
 
-/// One row of an accepted message: parameter, parent row, start, end.
-pub type Row = [u32; 4];
+/// The numbers of a row.
+pub const ROW_WIDTH: usize = 5;
+
+/// One row of an accepted message: parameter, parent row, start, end, place of the value in its
+/// list.
+pub type Row = [u32; ROW_WIDTH];

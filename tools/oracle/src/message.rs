@@ -5,7 +5,7 @@ use crate::table;
 use crate::text::is_digits;
 use crate::tokens::{self, Shape, Token};
 use crate::values;
-use crate::{Refusal, Row};
+use crate::{Refusal, Row, ROW_WIDTH};
 
 /// "At most 16,384 bytes."
 pub const LIMIT: usize = 16_384;
@@ -23,7 +23,7 @@ pub fn read(table: &[u8], message: &[u8], room: usize) -> Result<Vec<Row>, Refus
     let tokens = tokens::scan(message)?;
     let rows = Reader::new(&records, message, &tokens).read()?;
     // 29: "rows don't fit", at the "rows needed".
-    if rows.len() > room / 4 {
+    if rows.len() > room / ROW_WIDTH {
         return Err(Refusal::new(29, rows.len()));
     }
     Ok(rows)
@@ -32,7 +32,7 @@ pub fn read(table: &[u8], message: &[u8], room: usize) -> Result<Vec<Row>, Refus
 /// Reads into lent numbers. "Success gives the row count; lent numbers beyond those rows stay."
 pub fn read_into(table: &[u8], message: &[u8], lent: &mut [u32]) -> Result<usize, Refusal> {
     let rows = read(table, message, lent.len())?;
-    lent[..4 * rows.len()].copy_from_slice(rows.as_flattened());
+    lent[..ROW_WIDTH * rows.len()].copy_from_slice(rows.as_flattened());
     Ok(rows.len())
 }
 
@@ -41,7 +41,7 @@ pub fn row_bytes<'a>(message: &'a [u8], rows: &[u32], row: usize) -> &'a [u8] {
     // "If the whole row isn't there, or its span ends before it starts or doesn't lie in the
     // message, the empty part comes back."
     let span = rows
-        .chunks_exact(4)
+        .chunks_exact(ROW_WIDTH)
         .nth(row)
         .map(|row| row[2] as usize..row[3] as usize);
     span.and_then(|span| message.get(span)).unwrap_or(&[])
@@ -124,7 +124,7 @@ impl<'a> Reader<'a> {
 
     /// "A message is the root's body without braces."
     fn read(mut self) -> Result<Vec<Row>, Refusal> {
-        self.rows.push([0, NO_ROW, 0, self.message.len() as u32]);
+        self.rows.push([0, NO_ROW, 0, self.message.len() as u32, 0]);
         self.body(0, 0, false)?;
         Ok(self.rows)
     }
@@ -162,8 +162,8 @@ impl<'a> Reader<'a> {
         }
     }
 
-    fn push_row(&mut self, number: usize, parent: usize, token: Token) {
-        let row = [number, parent, token.start, token.end];
+    fn push_row(&mut self, number: usize, parent: usize, token: Token, index: usize) {
+        let row = [number, parent, token.start, token.end, index];
         self.rows.push(row.map(|part| part as u32));
     }
 
@@ -221,7 +221,8 @@ impl<'a> Reader<'a> {
     fn item(&mut self, field: usize, row: usize, tag: Token) -> Result<(), Refusal> {
         self.at += 1;
         if self.records[field].kind == VOID {
-            self.push_row(field, row, tag);
+            // "the root, voids and chosen alternatives have 0"
+            self.push_row(field, row, tag, 0);
             return Ok(());
         }
         self.need(Shape::Equals)?;
@@ -233,7 +234,7 @@ impl<'a> Reader<'a> {
         let (lo, hi) = (self.records[field].lo_count, self.records[field].hi_count);
         let mut count = 0;
         loop {
-            self.value(field, row)?;
+            self.value(field, row, count)?;
             count += 1;
             if self.shape() != Some(Shape::Comma) {
                 break;
@@ -251,15 +252,15 @@ impl<'a> Reader<'a> {
         Ok(())
     }
 
-    /// One value and its rows. A chain of choices is a loop: its rows are neighbours that end
-    /// together.
-    fn value(&mut self, field: usize, parent: usize) -> Result<(), Refusal> {
+    /// One value, at this place of its list, and its rows. A chain of choices is a loop: its rows
+    /// are neighbours that end together.
+    fn value(&mut self, field: usize, parent: usize, index: usize) -> Result<(), Refusal> {
         let first = self.rows.len();
-        let (mut field, mut parent) = (field, parent);
+        let (mut field, mut parent, mut index) = (field, parent, index);
         loop {
             let token = self.value_token()?;
             let row = self.rows.len();
-            self.push_row(field, parent, token);
+            self.push_row(field, parent, token, index);
             let number = self.resolve(field);
             if self.records[number].kind != UNION {
                 self.plain_value(number, row, token)?;
@@ -267,9 +268,9 @@ impl<'a> Reader<'a> {
                 return Ok(());
             }
             match self.choose(number, token)? {
-                Choice::Value(alternative) => (field, parent) = (alternative, row),
+                Choice::Value(alternative) => (field, parent, index) = (alternative, row, 0),
                 Choice::Void(alternative) => {
-                    self.push_row(alternative, row, token);
+                    self.push_row(alternative, row, token, 0);
                     self.end_rows(first, row + 1);
                     return Ok(());
                 }

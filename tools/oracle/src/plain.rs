@@ -1,14 +1,15 @@
 //! A fast reader in plain Rust, the yardstick for speed: one pass over the table, one over the
 //! message, no heap and nothing unsafe.
 //!
-//! Rows are kept on the stack, eight bytes each, until the verdict is known, since nothing lent may
-//! change before; a longest message needs some 150 KB of stack. Faults of the tokens (22) are
+//! Rows are kept on the stack, ten bytes each, until the verdict is known, since nothing lent may
+//! change before; a longest message needs some 180 KB of stack. Faults of the tokens (22) are
 //! looked for only where the reading stops: the tokens before that place are sound, and a message
 //! that is read to its end has no such fault.
 //!
 //! `read_twice` is the same reader in two passes over the message: the first only counts the rows,
 //! the second writes them where they are lent. It keeps none of its own.
 
+use crate::ROW_WIDTH;
 use std::ops::Range;
 
 /// A number and a place.
@@ -68,9 +69,9 @@ fn with_tape<const N: usize>(
     message: &[u8],
     rows: &mut [u32],
 ) -> Result<usize, Refusal> {
-    let mut tape = [[0u16; 4]; N];
+    let mut tape = [[0u16; ROW_WIDTH]; N];
     let count = Reader::new(schema, message, tape.as_mut_slice()).read()?;
-    let Some(lent) = rows.get_mut(..4 * count) else {
+    let Some(lent) = rows.get_mut(..ROW_WIDTH * count) else {
         return Err((29, count));
     };
     for (number, &short) in lent.iter_mut().zip(tape.as_flattened()) {
@@ -86,7 +87,7 @@ fn read_twice_by(schema: Schema, message: &[u8], rows: &mut [u32]) -> Result<usi
         return Err((21, MOST_BYTES));
     }
     let count = Reader::new(schema, message, &mut Unkept).read()?;
-    let Some(lent) = rows.as_chunks_mut::<4>().0.get_mut(..count) else {
+    let Some(lent) = rows.as_chunks_mut::<ROW_WIDTH>().0.get_mut(..count) else {
         return Err((29, count));
     };
     Reader::new(schema, message, &mut *lent).read()?;
@@ -771,9 +772,9 @@ fn all_finite(records: &mut [Record]) -> bool {
 
 // ---- the message
 
-/// Where rows go. A row is a record, the parent's row, a start and an end.
+/// Where rows go. A row is a record, the parent's row, a start, an end and a place in a list.
 trait Tape {
-    fn put(&mut self, row: usize, numbers: [usize; 4]);
+    fn put(&mut self, row: usize, numbers: [usize; ROW_WIDTH]);
 
     /// Gives a row its end.
     fn end(&mut self, row: usize, end: usize);
@@ -783,9 +784,9 @@ trait Tape {
 }
 
 /// Rows in short numbers, or in those that are lent.
-impl<N: From<u16>> Tape for [[N; 4]] {
+impl<N: From<u16>> Tape for [[N; ROW_WIDTH]] {
     #[inline]
-    fn put(&mut self, row: usize, numbers: [usize; 4]) {
+    fn put(&mut self, row: usize, numbers: [usize; ROW_WIDTH]) {
         self[row] = numbers.map(|number| N::from(number as u16));
     }
 
@@ -807,7 +808,7 @@ struct Unkept;
 
 impl Tape for Unkept {
     #[inline]
-    fn put(&mut self, _: usize, _: [usize; 4]) {}
+    fn put(&mut self, _: usize, _: [usize; ROW_WIDTH]) {}
 
     #[inline]
     fn end(&mut self, _: usize, _: usize) {}
@@ -841,7 +842,7 @@ impl<'a, T: Tape + ?Sized> Reader<'a, T> {
 
     fn read(mut self) -> Result<usize, Refusal> {
         let length = self.message.len();
-        self.push(0, 0, 0, length);
+        self.push(0, 0, 0, length, 0);
         if self.body(0, 0, 0).is_some() {
             return Ok(self.rows);
         }
@@ -892,8 +893,9 @@ impl<'a, T: Tape + ?Sized> Reader<'a, T> {
     }
 
     #[inline]
-    fn push(&mut self, number: usize, parent: usize, start: usize, end: usize) {
-        self.tape.put(self.rows, [number, parent, start, end]);
+    fn push(&mut self, number: usize, parent: usize, start: usize, end: usize, index: usize) {
+        self.tape
+            .put(self.rows, [number, parent, start, end, index]);
         self.rows += 1;
     }
 
@@ -983,7 +985,7 @@ impl<'a, T: Tape + ?Sized> Reader<'a, T> {
             let record = self.record(field);
             missing -= u8::from(record.has(MUST));
             if record.kind == VOID {
-                self.push(field, row, at, end);
+                self.push(field, row, at, end, 0);
                 at = self.skip(end);
                 continue;
             }
@@ -1009,18 +1011,18 @@ impl<'a, T: Tape + ?Sized> Reader<'a, T> {
         let record = self.record(field);
         let (mut at, mut count) = (at, 0);
         loop {
-            let end = self.value(field, parent, at)?;
+            let end = self.value(field, parent, at, count)?;
             at = self.skip(end);
             count += 1;
             if self.byte(at) != b',' {
                 break;
             }
-            if count == u32::from(record.hi_count) {
+            if count == usize::from(record.hi_count) {
                 return self.refuse(25, at);
             }
             at = self.skip(at + 1);
         }
-        if count < u32::from(record.lo_count) {
+        if count < usize::from(record.lo_count) {
             return self.refuse(25, at);
         }
         Some(at)
@@ -1036,35 +1038,35 @@ impl<'a, T: Tape + ?Sized> Reader<'a, T> {
             let Some(end) = int_end(message, at, kind) else {
                 return self.unfit(at, INT);
             };
-            self.push(field, parent, at, end);
+            self.push(field, parent, at, end, count);
             count += 1;
             at = skip(message, end);
             if byte_at(message, at) != b',' {
                 break;
             }
-            if count == u32::from(record.hi_count) {
+            if count == usize::from(record.hi_count) {
                 return self.refuse(25, at);
             }
             at = skip(message, at + 1);
         }
-        if count < u32::from(record.lo_count) {
+        if count < usize::from(record.lo_count) {
             return self.refuse(25, at);
         }
         Some(at)
     }
 
-    /// Where the value ends that stands here.
-    fn value(&mut self, field: usize, parent: usize, at: usize) -> Option<usize> {
+    /// Where the value ends that stands here, at the index of its list.
+    fn value(&mut self, field: usize, parent: usize, at: usize, index: usize) -> Option<usize> {
         let number = usize::from(self.record(field).kind_at);
         let kind = self.record(number);
         match kind.kind {
-            UNION => self.choice(field, number, parent, at),
+            UNION => self.choice(field, number, parent, at, index),
             STRUCT => {
                 let row = self.rows;
                 if self.byte(at) != b'{' {
                     return self.wrong(at);
                 }
-                self.push(field, parent, at, 0);
+                self.push(field, parent, at, 0, index);
                 let inside = self.open(at)?;
                 let end = self.body(number, row, inside)? + 1;
                 self.open -= 1;
@@ -1075,7 +1077,7 @@ impl<'a, T: Tape + ?Sized> Reader<'a, T> {
                 let Some(end) = simple_end(self.message, at, kind) else {
                     return self.unfit(at, kind.kind);
                 };
-                self.push(field, parent, at, end);
+                self.push(field, parent, at, end, index);
                 Some(end)
             }
         }
@@ -1087,18 +1089,26 @@ impl<'a, T: Tape + ?Sized> Reader<'a, T> {
         let Some(end) = int_end(self.message, at, self.record(int)) else {
             return self.unfit(at, INT);
         };
-        self.push(int, parent, at, end);
+        self.push(int, parent, at, end, 0);
         Some(end)
     }
 
     /// The same for a union. A chain of choices is a loop: its rows are neighbours with one end.
-    fn choice(&mut self, field: usize, union: usize, parent: usize, at: usize) -> Option<usize> {
+    fn choice(
+        &mut self,
+        field: usize,
+        union: usize,
+        parent: usize,
+        at: usize,
+        index: usize,
+    ) -> Option<usize> {
         let first = self.rows;
         let (mut field, mut union, mut parent, mut at) = (field, union, parent, at);
+        let mut index = index;
         let mut guess = union + 1;
         let (last, end) = loop {
             let row = self.rows;
-            self.push(field, parent, at, 0);
+            self.push(field, parent, at, 0, index);
             if class(self.byte(at)) != WORD {
                 return self.wrong(at);
             }
@@ -1116,15 +1126,15 @@ impl<'a, T: Tape + ?Sized> Reader<'a, T> {
             guess = chosen;
             let record = self.record(chosen);
             if record.kind == VOID {
-                self.push(chosen, row, at, end);
+                self.push(chosen, row, at, end, 0);
                 break (row, end);
             }
             at = self.equals(end)?;
             let number = usize::from(record.kind_at);
             if self.record(number).kind != UNION {
-                break (row, self.value(chosen, row, at)?);
+                break (row, self.value(chosen, row, at, 0)?);
             }
-            (field, union, parent) = (chosen, number, row);
+            (field, union, parent, index) = (chosen, number, row, 0);
         };
         self.tape.end_all(first..last + 1, end);
         Some(end)
@@ -1379,8 +1389,8 @@ mod tests {
         for around in [0, 62, 254, 1_022, 4_094, 16_384] {
             for length in around..around + 4 {
                 let message: Vec<u8> = b"a,".iter().copied().cycle().take(length).collect();
-                compare_read(&table, &message, 4 * length + 8);
-                compare_read(&table, &message, 4 * length);
+                compare_read(&table, &message, ROW_WIDTH * (length + 2));
+                compare_read(&table, &message, ROW_WIDTH * length);
             }
         }
     }
@@ -1400,7 +1410,7 @@ mod tests {
                 let message = format!("{tag}=1 {other} z{tag}=a {tag}z=b {tag}");
                 compare_read(&table, message.as_bytes(), 40);
                 compare_read(&table, &message.as_bytes()[..length / 2], 40);
-                compare_read(&table, format!("{all}{tag}=1").as_bytes(), 4 * 64);
+                compare_read(&table, format!("{all}{tag}=1").as_bytes(), ROW_WIDTH * 64);
             }
             let first = 24 + 1 + 24;
             for at in first..first + length {

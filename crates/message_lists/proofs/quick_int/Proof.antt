@@ -25,19 +25,19 @@ add-if2 : tie.Need-add-if2
 add-if2 c = search needs
 
 int-row-requires : tie.Need-int-row-requires
-int-row-requires c κs = omega (arith, (rw (c .before .before .before .before .before .end .given .1) at (c .before .before .before .before .before .before .before .digits-at .ensures)) .counted .within, (rw (c .before .before .before .before .before .end .given .1) at (c .before .before .before .before .before .before .before .digits-at .ensures)) .counted .first 0 .less, c .before .before .before .before .before .before .before .before .before .before .before .before .before .before .pre)
+int-row-requires c κs = omega (arith, (rw (c .before .before .before .before .before .before .end .given .1) at (c .before .before .before .before .before .before .before .before .digits-at .ensures)) .counted .within, (rw (c .before .before .before .before .before .before .end .given .1) at (c .before .before .before .before .before .before .before .before .digits-at .ensures)) .counted .first 0 .less, c .before .before .before .before .before .before .before .before .before .before .before .before .before .before .before .pre)
 
-add-t23 : tie.Need-add-t23
-add-t23 c = omega (arith, (rw (c .before .before .before .before .before .before .before .before .end .given .1) at (c .before .before .before .before .before .before .before .before .before .before .digits-at .ensures)) .counted .within, c .before .before .before .before .before .before .before .before .before .before .before .before .before .before .before .before .before .pre)
+add-t22 : tie.Need-add-t22
+add-t22 c = omega (arith, (rw (c .before .before .before .before .before .before .before .before .before .end .given .1) at (c .before .before .before .before .before .before .before .before .before .before .before .digits-at .ensures)) .counted .within, c .before .before .before .before .before .before .before .before .before .before .before .before .before .before .before .before .before .before .pre)
 
-add-t25 : tie.Need-add-t25
-add-t25 c = search needs
+add-t24 : tie.Need-add-t24
+add-t24 c = search needs
 
 same-length : tie.Need-same-length
 same-length c = search needs
 
 returns-2 : tie.Need-returns-2
-returns-2 c = quick-on _ (now (c .before .before .before .before .before .before .before .before .before .before .before .before .before .before .before .before .before .before .args .s)) (c .before .before .before .before .before .before .before .before .before .before .before .before .before .before .before .before .before .before .args .f) (c .before .before .before .before .before .before .before .before .before .before .before .before .before .before .before .before .before .before .args .e) (c .before .before .before .before .before .before .before .before .before .before .before .before .before .before .before .before .before .before .pre .1 .1) (not-false _ (c .before .before .before .before .before .before .before .before .before .before .before .before .if1 .left)) _ _ _ _ _ (c .before .before .before .before .before .before .before .takes .result) (rw (c .before .before .before .before .before .before .before .before .before .end .given .1) at (c .before .before .before .before .before .before .before .before .before .before .before .digits-at .ensures)) (c .before .before .before .before .before .before .before .takes .ensures) (c .before .before .before .before .before .if2 .taken) (c .before .before .before .int-row .ensures)
+returns-2 c = quick-on _ (now (c .before .before .before .before .before .before .before .before .before .before .before .before .before .before .before .before .before .before .before .args .s)) (c .before .before .before .before .before .before .before .before .before .before .before .before .before .before .before .before .before .before .before .args .f) (c .before .before .before .before .before .before .before .before .before .before .before .before .before .before .before .before .before .before .before .args .e) (c .before .before .before .before .before .before .before .before .before .before .before .before .before .before .before .before .before .before .before .pre .1 .1) (not-false _ (c .before .before .before .before .before .before .before .before .before .before .before .before .before .if1 .left)) _ _ _ _ (c .before .before .before .before .before .before .before .before .takes .result) (rw (c .before .before .before .before .before .before .before .before .before .before .end .given .1) at (c .before .before .before .before .before .before .before .before .before .before .before .before .digits-at .ensures)) (c .before .before .before .before .before .before .before .before .takes .ensures) (c .before .before .before .before .before .if2 .taken) (c .before .before .before .int-row .ensures)
 
 enum-known-end-2 : tie.Need-enum-known-end-2
 enum-known-end-2 c = search needs
@@ -48,8 +48,8 @@ takes-requires-2 c κs = search needs
 int-row-requires-2 : tie.Need-int-row-requires-2
 int-row-requires-2 c κs = omega (arith, (rw (c .before .before .before .before .end2 .given .1) at (c .before .before .before .before .before .before .digits-at .ensures)) .within, (rw (c .before .before .before .before .end2 .given .1) at (c .before .before .before .before .before .before .digits-at .ensures)) .first 0 .less, c .before .before .before .before .before .before .before .before .before .before .before .before .before .pre)
 
-add-t31 : tie.Need-add-t31
-add-t31 c = search needs
+add-t30 : tie.Need-add-t30
+add-t30 c = search needs
 
 same-length-2 : tie.Need-same-length-2
 same-length-2 c = search needs
@@ -77,14 +77,14 @@ quick-int-spec =
     takes-requires
     add-if2
     int-row-requires
-    add-t23
-    add-t25
+    add-t22
+    add-t24
     same-length
     returns-2
     enum-known-end-2
     takes-requires-2
     int-row-requires-2
-    add-t31
+    add-t30
     same-length-2
     returns-3
     returns-4

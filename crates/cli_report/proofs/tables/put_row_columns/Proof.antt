@@ -9,7 +9,7 @@ abbrev Inv-loop : tie.InvT-loop
 Inv-loop out₀ at table unpacked rows line widths column₀ o₀ out column o = length out ≡ length out₀
 
 abbrev μ-loop : tie.MeasureT-loop
-μ-loop out₀ at table unpacked rows line widths column₀ o₀ out column o = 5 - column
+μ-loop out₀ at table unpacked rows line widths column₀ o₀ out column o = 6 - column
 
 loop-holds : tie.Need-loop-holds Inv-loop μ-loop
 loop-holds c = refl

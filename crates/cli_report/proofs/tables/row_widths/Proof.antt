@@ -9,7 +9,7 @@ abbrev Inv-loop : tie.InvT-loop
 Inv-loop table unpacked rows count widths₀ column₀ widths column = length widths ≡ length widths₀
 
 abbrev μ-loop : tie.MeasureT-loop
-μ-loop table unpacked rows count widths₀ column₀ widths column = 5 - column
+μ-loop table unpacked rows count widths₀ column₀ widths column = 6 - column
 
 loop-holds : tie.Need-loop-holds Inv-loop μ-loop
 loop-holds c = refl
