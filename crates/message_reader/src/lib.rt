@@ -69,7 +69,7 @@ fn for_field(f: Frame, v: Cursor, q: usize) -> Frame
         row: f.row,
         parameter: q,
         parent: f.parent,
-        index: 0,
+        index: 0, // each list counts anew
         depth: f.depth,
     }
 }
@@ -85,7 +85,7 @@ fn under(f: Frame, v: Cursor, q: usize) -> Frame
         row: f.row + 1,
         parameter: q,
         parent: f.row,
-        index: 0,
+        index: 0, // an alternative stands in no list
         depth: f.depth,
     }
 }
@@ -163,7 +163,7 @@ fn whole(rows: &mut [u32], f: Frame, q: usize, start: usize, past: Cursor) -> Go
             parent: row,
             start: f.base + start,
             end: end,
-            index: 0,
+            index: 0, // the alternative's
         },
     );
     Got::Done(past, row + 2)
@@ -415,7 +415,7 @@ fn item(
                     parent: f.parent,
                     start: f.base + a,
                     end: f.base + v.at,
-                    index: 0,
+                    index: 0, // a void's
                 },
             );
             Part::On(v, f.row + 1)

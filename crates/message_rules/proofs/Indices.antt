@@ -9,7 +9,7 @@ use lib.ListN.{length, getD}
 use borrow.Author.Tests.{eqb-true, eqb-false, eq-eqb, ne-eqb}
 use Rattle.classes.proofs.Bools.{clash-bool, both-true, and-off}
 use Rattle.reading_rules.specs.Record.{Record, recordAt}
-use Rattle.reading_rules.specs.Count.{same, times, In, Once}
+use Rattle.reading_rules.specs.Count.{same, In, Once}
 use Rattle.reading_rules.specs.Schema.{Kind, void, simple, struct, union, found, Schema, isTaggedOf, isTaggedAs, isUntaggedOf, schemaOf}
 use Rattle.reading_rules.specs.Reading.{width, TreeSort, unknownValue, unknownList, value, list, body, items, Tree, unknownWord, unknownString, unknownBraces, unknownPair, unknownLast, unknownMore, leaf, braced, chosenVoid, chosen, chosenInt, last, more, listed, stopped, itemized, noItem, voidItem, listItem, unknownItem, unknownListItem, fieldsOf, For, Law, Lawful}
 use Rattle.reading_rules.proofs.CountLaws.{same-self, once-tail, once-apart, in-nil, in-head, in-tail, in-cons, out-apart}
