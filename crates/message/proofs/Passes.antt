@@ -65,7 +65,7 @@ module _ (m lent : List ℕ) (row : ℕ) where
 
 -- ---- the passes
 pub root-room : (n len : ℕ) → len ≤ messageLimit → n ≤ parameterLimit → Room rootFrame len n
-root-room n len l k = record { short = omega (arith, l); here = omega arith; few = omega arith; above = omega arith; listed = omega arith; known = k }
+root-room n len l k = record { short = omega (arith, l); here = omega arith; few = omega arith; above = omega arith; indexed = omega arith; known = k }
 
 module _ (t o : List ℕ) (n : ℕ) (m : List ℕ) (before after : List ℕ) where
   start : cut m .lexemes ≡ lexemesAt 0 m 0

@@ -30,7 +30,7 @@ pub record Room (f : Frame) (len n : ℕ) : Type 0 where
   pub here : f .at ≤ len
   pub few : f .row ≤ 2 * (f .base + f .at) + 1
   pub above : f .parent < 65536
-  pub listed : f .index ≤ f .base + f .at
+  pub indexed : f .index ≤ f .base + f .at
   pub known : n ≤ parameterLimit
 
 -- read from the lexemes x to y, j the place in its list: the rows were lent before and left after, from row on; next is the row after them

@@ -64,16 +64,16 @@ shorter (suc j) (l ∷ x) = omega (arith, shorter j x)
 
 -- ---- room
 room-placed : (f : Frame) (len n least at row j : ℕ) → Room f len n → Moved len (f .at) least (f .row) at row → j ≤ f .base + at → Room (placedOf f at row j) len n
-room-placed f len n least at row j r m h = record { short = r .short; here = m .within; few = omega (arith, r .few, m .counted, m .far); above = r .above; listed = h; known = r .known }
+room-placed f len n least at row j r m h = record { short = r .short; here = m .within; few = omega (arith, r .few, m .counted, m .far); above = r .above; indexed = h; known = r .known }
 
 pub room-moved : (f : Frame) (len n least at row : ℕ) → Room f len n → Moved len (f .at) least (f .row) at row → Room (movedOf f at row) len n
-room-moved f len n least at row r m = room-placed f len n least at row (f .index) r m (omega (arith, r .listed, m .far))
+room-moved f len n least at row r m = room-placed f len n least at row (f .index) r m (omega (arith, r .indexed, m .far))
 
 pub room-under : (f : Frame) (len n at q : ℕ) → Room f len n → f .at < at → at ≤ len → Room (underOf f at q) len n
-room-under f len n at q r l h = record { short = r .short; here = h; few = omega (arith, r .few, l); above = omega (arith, r .few, r .short, r .here); listed = omega arith; known = r .known }
+room-under f len n at q r l h = record { short = r .short; here = h; few = omega (arith, r .few, l); above = omega (arith, r .few, r .short, r .here); indexed = omega arith; known = r .known }
 
 pub room-inner : (f : Frame) (s : List ℕ) (n e u : ℕ) → Room f (length s) n → f .at < e → e ≤ length s → Room (innerOf f e u) (length (take (length s - e) (drop e s))) n
-room-inner f s n e u r l h = record { short = omega (arith, part-end (f .base) s e h, r .short); here = omega arith; few = omega (arith, r .few, l); above = omega (arith, r .few, r .short, r .here); listed = omega arith; known = r .known }
+room-inner f s n e u r l h = record { short = omega (arith, part-end (f .base) s e h, r .short); here = omega arith; few = omega (arith, r .few, l); above = omega (arith, r .few, r .short, r .here); indexed = omega arith; known = r .known }
 
 -- ---- answers that are equal
 pub value-same : {o o′ : Result (Tree value)} (s : List ℕ) (f : Frame) (before after : List ℕ) (g : Got) → o ≡ o′ → EndsValue o′ s f before after g → EndsValue o s f before after g

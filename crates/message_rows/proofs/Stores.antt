@@ -63,7 +63,7 @@ ended-length e [] = refl
 ended-length e (r ∷ a) = ap suc (ended-length e a)
 
 -- one row's end, with rows after it
-end-first : (l : List ℕ) (i j a b c d f e : ℕ) (cs : List ℕ) → j ≡ i + 5 → set (sets l i (a ∷ b ∷ c ∷ d ∷ f ∷ cs)) (i + 3) e ≡ sets (sets l i (a ∷ b ∷ c ∷ e ∷ f ∷ [])) j cs
+end-first : (l : List ℕ) (i j a b c d f e : ℕ) (cs : List ℕ) → j ≡ i + rowWidth → set (sets l i (a ∷ b ∷ c ∷ d ∷ f ∷ cs)) (i + 3) e ≡ sets (sets l i (a ∷ b ∷ c ∷ e ∷ f ∷ [])) j cs
 end-first l i j a b c d f e cs h =
     let p : i + 3 ≡ suc (suc (suc i)) = omega arith in
     let q : j ≡ suc (suc (suc (suc (suc i)))) = omega (arith, h) in

@@ -1,6 +1,7 @@
 use Prim.Native.Nat.{_*_}
 use native.Mathlib.Omega.{arith}
 use lib.ListN.{length-set}
+use Rattle.numbers.specs.Limits.{rowWidth}
 use Rattle.message_rules.specs.Rows.{cells}
 use Rattle.message_rows.proofs.Stores.{row-sets, row-out}
 use borrow.Author.Needs.{needs}
@@ -9,7 +10,7 @@ use Rattle.message_rows.proofs.put_row.Tie as tie
 
 returns : tie.Need-returns
 unfolding cells
-returns c = row-out (c .before .before .args .rows .now) (5 * c .before .before .args .row) (c .before .before .args .r .parameter) (c .before .before .args .r .parent) (c .before .before .args .r .start) (c .before .before .args .r .end) (c .before .before .args .r .index) (omega (arith, c .if1 .taken))
+returns c = row-out (c .before .before .args .rows .now) (rowWidth * c .before .before .args .row) (c .before .before .args .r .parameter) (c .before .before .args .r .parent) (c .before .before .args .r .start) (c .before .before .args .r .end) (c .before .before .args .r .index) (omega (arith, c .if1 .taken))
 
 mul-i : tie.Need-mul-i
 mul-i c = search needs
@@ -79,7 +80,7 @@ same-length c = search needs
 
 returns-2 : tie.Need-returns-2
 unfolding cells
-returns-2 c = row-sets (c .before .before .before .before .before .before .before .before .args .rows .now) (5 * c .before .before .before .before .before .before .before .before .args .row) (c .before .before .before .before .before .before .before .before .args .r .parameter) (c .before .before .before .before .before .before .before .before .args .r .parent) (c .before .before .before .before .before .before .before .before .args .r .start) (c .before .before .before .before .before .before .before .before .args .r .end) (c .before .before .before .before .before .before .before .before .args .r .index)
+returns-2 c = row-sets (c .before .before .before .before .before .before .before .before .args .rows .now) (rowWidth * c .before .before .before .before .before .before .before .before .args .row) (c .before .before .before .before .before .before .before .before .args .r .parameter) (c .before .before .before .before .before .before .before .before .args .r .parent) (c .before .before .before .before .before .before .before .before .args .r .start) (c .before .before .before .before .before .before .before .before .args .r .end) (c .before .before .before .before .before .before .before .before .args .r .index)
 
 put-requires : tie.Need-put-requires
 put-requires c κs = search needs
@@ -113,7 +114,7 @@ same-length-2 c = search needs
 
 returns-3 : tie.Need-returns-3
 unfolding cells
-returns-3 c = cc (row-sets (c .before .before .before .before .before .before .before .before .before .before .before .before .before .before .before .before .before .before .before .before .before .before .before .args .rows .now) (5 * c .before .before .before .before .before .before .before .before .before .before .before .before .before .before .before .before .before .before .before .before .before .before .before .args .row) (c .before .before .before .before .before .before .before .before .before .before .before .before .before .before .before .before .before .before .before .before .before .before .before .args .r .parameter) (c .before .before .before .before .before .before .before .before .before .before .before .before .before .before .before .before .before .before .before .before .before .before .before .args .r .parent) (c .before .before .before .before .before .before .before .before .before .before .before .before .before .before .before .before .before .before .before .before .before .before .before .args .r .start) (c .before .before .before .before .before .before .before .before .before .before .before .before .before .before .before .before .before .before .before .before .before .before .before .args .r .end) (c .before .before .before .before .before .before .before .before .before .before .before .before .before .before .before .before .before .before .before .before .before .before .before .args .r .index))
+returns-3 c = cc (row-sets (c .before .before .before .before .before .before .before .before .before .before .before .before .before .before .before .before .before .before .before .before .before .before .before .args .rows .now) (rowWidth * c .before .before .before .before .before .before .before .before .before .before .before .before .before .before .before .before .before .before .before .before .before .before .before .args .row) (c .before .before .before .before .before .before .before .before .before .before .before .before .before .before .before .before .before .before .before .before .before .before .before .args .r .parameter) (c .before .before .before .before .before .before .before .before .before .before .before .before .before .before .before .before .before .before .before .before .before .before .before .args .r .parent) (c .before .before .before .before .before .before .before .before .before .before .before .before .before .before .before .before .before .before .before .before .before .before .before .args .r .start) (c .before .before .before .before .before .before .before .before .before .before .before .before .before .before .before .before .before .before .before .before .before .before .before .args .r .end) (c .before .before .before .before .before .before .before .before .before .before .before .before .before .before .before .before .before .before .before .before .before .before .before .args .r .index))
 
 pub put-row-spec : {M : Type 1} → statement M
 put-row-spec =
