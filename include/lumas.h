@@ -35,6 +35,11 @@ extern "C" {
  * its list the value is, from 0). The root, voids and chosen alternatives have index 0.
  */
 #define LUMAS_ROW_WIDTH 5
+#define LUMAS_ROW_PARAMETER 0
+#define LUMAS_ROW_PARENT 1
+#define LUMAS_ROW_START 2
+#define LUMAS_ROW_END 3
+#define LUMAS_ROW_INDEX 4
 
 /* The parent of the root's row. */
 #define LUMAS_NO_ROW UINT32_C(4294967295)

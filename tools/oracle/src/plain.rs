@@ -2,9 +2,9 @@
 //! message, no heap and nothing unsafe.
 //!
 //! Rows are kept on the stack, ten bytes each, until the verdict is known, since nothing lent may
-//! change before; a longest message needs some 180 KB of stack. Faults of the tokens (22) are
-//! looked for only where the reading stops: the tokens before that place are sound, and a message
-//! that is read to its end has no such fault.
+//! change before: 164 KB for a longest message. Faults of the tokens (22) are looked for only where
+//! the reading stops: the tokens before that place are sound, and a message that is read to its end
+//! has no such fault.
 //!
 //! `read_twice` is the same reader in two passes over the message: the first only counts the rows,
 //! the second writes them where they are lent. It keeps none of its own.
