@@ -17,7 +17,7 @@ use Rattle.reading_rules.proofs.Rules.{where-is}
 use Rattle.table_rules.proofs.Facts.{untagged-is, tagged-is}
 use Rattle.table_rules.proofs.Steps.{where-once, untagged-in}
 use Rattle.message_rules.specs.Scan.{Lexeme}
-use Rattle.message_rules.specs.Rows.{Row, rowCount, rowOver, rowsOf, messageRows, noSpan, ParentsFirst, alike, Numbered, Zeroed, IndicesStand}
+use Rattle.message_rules.specs.Rows.{Row, rowCount, rowOver, rowsOf, messageRows, noSpan, ParentsFirst, alike, Numbered, indicesUnder, countUp, Zeroed, IndicesStand}
 use Rattle.message_rules.proofs.RowLaws.{rows-counted, parents-first}
 use Rattle.message_rules.proofs.Nest.{Holds, holds-first, holds-after, holds-self}
 
@@ -374,6 +374,26 @@ module _ (S : Schema) (ls : List Lexeme) (all : List Row) where
       (rows-zeroed t (2 + i + width l) (n + rowCount l) p up j (R .0, R .1 .4, R .2) (holds-after all n (rowCount l) x y (rows-counted ls l (2 + i) n k up 0) h))
   rows-zeroed (unknownItem w t) i n p up j R h = rows-zeroed t (suc i) n p up j (R .0, R .1 .1, R .2) h
   rows-zeroed (unknownListItem w l t) i n p up j R h = rows-zeroed t (2 + i + width l) n p up j (R .0, R .1 .2, R .2) h
+
+-- ---- one list
+
+-- the rows of one parameter under one row have 0, 1, 2 .. in order
+indices-from : (before rs : List Row) → Numbered before rs → (p up : ℕ) → indicesUnder p up rs ≡ countUp (alike p up before) (alike p up rs)
+unfolding Numbered indicesUnder countUp alike
+indices-from before [] h p up = refl
+indices-from before (r ∷ rs) h p up = go (eqb p (r .parameter)) (eqb up (r .parent)) refl refl (indices-from (r ∷ before) rs (h .1) p up)
+  where
+    go : (a b : Bool) → eqb p (r .parameter) ≡ a → eqb up (r .parent) ≡ b
+        → indicesUnder p up rs ≡ countUp (elim (a && b) [ true ↦ suc (alike p up before) | false ↦ alike p up before ]) (alike p up rs)
+        → elim (a && b) [ true ↦ r .index ∷ indicesUnder p up rs | false ↦ indicesUnder p up rs ] ≡ countUp (alike p up before) (elim (a && b) [ true ↦ suc (alike p up rs) | false ↦ alike p up rs ])
+    go true true x y e =
+        let q : r .index ≡ alike p up before = rw (eqb-true p (r .parameter) x, eqb-true up (r .parent) y) (h .0) in
+        rw (q, e) refl
+    go true false x y e = e
+    go false b x y e = e
+
+pub in-order : (rs : List Row) → Numbered [] rs → (p up : ℕ) → indicesUnder p up rs ≡ countUp 0 (alike p up rs)
+in-order rs h p up = unfold alike in (indices-from [] rs h p up)
 
 -- ---- of a table
 

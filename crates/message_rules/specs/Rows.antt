@@ -2,7 +2,7 @@
 use mathlib.Core.Path.{_≡_}
 use mathlib.Core.Bool.{true, false, _&&_}
 use mathlib.Core.List.{List, [], _∷_, _++_}
-use Prim.Native.Nat.{ℕ, suc, _+_, _-_, _≤_, _<_}
+use Prim.Native.Nat.{ℕ, zero, suc, _+_, _-_, _≤_, _<_}
 use lib.Dec.{eqb}
 use lib.ListN.{length, getD}
 use Rattle.numbers.specs.Limits.{noRow}
@@ -128,11 +128,20 @@ unfoldable pub alike : ℕ → ℕ → List Row → ℕ
 alike p up [] = 0
 alike p up (r ∷ rs) = elim (eqb p (r .parameter) && eqb up (r .parent)) [ true ↦ suc (alike p up rs) | false ↦ alike p up rs ]
 
--- "the place of the value in its list, from 0": a row's index is how many of the rows before it are of its field under its parent,
--- so that those of one list have 0, 1, 2 .. in order
+-- "the place of the value in its list, from 0": a row's index is how many of the rows before it are of its parameter under its parent
 unfoldable pub Numbered : List Row → List Row → Type 0
 Numbered before [] = Unit {0}
 Numbered before (r ∷ rs) = (r .index ≡ alike (r .parameter) (r .parent) before) × Numbered (r ∷ before) rs
+
+-- so those of one list have 0, 1, 2 .. in order (`in-order`): the indices of the rows of the parameter p under the row up
+unfoldable pub indicesUnder : ℕ → ℕ → List Row → List ℕ
+indicesUnder p up [] = []
+indicesUnder p up (r ∷ rs) = elim (eqb p (r .parameter) && eqb up (r .parent)) [ true ↦ r .index ∷ indicesUnder p up rs | false ↦ indicesUnder p up rs ]
+
+-- n numbers: k, the next, and so on
+unfoldable pub countUp : ℕ → ℕ → List ℕ
+countUp k zero = []
+countUp k (suc n) = k ∷ countUp (suc k) n
 
 -- "voids and chosen alternatives have 0": rows of a void, and rows under a union's, where all are the rows
 unfoldable pub Zeroed : Schema → List Row → List Row → Type 0
