@@ -66,7 +66,7 @@ int main(int count, char **word)
 {
     if (count != 4) return 2;
     const std::string table = bytes_of(word[1]), message = bytes_of(word[2]), json = bytes_of(word[3]);
-    std::vector<uint32_t> rows(4 * (message.size() + 2));
+    std::vector<uint32_t> rows(LUMAS_ROW_WIDTH * (message.size() + 2));
     rapidjson::Document described;
     described.Parse(schema_text);
     const rapidjson::SchemaDocument schema(described);

@@ -402,7 +402,7 @@ fn put_row_text(out: &mut [u8], at: usize, bytes: &[u8], has_parts: bool) -> usi
     put_shown(out, at, bytes)
 }
 
-// A line of the table of rows: row, tag or name of the parameter, parent row, span, place in its list, and the row's bytes.
+// A line of the table of rows: row, tag or name of the parameter, parent row, span, index, and the row's bytes.
 pub fn put_row_line(
     out: &mut [u8],
     at: usize,

@@ -33,7 +33,7 @@ pub record Room (f : Frame) (len n : ℕ) : Type 0 where
   pub indexed : f .index ≤ f .base + f .at
   pub known : n ≤ parameterLimit
 
--- read from the lexemes x to y, j the place in its list: the rows were lent before and left after, from row on; next is the row after them
+-- read from the lexemes x to y, with the index j: the rows were lent before and left after, from row on; next is the row after them
 pub record Read {k : TreeSort} (o : Result (Tree k)) (x y : List Lex) (before after : List ℕ) (row p up j next : ℕ) : Type 0 where
   pub tree : Tree k
   pub is : o ≡ got tree (tokensOf y)

@@ -12,7 +12,7 @@ use Rattle.reading_rules.specs.Parse.{Result, refused, got}
 use Rattle.message_rules.specs.Rows.{Row, lexemeAt, rowsOf, cells}
 use Rattle.message_rows.specs.Filled.{ended}
 
--- the whole tree around t, which is read from y on, with n tokens and the rows acc in front; j and j′ are the places in a list there and here
+-- the whole tree around t, which is read from y on, with n tokens and the rows acc in front; j and j′ are the indices there and here
 pub record Wrapped {k k′ : TreeSort} (o : Result (Tree k)) (n : ℕ) (acc : List Row) (x y : List Lex) (t : Tree k′) (z : List Token) (row p up j next j′ : ℕ) : Type 0 where
   pub tree : Tree k
   pub is : o ≡ got tree z

@@ -3,8 +3,8 @@ ghost use mathlib.Core.Path.{_≡_};
 ghost use Rattle.message_frame.specs.AtToken.{unfitOf};
 use message_tokens::Cursor;
 
-// Where a reader stands: at in s, the next row, the parameter that is read, the row above, the value's place in its list,
-// how many braces may still open.
+// Where a reader stands: at in s, the next row, the parameter that is read, the row above, the value's index (its place in
+// its list), how many braces may still open.
 pub struct Frame {
     pub base: usize,
     pub at: usize,

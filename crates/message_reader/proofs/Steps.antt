@@ -560,7 +560,7 @@ module _ (S : Schema) (s : List ℕ) (f : Frame) (at row q up j n : ℕ) (before
 sets-length : (before after : List ℕ) (i : ℕ) (vs : List ℕ) → after ≡ sets before i vs → length after ≡ length before
 sets-length before after i vs e = ap length e ∙ length-sets before i vs
 
--- a list, some of whose values are read: as many as the next one's place says
+-- a list, some of whose values are read: as many as the next one's index says
 pub record Listing (S : Schema) (s : List ℕ) (f g : Frame) (before after : List ℕ) : Type 0 where
   pub same : g ≡ placedOf f (g .at) (g .row) (g .index)
   pub loop : Loop (wholeList S (valuesOf S (f .depth)) (f .parameter) (here s f)) (λ fuel. listAt S (valuesOf S (f .depth)) fuel (f .parameter) (g .index) (tokensAt (f .base) s (g .at))) s f before after (g .at) (g .row) (g .index)

@@ -39,7 +39,7 @@ here s f = tokensAt (f .base) s (f .at)
 abbrev pub Fewer : List ℕ → Frame → ℕ → Type 0
 Fewer s f at = length (tokensAt (f .base) s at) < length (tokensAt (f .base) s (f .at))
 
--- one turn: the answer o is o′ from at on, the j-th of its list, with what was read in front
+-- one turn: the answer o is o′ from at on, with the index j, and what was read in front
 pub record Turned {k : TreeSort} (o o′ : Result (Tree k)) (s : List ℕ) (f : Frame) (before after : List ℕ) (at next j : ℕ) : Type 0 where
   pub going : Going o o′ (lexemesAt (f .base) s (f .at)) (lexemesAt (f .base) s at) before after (f .row) (f .parameter) (f .parent) (f .index) next j
   pub moved : Moved (length s) (f .at) 1 (f .row) at next
@@ -55,7 +55,7 @@ pub record Loop {k k′ : TreeSort} (o : Result (Tree k)) (now : ℕ → Result 
   pub enough : length (tokensAt (f .base) s at) < fuel
   pub line : Line o (now fuel) s f before after at row j
 
--- a value of a list, at its place there
+-- a value of a list, by its index
 abbrev pub ElementAt : Schema → List ℕ → Frame → List ℕ → List ℕ → Taken → Type 0
 ElementAt S s f before after (taken.On u next) = (fuel : ℕ) → Fewer s f (u .at) × Turned (listAt S (valuesOf S (f .depth)) (suc fuel) (f .parameter) (f .index) (here s f)) (listAt S (valuesOf S (f .depth)) fuel (f .parameter) (suc (f .index)) (tokensAt (f .base) s (u .at))) s f before after (u .at) next (suc (f .index))
 ElementAt S s f before after (taken.Done u next) = (fuel : ℕ) → Ends (listAt S (valuesOf S (f .depth)) (suc fuel) (f .parameter) (f .index) (here s f)) s f before after 1 (Done u next)

@@ -8,7 +8,7 @@ ghost use Rattle.numbers.specs.Limits.{rowWidth};
 ghost use Rattle.message_rules.specs.Rows.{cells};
 ghost use Rattle.message_rows.specs.Filled.{Small, rowOf, withEnds};
 
-// Parameter, parent row, start, end, the value's place in its list.
+// Parameter, parent row, start, end, index.
 pub struct Row {
     pub parameter: usize,
     pub parent: usize,

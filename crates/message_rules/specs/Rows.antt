@@ -1,6 +1,6 @@
 -- The rows of a reading: a function of the tree and of the places of its leaves.
 use mathlib.Core.Path.{_≡_}
-use mathlib.Core.Bool.{true, false, _&&_}
+use mathlib.Core.Bool.{Bool, true, false, _&&_}
 use mathlib.Core.List.{List, [], _∷_, _++_}
 use Prim.Native.Nat.{ℕ, zero, suc, _+_, _-_, _≤_, _<_}
 use lib.Dec.{eqb}
@@ -48,13 +48,13 @@ rowCount (unknownListItem w l i) = rowCount i
 unfoldable pub lexemeAt : List Lexeme → ℕ → Lexeme
 lexemeAt ls i = getD ls i (lexeme equals 0 0)
 
--- a row over n tokens from the i-th on, the j-th of its list
+-- a row over n tokens from the i-th on, with the index j
 unfoldable pub rowOver : List Lexeme → ℕ → ℕ → ℕ → ℕ → ℕ → Row
 unfolding lexemeAt
 rowOver ls i n p up j = record { parameter = p; parent = up; start = lexemeAt ls i .start; end = lexemeAt ls (i + n - 1) .end; index = j }
 
 -- "in order of place, parents first": the rows of a tree whose first leaf is the i-th token and whose first row is the n-th;
--- p is the parameter that a value or list is of, up the row above, j the place in its list of a value, or of a list's first value
+-- p is the parameter that a value or list is of, up the row above, j the index of a value, or of a list's first value
 -- "a row for .. each value in a known field's list, each void field's item and each chosen alternative, and no other"
 -- "A struct's span has its braces, .. a union's is its whole choice with a row for the alternative after it."
 -- 02 (request 11): "the root, voids and chosen alternatives have 0"
@@ -81,7 +81,7 @@ rowsOf ls (listItem q w l t) i n p up j = rowsOf ls l (2 + i) n q up 0 ++ rowsOf
 rowsOf ls (unknownItem w t) i n p up j = rowsOf ls t (suc i) n p up j
 rowsOf ls (unknownListItem w l t) i n p up j = rowsOf ls t (2 + i + width l) n p up j
 
--- "The root's row is 0, 4,294,967,295, 0, length.", and 0 for its place
+-- "The root's row is 0, 4,294,967,295, 0, length.", and the index 0
 unfoldable pub messageRows : List ℕ → List Lexeme → Tree body → List Row
 messageRows message ls t = record { parameter = 0; parent = noRow; start = 0; end = length message; index = 0 } ∷ rowsOf ls t 0 1 0 0 0
 
@@ -123,20 +123,24 @@ pub record RowsStand (message : List ℕ) (ls : List Lexeme) (t : Tree body) : T
 
 -- ---- how the values of a list are numbered (02, request 11)
 
--- how many of these rows are of the parameter p under the row up
+-- a row is of the parameter p under the row up
+abbrev pub isOf : ℕ → ℕ → Row → Bool
+isOf p up r = eqb p (r .parameter) && eqb up (r .parent)
+
+-- how many of these rows are
 unfoldable pub alike : ℕ → ℕ → List Row → ℕ
 alike p up [] = 0
-alike p up (r ∷ rs) = elim (eqb p (r .parameter) && eqb up (r .parent)) [ true ↦ suc (alike p up rs) | false ↦ alike p up rs ]
+alike p up (r ∷ rs) = elim (isOf p up r) [ true ↦ suc (alike p up rs) | false ↦ alike p up rs ]
 
 -- "the place of the value in its list, from 0": a row's index is how many of the rows before it are of its parameter under its parent
 unfoldable pub Numbered : List Row → List Row → Type 0
 Numbered before [] = Unit {0}
 Numbered before (r ∷ rs) = (r .index ≡ alike (r .parameter) (r .parent) before) × Numbered (r ∷ before) rs
 
--- so those of one list have 0, 1, 2 .. in order (`in-order`): the indices of the rows of the parameter p under the row up
+-- so those of one list have 0, 1, 2 .. in order (`in-order`): the indices of the rows that are of p under up
 unfoldable pub indicesUnder : ℕ → ℕ → List Row → List ℕ
 indicesUnder p up [] = []
-indicesUnder p up (r ∷ rs) = elim (eqb p (r .parameter) && eqb up (r .parent)) [ true ↦ r .index ∷ indicesUnder p up rs | false ↦ indicesUnder p up rs ]
+indicesUnder p up (r ∷ rs) = elim (isOf p up r) [ true ↦ r .index ∷ indicesUnder p up rs | false ↦ indicesUnder p up rs ]
 
 -- n numbers: k, the next, and so on
 unfoldable pub countUp : ℕ → ℕ → List ℕ

@@ -38,8 +38,8 @@ pub fn table_ok(table: &[u8]) -> bool {
     unsafe { lumas_table_ok(table.as_ptr(), table.len()) }
 }
 
-/// Reads a message by a table into the lent numbers; answers how many rows there are. After a
-/// refusal the lent numbers are as they were.
+/// Reads a message by a table into the lent numbers, `ROW_WIDTH` for each row; answers how many rows
+/// there are. After a refusal the lent numbers are as they were.
 pub fn read(table: &[u8], message: &[u8], rows: &mut [u32]) -> Result<usize, Refusal> {
     let mut value = 0;
     // SAFETY: each pointer and length are a slice's, and the lent ones are exclusive.

@@ -435,7 +435,7 @@ pub static CASES: &[Case] = &[
         [0, R, 0, 11, 0], [2, 0, 0, 1, 0], [1, 0, 4, 7, 0], [4, 2, 4, 7, 0], [1, 0, 8, 11, 1], [4, 4, 8, 11, 0],
     ])),
     read("a string's quotes", SIMPLE, b" a = \"b c\" ", Rows(&[[0, R, 0, 11, 0], [3, 0, 5, 10, 0]])),
-    // The place in a list (02, request 11).
+    // The index (02, request 11).
     read("each list counts anew", N, b"p={q=1,2},{q=3} v", Rows(&[
         [0, R, 0, 17, 0],
         [1, 0, 2, 9, 0], [4, 1, 5, 6, 0], [4, 1, 7, 8, 1],
@@ -461,7 +461,7 @@ pub static CASES: &[Case] = &[
     row_bytes("reversed", &[0, R, 2, 1, 0], b"abc", 0, Bytes(b"")),
     row_bytes("past the message", &[0, R, 1, 4, 0], b"abc", 0, Bytes(b"")),
     row_bytes("to the message's end", &[0, R, 1, 3, 0], b"abc", 0, Bytes(b"bc")),
-    row_bytes("any place in a list", &[0, R, 1, 3, R], b"abc", 0, Bytes(b"bc")),
+    row_bytes("any index", &[0, R, 1, 3, R], b"abc", 0, Bytes(b"bc")),
     row_bytes("nothing, past the message", &[0, R, 4, 4, 0], b"abc", 0, Bytes(b"")),
     row_bytes("largest span", &[0, R, 0, R, 0], b"abc", 0, Bytes(b"")),
     // 6: points.

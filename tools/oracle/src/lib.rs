@@ -34,6 +34,6 @@ impl Refusal {
 /// The numbers of a row.
 pub const ROW_WIDTH: usize = 5;
 
-/// One row of an accepted message: parameter, parent row, start, end, place of the value in its
-/// list.
+/// One row of an accepted message: parameter, parent row, start, end, index (the place of the value
+/// in its list).
 pub type Row = [u32; ROW_WIDTH];

@@ -252,7 +252,7 @@ impl<'a> Reader<'a> {
         Ok(())
     }
 
-    /// One value, at this place of its list, and its rows. A chain of choices is a loop: its rows
+    /// One value, with its index, and its rows. A chain of choices is a loop: its rows
     /// are neighbours that end together.
     fn value(&mut self, field: usize, parent: usize, index: usize) -> Result<(), Refusal> {
         let first = self.rows.len();

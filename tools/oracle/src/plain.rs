@@ -772,7 +772,7 @@ fn all_finite(records: &mut [Record]) -> bool {
 
 // ---- the message
 
-/// Where rows go. A row is a record, the parent's row, a start, an end and a place in a list.
+/// Where rows go. A row is a record, the parent's row, a start, an end and an index.
 trait Tape {
     fn put(&mut self, row: usize, numbers: [usize; ROW_WIDTH]);
 
