@@ -9,7 +9,7 @@ use borrow.Author.Tests.{eq-eqb, ne-eqb, eqb-true}
 use lib.Dec.{eqb}
 use lib.ListN.{length, getD, take, drop, replicate, length-take, length-drop, drop-of-length-le}
 use lib.Seq.{drop-cons, take-all, take-nil}
-use Rattle.classes.specs.Lists.{every, runOf, sameBytes, part}
+use Rattle.classes.specs.Lists.{every, runOf, lastByte, sameBytes, part}
 use Rattle.classes.proofs.Bools.{clash-bool, both-true}
 
 module _ (f : ℕ → Bool) (s : List ℕ) (i : ℕ) where
@@ -70,11 +70,26 @@ module _ (a b : List ℕ) (i : ℕ) where
   unfolding sameBytes
   same-end h k = rw (drop-of-length-le a h, drop-of-length-le b k)
 
--- at the last byte, which is the same
-pub same-last : (a b : List ℕ) (i last : ℕ) → last ≤ i → i ≤ last → last + 1 ≡ length a → length a ≡ length b → getD a last 0 ≡ getD b last 0 → sameBytes (drop i a) (drop i b) ≡ true
-same-last a b i last h l m k e =
-    let q : i ≡ last = omega arith in
-    rw q (same-more a b last (omega arith) (omega arith) e ∙ same-end a b (last + 1) (omega arith) (omega arith))
+pub last-none : (w : List ℕ) → length w ≡ 0 → 0 ≡ lastByte w
+last-none [] e = refl
+last-none (b ∷ w) e = absurd (omega arith)
+
+-- one byte more, where the place is one past it
+pub same-step : (a b : List ℕ) (i : ℕ) → 1 ≤ i → i < length a → i < length b → getD a (i - 1) 0 ≡ getD b (i - 1) 0 → sameBytes (drop (i - 1) a) (drop (i - 1) b) ≡ sameBytes (drop (i + 1 - 1) a) (drop (i + 1 - 1) b)
+same-step a b i l h k e =
+    let q : i - 1 + 1 ≡ i + 1 - 1 = omega arith in
+    same-more a b (i - 1) (omega arith) (omega arith) e ∙ rw q
+
+-- at the last byte, which is the same, or where there is none
+pub same-last : (a b : List ℕ) (i : ℕ) → length a ≤ i + 1 → i ≤ length a - 1 → length a ≡ length b → lastByte a ≡ lastByte b → sameBytes (drop i a) (drop i b) ≡ true
+same-last a b i h l k e = by (length a) refl
+  where
+    by : (n : ℕ) → length a ≡ n → sameBytes (drop i a) (drop i b) ≡ true
+    by zero z = same-end a b i (omega arith) (omega arith)
+    by (suc n) z =
+        let p : i ≡ length a - 1 = omega arith in
+        let q : length b - 1 ≡ i = omega arith in
+        same-more a b i (omega arith) (omega arith) (ap (λ m. getD a m 0) p ∙ (e ∙ ap (λ m. getD b m 0) q)) ∙ same-end a b (i + 1) (omega arith) (omega arith)
 
 pub same-length : (a b : List ℕ) → (length a ≡ length b → ⊥) → sameBytes a b ≡ false
 unfolding sameBytes
@@ -82,15 +97,6 @@ same-length [] [] h = absurd (h refl)
 same-length [] (b ∷ l) h = refl
 same-length (a ∷ k) [] h = refl
 same-length (a ∷ k) (b ∷ l) h = rw (same-length k l (λ e. h (ap suc e))) (and-false (eqb a b))
-
--- a byte that differs
-pub same-not : (a b : List ℕ) (i : ℕ) → (getD a i 0 ≡ getD b i 0 → ⊥) → sameBytes a b ≡ false
-unfolding sameBytes
-same-not [] [] i h = absurd (h refl)
-same-not [] (b ∷ l) i h = refl
-same-not (a ∷ k) [] i h = refl
-same-not (a ∷ k) (b ∷ l) zero h = rw (ne-eqb a b h)
-same-not (a ∷ k) (b ∷ l) (suc i) h = rw (same-not k l i h) (and-false (eqb a b))
 
 pub bytes-self : (w : List ℕ) → sameBytes w w ≡ true
 unfolding sameBytes
@@ -103,6 +109,14 @@ same-true [] [] e = refl
 same-true [] (b ∷ w) e = clash-bool e
 same-true (a ∷ v) [] e = clash-bool e
 same-true (a ∷ v) (b ∷ w) e = let x = both-true (eqb a b) (sameBytes v w) e in let y = eqb-true a b (x .0) in let z = same-true v w (x .1) in cc
+
+-- a last byte that differs
+pub same-not-last : (a b : List ℕ) → (lastByte a ≡ lastByte b → ⊥) → sameBytes a b ≡ false
+same-not-last a b h = by (sameBytes a b) refl
+  where
+    by : (t : Bool) → sameBytes a b ≡ t → t ≡ false
+    by true e = absurd (h (ap (λ w. lastByte w) (same-true a b e)))
+    by false e = refl
 
 -- no mark stands where there is none
 pub no-mark : (n k : ℕ) → getD (replicate n false) k false ≡ false

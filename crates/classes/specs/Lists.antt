@@ -3,7 +3,7 @@ use mathlib.Core.Bool.{Bool, true, false, _&&_, _||_}
 use mathlib.Core.List.{List, [], _∷_}
 use Prim.Native.Nat.{ℕ, suc, _-_}
 use lib.Dec.{eqb}
-use lib.ListN.{take, drop}
+use lib.ListN.{length, getD, take, drop}
 
 -- one of two, by a test
 unfoldable pub pick : {A : Type 0} → Bool → A → A → A
@@ -40,6 +40,10 @@ sameBytes [] [] = true
 sameBytes [] (b ∷ l) = false
 sameBytes (a ∷ k) [] = false
 sameBytes (a ∷ k) (b ∷ l) = eqb a b && sameBytes k l
+
+-- the last byte, 0 where there is none
+abbrev pub lastByte : List ℕ → ℕ
+lastByte w = getD w (length w - 1) 0
 
 -- the bytes from a to e, e not included
 abbrev pub part : List ℕ → ℕ → ℕ → List ℕ

@@ -1,5 +1,5 @@
 -- The checks in their order: a law for each way that the compiler goes.
-use mathlib.Core.Path.{_≡_, refl, ap, sym, _∙_}
+use mathlib.Core.Path.{_≡_, refl, ap, sym, subst, _∙_}
 use mathlib.Core.Bool.{Bool}
 use mathlib.Core.List.{List, [], _∷_, _++_}
 use Prim.Native.Nat.{ℕ, _-_, _≤_, _<_}
@@ -9,7 +9,7 @@ use lib.Seq.{sets, take-at}
 use borrow.Author.Tests.{lt-ltb, le-ltb}
 use Rattle.classes.specs.Lists.{pick, part}
 use Rattle.numbers.specs.Limits.{parameterLimit}
-use Rattle.reading_rules.specs.Record.{Record, Before}
+use Rattle.reading_rules.specs.Record.{Record, Before, AfterParents}
 use Rattle.definition_rules.specs.Declarations.{Noted, declarationsOf}
 use Rattle.definition_rules.specs.Records.{topNames}
 use Rattle.definition_rules.specs.Table.{encode, numberUp, just, decode}
@@ -158,17 +158,26 @@ module _ (text cs : List ℕ) (n : ℕ) where
 pub front : (p s : List ℕ) (len : ℕ) → p ≡ part s 0 len → p ≡ take len s
 front p s len e = let q : len - 0 ≡ len = omega arith in e ∙ rw q
 
--- ---- the records of a table, unpacked and in their lists
+-- ---- the records of a table, unpacked
+
+pub unpacked-count : (t unpacked : List ℕ) (w : Walk) (m : ℕ) → Walked t unpacked w → w ≡ Count m → RecordsCounted t unpacked m
+unfolding Walked
+unpacked-count t unpacked w m h e = (rw e at h)
 
 module _ (t unpacked : List ℕ) (n : ℕ) (rs : List Record) (d : decode t ≡ just rs) (l : length rs ≡ n) where
-  pub unpacked-all : (w : Walk) (m : ℕ) → Walked t unpacked w → w ≡ Count m → recordsAt t unpacked n ≡ rs
-  unfolding Walked
-  unpacked-all w m h e =
-      let c : RecordsCounted t unpacked m = (rw e at h) in
-      let q : just (recordsAt t unpacked m) ≡ just rs = sym (c .these) ∙ d in
-      let r : recordsAt t unpacked m ≡ rs = cc in
-      let k : m ≡ n = sym (length-records t unpacked m 0) ∙ (ap length r ∙ l) in
-      ap (recordsAt t unpacked) (sym k) ∙ r
+  module _ (m : ℕ) (c : RecordsCounted t unpacked m) where
+    these : recordsAt t unpacked m ≡ rs
+    these = let q : just (recordsAt t unpacked m) ≡ just rs = sym (c .these) ∙ d in cc
+
+    as-many : m ≡ n
+    as-many = sym (length-records t unpacked m 0) ∙ (ap length these ∙ l)
+
+    pub unpacked-after : AfterParents rs → AfterParents (recordsAt t unpacked m)
+    unpacked-after w = subst AfterParents (sym these) w
+
+    -- what the checks say of the records unpacked, they say of those of the table
+    pub unpacked-fault : (text cs : List ℕ) (o : Finding) → o ≡ firstFault (checks7to10 (recordsAt t unpacked m) (notedFrom text cs m 0)) → o ≡ firstFault (checks7to10 rs (notedFrom text cs n 0))
+    unpacked-fault text cs o e = e ∙ rw (these, as-many)
 
   pub unpacked-some : {X : Type 0} (w : Walk) → n ≤ parameterLimit → Walked t unpacked w → w ≡ Bad → X
   unfolding Walked

@@ -13,8 +13,7 @@ ghost use Rattle.definition_rules.specs.Compile.{firstFault, answerWithRoom, le
 ghost use Rattle.definition_rules.specs.Stuck.{StuckPromise};
 ghost use Rattle.table_rules.specs.Endless.{EndlessPromise};
 ghost use Rattle.definition_cells.specs.Cells.{cellAt, notedFrom, parentCell};
-ghost use Rattle.table_records.specs.Stored.{recordsAt};
-ghost use Rattle.table_tags.specs.Lists.{Linked};
+ghost use Rattle.table_records.specs.Stored.{recordsAt, Laid};
 ghost use Rattle.definition.specs.Answers.{answerOfCompile, stopFinding, checks7to10, verdictFrom};
 
 // Success with the table's length, or a refusal with its number and place.
@@ -49,7 +48,7 @@ fn blank_bytes() -> [u8; SCRATCH]
 }
 
 fn blank_records() -> [u32; table_records::ALL_CELLS]
-    ensures { λ r. ⌜ length r ≡ 2880 ⌝ }
+    ensures { λ r. ⌜ length r ≡ 2560 ⌝ }
 {
     [0; table_records::ALL_CELLS]
 }
@@ -64,7 +63,7 @@ fn blank_marks() -> [bool; numbers::PARAMETER_LIMIT]
 
 // Numbers 7 to 10, over the declarations and the records that were written for them.
 fn record_fault(text: &[u8], cells: &[u32], table: &[u8], unpacked: &[u32], n: usize) -> Stop
-    requires { ⌜ (n ≤ parameterLimit) × Linked (now table) (now unpacked) n 0 ⌝ }
+    requires { ⌜ (n ≤ parameterLimit) × Laid (now table) (now unpacked) n ⌝ }
     ensures { λ r. ⌜ (AfterParents (recordsAt (now (table .entry)) (now (unpacked .entry)) n) → stopFinding r ≡ firstFault (checks7to10 (recordsAt (now (table .entry)) (now (unpacked .entry)) n) (notedFrom (now (text .entry)) (now (cells .entry)) n 0))) ⌝ }
 {
     let mut have = blank_marks();
@@ -105,10 +104,7 @@ fn written_fault(text: &[u8], cells: &[u32], table: &[u8], n: usize) -> Stop
 {
     let mut unpacked = blank_records();
     match table_walk::unpack(table, &mut unpacked) {
-        Walk::Count(_) => {
-            table_tags::link(table, &mut unpacked, n);
-            record_fault(text, cells, table, &unpacked, n)
-        }
+        Walk::Count(m) => record_fault(text, cells, table, &unpacked, m),
         Walk::Bad => Stop::Clear,
     }
 }

@@ -3,7 +3,7 @@ use definition_cells::Place;
 ghost use mathlib.Core.Path.{_≡_};
 ghost use Prim.Native.Nat.{_<_};
 ghost use Rattle.definition_cells.specs.Places.{leastFrom};
-ghost use Rattle.table_tags.specs.Lists.{Linked};
+ghost use Rattle.table_records.specs.Stored.{Laid};
 ghost use Rattle.definition_faults.specs.RecordFaults.{recordFault};
 
 // The fault of parameter i under the refusal's number: 7, 8, 9, else 10, of which have says who has a finite value.
@@ -16,7 +16,7 @@ fn fault_at(
     rule: u32,
     i: usize,
 ) -> Place
-    requires { ⌜ (i < n) × Linked (now table) (now unpacked) n 0 ⌝ }
+    requires { ⌜ (i < n) × Laid (now table) (now unpacked) n ⌝ }
     ensures { λ r. ⌜ r ≡ recordFault (now (cells .entry)) (now (table .entry)) (now (unpacked .entry)) (now (have .entry)) n rule i ⌝ }
 {
     if rule == 7 {
@@ -47,8 +47,7 @@ fn fault_at(
     )
 }
 
-// The least place of a fault under the refusal's number, over all parameters. The records' lists are made, so that a tag
-// that stands twice is found by a search.
+// The least place of a fault under the refusal's number, over all parameters.
 pub fn least_fault(
     cells: &[u32],
     table: &[u8],
@@ -57,7 +56,7 @@ pub fn least_fault(
     n: usize,
     rule: u32,
 ) -> Place
-    requires { ⌜ Linked (now table) (now unpacked) n 0 ⌝ }
+    requires { ⌜ Laid (now table) (now unpacked) n ⌝ }
     ensures { λ r. ⌜ r ≡ leastFrom (recordFault (now (cells .entry)) (now (table .entry)) (now (unpacked .entry)) (now (have .entry)) n rule) n 0 ⌝ }
 {
     let mut best = Place::Nowhere;

@@ -8,12 +8,12 @@ use native.Mathlib.Omega.{arith}
 use lib.ListN.{length, take, drop}
 use lib.Seq.{sets, sets-eq}
 use borrow.Author.Tests.{le-leb, lt-leb}
-use Rattle.numbers.specs.Limits.{messageLimit, openLimit, rowWidth, noRow, parameterLimit}
+use Rattle.numbers.specs.Limits.{messageLimit, rowWidth, noRow, parameterLimit}
 use Rattle.reading_rules.specs.Schema.{schemaOf}
 use Rattle.table_records.specs.Stored.{recordsAt}
 use Rattle.message_rules.specs.RowBytes.{rowFrom, rowTo, rowLies, rowBytes, rowStart}
 use Rattle.message_rules.specs.Scan.{cut, scanFault, tokensOf}
-use Rattle.reading_rules.specs.Parse.{bodyAt, parse}
+use Rattle.reading_rules.specs.Parse.{bodyAt}
 use Rattle.reading_rules.specs.Parse as parser
 use Rattle.message_rules.specs.Rows.{Row, rowsOf, messageRows, cells}
 use Rattle.message_rules.specs.Verdict.{RoomFree, fault, rows, outcome, placeOfLeft, afterScan, roomFree, accepted, refusal, withRoom, written}
@@ -25,9 +25,7 @@ use Rattle.message_tokens.specs.declared.Scanned.the-variants.{Clean, Fault}
 use Rattle.message_tokens.proofs.CutAt.{cut-start}
 use Rattle.message_unknown.proofs.AlongLaws.{place-left}
 use Rattle.message_rows.proofs.Stores.{rows-append}
-use Rattle.table_tags.specs.Lists.{Linked}
 use Rattle.message_lookup.specs.Questions.{schemaAt}
-use Rattle.message_lookup.proofs.Laws.{schema-is}
 use Rattle.message_frame.specs.declared.Got.{Got}
 use Rattle.message_frame.specs.declared.Got.the-variants as got
 use Rattle.message_frame.specs.Ends.{Room, Ends}
@@ -144,11 +142,9 @@ module _ (table : List ℕ) (o : List ℕ) (n : ℕ) (m : List ℕ) where
   unfolding afterScan
   bad-byte r at h e q = scanned h ∙ ap (afterScan (schemaOf (recordsAt table o n)) m (cut m .lexemes)) (sym e ∙ ap faultOf q)
 
-  pub no-bad : (r : Scanned) → Linked table o n 0 → length m ≤ messageLimit → faultOf r ≡ scanFault (cut m) → r ≡ Clean → roomFree (recordsAt table o n) m ≡ reading table o n m
+  pub no-bad : (r : Scanned) → length m ≤ messageLimit → faultOf r ≡ scanFault (cut m) → r ≡ Clean → roomFree (recordsAt table o n) m ≡ reading table o n m
   unfolding afterScan
-  no-bad r l h e q =
-      scanned h ∙ (ap (afterScan (schemaOf (recordsAt table o n)) m (cut m .lexemes)) (sym e ∙ ap faultOf q)
-      ∙ ap (λ S. outcome m (cut m .lexemes) (parse S openLimit (tokensOf (cut m .lexemes)))) (sym (schema-is table o n l)))
+  no-bad r h e q = scanned h ∙ ap (afterScan (schemaOf (recordsAt table o n)) m (cut m .lexemes)) (sym e ∙ ap faultOf q)
 
 -- nothing was lent
 pub none-more : (ys e : List ℕ) → length ys ≡ 0 → ys ++ e ≡ e

@@ -5,7 +5,7 @@ ghost use Prim.Native.Nat.{_≤_, _<_};
 ghost use lib.ListN.{length};
 ghost use Rattle.numbers.specs.Limits.{messageLimit, parameterLimit};
 ghost use Rattle.table_records.specs.Stored.{recordsAt};
-ghost use Rattle.table_tags.specs.Lists.{Linked};
+ghost use Rattle.table_tags.specs.Search.{Searchable};
 ghost use Rattle.table_walk.specs.Walked.{Enough};
 ghost use Rattle.message_rules.specs.RowBytes.{rowBytes, rowStart, further};
 ghost use Rattle.message_rules.specs.Rows.{Row};
@@ -72,6 +72,7 @@ fn root() -> Frame
 // The first pass, over no rows: how many there are, or the refusal. The records are at most 256, as a table's are.
 fn count(table: &[u8], unpacked: &[u32], n: usize, message: &[u8], rows: &mut [u32]) -> Got
     requires { ⌜ (length (now message) ≤ messageLimit) × (n ≤ parameterLimit) ⌝ }
+    requires { ⌜ Searchable (now table) (now unpacked) n ⌝ }
     ensures { λ r. ⌜ RowsCounted (reading (now (table .entry)) (now (unpacked .entry)) n (now (message .entry))) r ⌝ }
     ensures { λ _. ⌜ now (rows .exit) ≡ now (rows .entry) ⌝ }
 {
@@ -81,6 +82,7 @@ fn count(table: &[u8], unpacked: &[u32], n: usize, message: &[u8], rows: &mut [u
 // The second pass, which fills the rows.
 fn fill(table: &[u8], unpacked: &[u32], n: usize, message: &[u8], rows: &mut [u32])
     requires { ⌜ (length (now message) ≤ messageLimit) × (n ≤ parameterLimit) ⌝ }
+    requires { ⌜ Searchable (now table) (now unpacked) n ⌝ }
     ensures { λ _. ⌜ Fills (reading (now (table .entry)) (now (unpacked .entry)) n (now (message .entry))) (now (rows .entry)) (now (rows .exit)) ⌝ }
 {
     message_rows::put_row(
@@ -106,7 +108,7 @@ fn read_records(
     message: &[u8],
     rows: &mut [u32],
 ) -> Verdict
-    requires { ⌜ (n ≤ parameterLimit) × Linked (now table) (now unpacked) n 0 ⌝ }
+    requires { ⌜ (n ≤ parameterLimit) × Searchable (now table) (now unpacked) n ⌝ }
     ensures { λ r. ⌜ answerOfRead r ≡ withRoom (length (now (rows .entry))) (roomFree (recordsAt (now (table .entry)) (now (unpacked .entry)) n) (now (message .entry))) ⌝ }
     ensures { λ _. ⌜ now (rows .exit) ≡ written (now (rows .entry)) (roomFree (recordsAt (now (table .entry)) (now (unpacked .entry)) n) (now (message .entry))) ⌝ }
 {
@@ -132,6 +134,7 @@ fn read_tokens(
     rows: &mut [u32],
 ) -> Verdict
     requires { ⌜ (length (now message) ≤ messageLimit) × (n ≤ parameterLimit) ⌝ }
+    requires { ⌜ Searchable (now table) (now unpacked) n ⌝ }
     ensures { λ r. ⌜ answerOfRead r ≡ withRoom (length (now (rows .entry))) (reading (now (table .entry)) (now (unpacked .entry)) n (now (message .entry))) ⌝ }
     ensures { λ _. ⌜ now (rows .exit) ≡ written (now (rows .entry)) (reading (now (table .entry)) (now (unpacked .entry)) n (now (message .entry))) ⌝ }
 {

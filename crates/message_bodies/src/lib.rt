@@ -4,6 +4,7 @@ ghost use mathlib.Core.Path.{_≡_};
 ghost use Prim.Native.Nat.{_+_, _≤_};
 ghost use lib.ListN.{length};
 ghost use Rattle.numbers.specs.Limits.{messageLimit};
+ghost use Rattle.table_tags.specs.Search.{Searchable};
 ghost use Rattle.message_bodies.specs.Bodies.{endNumberAt, endAt, StartAt, ItemAt, KnownAt, UnknownAt};
 use message_frame::Frame;
 use message_tokens::Cursor;
@@ -122,7 +123,7 @@ fn known_item(
     Item::Refused(23, base + h.start)
 }
 
-// What stands at an item's place in the body of f.parameter.
+// What stands at an item's place in the body of f.parameter. Its tag is looked for from a record on and round.
 pub fn item_at(
     table: &[u8],
     unpacked: &[u32],
@@ -131,8 +132,10 @@ pub fn item_at(
     f: Frame,
     inside: bool,
     seen: &[bool; numbers::PARAMETER_LIMIT],
+    from: usize,
 ) -> Item
     requires { ⌜ f .base + length (now s) ≤ messageLimit ⌝ }
+    requires { ⌜ Searchable (now table) (now unpacked) n ⌝ }
     ensures { λ r. ⌜ ItemAt (now (table .entry)) (now (unpacked .entry)) n (now (s .entry)) f inside (now (seen .entry)) r ⌝ }
 {
     let c = Cursor { at: f.at };
@@ -141,7 +144,7 @@ pub fn item_at(
     let past = h.past;
     let e = past.at;
     if h.kind == message_tokens::WORD {
-        match message_lookup::find(table, unpacked, n, f.parameter, &s[a..e]) {
+        match message_lookup::find(table, unpacked, n, f.parameter, &s[a..e], from) {
             Found::Nowhere => {
                 return unknown_item(s, f.base, past);
             }

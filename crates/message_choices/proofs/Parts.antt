@@ -20,7 +20,7 @@ use Rattle.message_tokens.specs.declared.Head.{Head}
 use Rattle.message_tokens.proofs.Heads.{head-not, step-tokens}
 use Rattle.message_unknown.specs.Along.{here, tokensAt, Stopped}
 use Rattle.message_unknown.proofs.AlongLaws.{step-tail}
-use Rattle.message_lookup.specs.Questions.{withFind, schemaAt}
+use Rattle.message_lookup.specs.Questions.{schemaAt}
 use Rattle.table_tags.specs.declared.Found.{Found}
 use Rattle.message_lookup.proofs.Laws.{find-below, untagged-below}
 use Rattle.message_frame.specs.Ends.{Values, endOf}
@@ -30,11 +30,11 @@ use Rattle.message_choices.specs.declared.Choice.{Choice}
 use Rattle.message_choices.specs.declared.Choice.the-variants as choice
 use Rattle.message_frame.proofs.GoingLaws.{stopped-before}
 use Rattle.message_frame.proofs.AtToken.{stop-here, stop-at, step-of-equals, equals-none}
-use Rattle.table_tags.specs.Lists.{foundOf}
+use Rattle.table_tags.specs.Search.{foundOf}
 
 module _ (t o : List ℕ) (n : ℕ) where
   bare-below : (u q : ℕ) → schemaAt t o n .bare u ≡ found q → q < n
-  unfolding schemaOf withFind
+  unfolding schemaOf
   bare-below u q e = untagged-below t o n u 0 q e
 
   bare-found : (u q : ℕ) (b : Bool) → bareFor (schemaAt t o n .bare u) b ≡ found q → schemaAt t o n .bare u ≡ found q

@@ -3,9 +3,10 @@ use mathlib.Core.Path.{_≡_}
 use mathlib.Core.Bool.{Bool, true, false}
 use mathlib.Core.List.{List, [], _∷_}
 use Prim.Native.Nat.{ℕ, _<_}
+use Rattle.classes.specs.Lists.{pick}
 use Rattle.numbers.specs.Decimal.{isIntLike}
 use Rattle.reading_rules.specs.Token.{word, equals}
-use Rattle.reading_rules.specs.Schema.{Schema, isVoid, found}
+use Rattle.reading_rules.specs.Schema.{Schema, isVoid, isUnder, found}
 use Rattle.reading_rules.specs.Reading.{value, Tree, chosen}
 use Rattle.message_rules.specs.Scan.{Lexeme as Lex}
 use Rattle.reading_rules.specs.Parse.{got, then, alternative, bareFor, unionAt}
@@ -13,13 +14,18 @@ use Rattle.reading_rules.specs.Reading.{width}
 use Rattle.message_rules.specs.Rows.{rowOver, rowsOf}
 use Rattle.message_tokens.specs.Cursor.{part, cutAt, lexemesAt, Step}
 use Rattle.message_unknown.specs.Along.{tokensAt, Stopped}
+use Rattle.table_records.specs.Stored.{recordIn}
 use Rattle.message_lookup.specs.Questions.{schemaAt}
 use Rattle.message_frame.specs.Ends.{Values, endOf}
 use Rattle.message_frame.specs.declared.Frame.{Frame}
 use Rattle.table_tags.specs.declared.Found.{Found}
 use Rattle.message_choices.specs.declared.Choice.{Choice}
 use Rattle.message_choices.specs.declared.Choice.the-variants as choice
-use Rattle.table_tags.specs.Lists.{foundOf}
+use Rattle.table_tags.specs.Search.{foundOf}
+
+-- the record that a tag of the union u is looked for from, in a value of p
+abbrev pub startOf : List ℕ → List ℕ → ℕ → ℕ → ℕ
+startOf t o p u = pick (isUnder u (recordIn t o p .parent)) p u
 
 -- a choice of q whose value is due at e
 pub record Deeper (S : Schema) (n : ℕ) (s : List ℕ) (f : Frame) (u q a e : ℕ) : Type 0 where

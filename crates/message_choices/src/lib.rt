@@ -1,9 +1,11 @@
 // What a reader decides where a union's value starts: which alternative it is, and whether a value of it is due.
 // s is the message from base on. It is short, as `Room` asks, so that no sum of places overflows.
+ghost use mathlib.Core.Path.{_≡_};
 ghost use Prim.Native.Nat.{_+_, _≤_};
 ghost use lib.ListN.{length};
 ghost use Rattle.numbers.specs.Limits.{messageLimit};
-ghost use Rattle.message_choices.specs.Choices.{ChoiceAt, ChosenAt, bareAt};
+ghost use Rattle.table_tags.specs.Search.{Searchable};
+ghost use Rattle.message_choices.specs.Choices.{ChoiceAt, ChosenAt, bareAt, startOf};
 use message_frame::Frame;
 use message_tokens::Cursor;
 use table_tags::Found;
@@ -13,6 +15,17 @@ pub enum Choice {
     Deeper(usize, usize, Cursor),
     Last(usize, usize, Cursor),
     Refused(u32, usize),
+}
+
+// The record that a tag of the union u is looked for from: the alternative p that was chosen last, where it is one of u's,
+// so that a chain of the same choices finds each at once; else the union's own.
+fn start_of(table: &[u8], unpacked: &[u32], p: usize, u: usize) -> usize
+    ensures { λ r. ⌜ r ≡ startOf (now (table .entry)) (now (unpacked .entry)) p u ⌝ }
+{
+    if table_records::is_under(table, unpacked, p, u) {
+        return p;
+    }
+    u
 }
 
 // The alternative of the union u with the word from a on as its tag.
@@ -27,10 +40,12 @@ fn alternative(
     past: Cursor,
 ) -> Choice
     requires { ⌜ (f .base + length (now s) ≤ messageLimit) × (a ≤ past .at) × (past .at ≤ length (now s)) ⌝ }
+    requires { ⌜ Searchable (now table) (now unpacked) n ⌝ }
     ensures { λ r. ⌜ ChosenAt (now (table .entry)) (now (unpacked .entry)) n (now (s .entry)) f u a (past .at) r ⌝ }
 {
     let e = past.at;
-    match message_lookup::find(table, unpacked, n, u, &s[a..e]) {
+    let from = start_of(table, unpacked, f.parameter, u);
+    match message_lookup::find(table, unpacked, n, u, &s[a..e], from) {
         Found::Nowhere => Choice::Refused(28, f.base + a),
         Found::At(q) => {
             if message_lookup::is_void(table, unpacked, n, q) {
@@ -59,6 +74,7 @@ fn bare_for(table: &[u8], unpacked: &[u32], n: usize, u: usize, word: &[u8]) -> 
 // What a union's value begins with.
 pub fn choose(table: &[u8], unpacked: &[u32], n: usize, s: &[u8], f: Frame, u: usize) -> Choice
     requires { ⌜ f .base + length (now s) ≤ messageLimit ⌝ }
+    requires { ⌜ Searchable (now table) (now unpacked) n ⌝ }
     ensures { λ r. ⌜ ChoiceAt (now (table .entry)) (now (unpacked .entry)) n (now (s .entry)) f u r ⌝ }
 {
     let c = Cursor { at: f.at };

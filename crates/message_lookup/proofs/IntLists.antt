@@ -17,7 +17,7 @@ use Rattle.reading_rules.specs.Value.{valueNumber}
 use Rattle.reading_rules.specs.Parse.{mayGrow}
 use Rattle.reading_rules.proofs.CountLaws.{clash-bool, and-both}
 use Rattle.table_records.specs.Stored.{recordIn}
-use Rattle.message_lookup.specs.Questions.{withFind, schemaAt, intLies}
+use Rattle.message_lookup.specs.Questions.{schemaAt, intLies}
 use Rattle.message_lookup.specs.IntList.{IntsOf}
 use Rattle.message_lookup.proofs.Steps.{here}
 use Rattle.message_lookup.proofs.Judging.{form-and-range, word-int}
@@ -45,11 +45,11 @@ ints-none S p hi most h g = record { plain = λ e. clash-bool e; judged = λ e. 
 
 module _ (t unpacked : List ℕ) (n p u : ℕ) (c : u ≡ schemaAt t unpacked n .core p) (l : u < n) where
   plain-kind : recordIn t unpacked u .kind ≡ 3 → schemaAt t unpacked n .kind u ≡ simple
-  unfolding schemaOf withFind kindOf
+  unfolding schemaOf kindOf
   plain-kind k = sym (here (λ (r : Record). kindOf (r .kind)) t unpacked n u l (sym (ap kindOf k)))
 
   word-judged : recordIn t unpacked u .kind ≡ 3 → (w : List ℕ) → isNatural w ≡ true → recordIn t unpacked u .least ≤ bias + numberOf w → bias + numberOf w ≤ recordIn t unpacked u .most → schemaAt t unpacked n .judge u (word w) ≡ 0
-  unfolding schemaOf withFind
+  unfolding schemaOf
   word-judged k w e a b = sym (here (λ (r : Record). valueNumber r (word w)) t unpacked n u l (natural-int (recordIn t unpacked u) w k e a b))
 
   pub ints-some : (x y : Bool) (low high least most hi many : ℕ) → x ≡ eqb (recordIn t unpacked u .kind) 3 → y ≡ leb bias (recordIn t unpacked u .most) → low ≡ recordIn t unpacked u .least - bias → high ≡ recordIn t unpacked u .most - bias → PackedBound low least → PackedBound high most → hi ≡ schemaAt t unpacked n .hi p → ((c : ℕ) → c < many → mayGrow hi c ≡ true) → IntsOf (schemaAt t unpacked n) p (record { on = x && y; least = least; most = most; hi = many })

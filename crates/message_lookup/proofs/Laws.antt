@@ -1,19 +1,18 @@
 -- What a reader needs of the answers: walking the untagged fields, and where a found parameter lies.
-use mathlib.Core.Path.{_≡_, refl, ap, sym, _∙_, subst, fun-ext}
+use mathlib.Core.Path.{_≡_, refl, ap, sym, _∙_, subst}
 use mathlib.Core.Bool.{Bool, true, false}
 use mathlib.Core.List.{List, [], _∷_}
 use Prim.Native.Nat.{ℕ, suc, _+_, _-_, _≤_, _<_}
 use native.Mathlib.Omega.{arith}
 use native.Mathlib.Numerals.{add-one}
-use lib.ListN.{length, getD, drop, length-drop}
+use lib.ListN.{length, drop, length-drop}
 use lib.Seq.{drop-drop}
 use Rattle.reading_rules.specs.Record.{Record}
 use Rattle.reading_rules.specs.Schema.{nowhere, found, schemaOf, first, numbersWhere, isUntaggedOf}
 use Rattle.table_records.specs.Stored.{recordsAt}
 use Rattle.table_records.proofs.Laws.{length-records}
-use Rattle.table_tags.specs.Lists.{listKey, Linked}
-use Rattle.table_tags.proofs.Searching.{search-below, search-first}
-use Rattle.message_lookup.specs.Questions.{withFind, schemaAt, untaggedFrom}
+use Rattle.table_tags.proofs.Searching.{searched-below}
+use Rattle.message_lookup.specs.Questions.{schemaAt, untaggedFrom}
 use Rattle.message_lookup.proofs.Steps.{where-true, where-false}
 
 -- ---- numbers of records for which a test holds
@@ -70,7 +69,7 @@ none-in f i rs = go (numbersWhere f i rs)
 -- ---- the untagged fields, one after the other
 
 pub untagged-all : (t unpacked : List ℕ) (n p : ℕ) → schemaAt t unpacked n .untagged p ≡ untaggedFrom t unpacked n p 0
-unfolding schemaOf withFind
+unfolding schemaOf
 untagged-all t unpacked n p = refl
 
 module _ (t unpacked : List ℕ) (n p i q : ℕ) (e : first (untaggedFrom t unpacked n p i) ≡ found q) where
@@ -95,12 +94,5 @@ untagged-none t unpacked n p i e = none-in (isUntaggedOf p) i (drop i (recordsAt
 -- ---- a tag that was found
 
 pub find-below : (t unpacked : List ℕ) (n p : ℕ) (w : List ℕ) (q : ℕ) → schemaAt t unpacked n .find p w ≡ found q → q < n
-unfolding withFind
-find-below t unpacked n p w q e = search-below t unpacked n p w n (getD unpacked (listKey p w) 0) q e
-
--- where the lists are made, the answers are the records'
-pub schema-is : (t unpacked : List ℕ) (n : ℕ) → Linked t unpacked n 0 → schemaAt t unpacked n ≡ schemaOf (recordsAt t unpacked n)
-unfolding schemaOf withFind
-schema-is t unpacked n l = ap (withFind (schemaOf (recordsAt t unpacked n))) (fun-ext (λ p. fun-ext (λ w. search-first t unpacked n p w l)))
-
--- ---- one parameter
+unfolding schemaOf
+find-below t unpacked n p w q e = searched-below t unpacked n p w q e

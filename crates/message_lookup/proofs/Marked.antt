@@ -10,8 +10,7 @@ use lib.Seq.{getD-set-same, getD-set-other}
 use Rattle.classes.proofs.Rows.{no-mark}
 use Rattle.numbers.specs.Limits.{parameterLimit}
 use Rattle.reading_rules.specs.Record.{Record, blank, recordAt}
-use Rattle.reading_rules.specs.Schema.{Schema, Found, schemaOf, numbersWhere, isTaggedOf}
-use Rattle.message_lookup.specs.Questions.{withFind}
+use Rattle.reading_rules.specs.Schema.{Schema, schemaOf, numbersWhere, isTaggedOf}
 use Rattle.reading_rules.specs.Count.{same, times, has, allIn}
 use Rattle.reading_rules.proofs.CountLaws.{same-self, same-case, in-has, out-hasnt, in-head}
 use Rattle.reading_rules.specs.Parse.{requiredOf}
@@ -64,9 +63,9 @@ not-not false = refl
 abbrev canBeAbsent : Record → Bool
 canBeAbsent r = (r .extension || r .plugin) || eqb (r .loCount) 0
 
-module _ (table : List Record) (find : ℕ → List ℕ → Found) (p : ℕ) (seen : List Bool) (ks : List ℕ) (m : Marks seen ks) where
+module _ (table : List Record) (p : ℕ) (seen : List Bool) (ks : List ℕ) (m : Marks seen ks) where
   abbrev S : Schema
-  S = withFind (schemaOf table) find
+  S = schemaOf table
 
   -- what the fields from i on ask
   abbrev asked : ℕ → List Record → Bool
@@ -74,7 +73,7 @@ module _ (table : List Record) (find : ℕ → List ℕ → Found) (p : ℕ) (se
 
   module _ (i : ℕ) (r : Record) (rs : List Record) (same : recordAt table i ≡ r) where
     absent : S .optional i || eqb (S .lo i) 0 ≡ canBeAbsent r
-    unfolding schemaOf withFind
+    unfolding schemaOf
     absent = ap canBeAbsent same
 
     other : isTaggedOf p r ≡ false → asked i (r ∷ rs) ≡ asked (suc i) rs
@@ -112,5 +111,5 @@ module _ (table : List Record) (find : ℕ → List ℕ → Found) (p : ℕ) (se
 
   -- what the code asks of the marks is what a reading asks of the fields
   pub complete-marks : completeFrom p seen 0 table ≡ allIn (requiredOf S (S .tagged p)) ks
-  unfolding recordAt schemaOf withFind
+  unfolding recordAt schemaOf
   complete-marks = complete-from 0 table (λ k h. ap (recordAt table) (omega arith))

@@ -11,29 +11,12 @@ use Rattle.reading_rules.specs.Record.{Record, recordAt}
 use Rattle.reading_rules.specs.Schema as schema
 use Rattle.reading_rules.specs.Schema.{Schema, schemaOf, numbersWhere, isUntaggedOf}
 use Rattle.table_records.specs.Stored.{recordsAt}
-use Rattle.table_tags.specs.Lists.{searched}
 use Rattle.message_lookup.specs.declared.Shape.{Shape}
 use Rattle.message_lookup.specs.declared.Shape.the-variants.{Void, Simple, Struct, Union, Reference}
 
--- the same answers, with another search for tags
-unfoldable pub withFind : Schema → (ℕ → List ℕ → schema.Found) → Schema
-withFind S find =
-    record {
-      kind = S .kind;
-      core = S .core;
-      untagged = S .untagged;
-      tagged = S .tagged;
-      bare = S .bare;
-      find = find;
-      lo = S .lo;
-      hi = S .hi;
-      optional = S .optional;
-      judge = S .judge;
-    }
-
--- the answers of a table of n records; a tag is searched along its list
+-- the answers of a table of n records
 abbrev pub schemaAt : List ℕ → List ℕ → ℕ → Schema
-schemaAt t unpacked n = withFind (schemaOf (recordsAt t unpacked n)) (searched t unpacked n)
+schemaAt t unpacked n = schemaOf (recordsAt t unpacked n)
 
 -- the p-th of n records, or the blank one
 abbrev pub nth : List ℕ → List ℕ → ℕ → ℕ → Record

@@ -12,7 +12,7 @@ ghost use Rattle.reading_rules.specs.Value.{isBool, formThenRange, valueNumber}
 ghost use Rattle.reading_rules.specs.Schema.{isVoid, isUntaggedOf, isTaggedOf, first};
 ghost use Rattle.reading_rules.specs.Parse.{mayGrow};
 ghost use Rattle.table_records.specs.Stored.{recordIn, recordsAt};
-ghost use Rattle.table_tags.specs.Lists.{foundOf};
+ghost use Rattle.table_tags.specs.Search.{foundOf, Searchable};
 ghost use Rattle.message_lookup.specs.Questions.{schemaAt, nth, shapeOf, untaggedFrom, textToken, lengthLies, intLies};
 ghost use Rattle.message_lookup.specs.Seen.{noMarks, isRequiredOf, isMissing, completeFrom};
 ghost use Rattle.message_lookup.specs.IntList.{IntsOf};
@@ -195,12 +195,13 @@ pub fn bare(table: &[u8], unpacked: &[u32], n: usize, p: usize) -> Found
     next_untagged(table, unpacked, n, p, 0)
 }
 
-// The tag search: the field or alternative of p with this wire tag. Made again by a match: handed on as it is, the
-// reader's loop over ints is compiled into slower code (docs/PERFORMANCE.md).
-pub fn find(table: &[u8], unpacked: &[u32], n: usize, p: usize, word: &[u8]) -> Found
+// The tag search: the field or alternative of p with this wire tag, looked for from a record on and round. Made again by a
+// match: handed on as it is, the reader's loop over ints is compiled into slower code (docs/PERFORMANCE.md).
+pub fn find(table: &[u8], unpacked: &[u32], n: usize, p: usize, word: &[u8], from: usize) -> Found
+    requires { ⌜ Searchable (now table) (now unpacked) n ⌝ }
     ensures { λ r. ⌜ foundOf r ≡ schemaAt (now (table .entry)) (now (unpacked .entry)) n .find p (now (word .entry)) ⌝ }
 {
-    match table_tags::find(table, unpacked, n, p, word) {
+    match table_tags::find(table, unpacked, n, p, word, from) {
         Found::Nowhere => Found::Nowhere,
         Found::At(q) => Found::At(q),
     }

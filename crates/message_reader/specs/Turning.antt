@@ -167,6 +167,6 @@ pub record Due (S : Schema) (n : ℕ) (s : List ℕ) (f g : Frame) (inside : Boo
 -- what stands next in the body of f, which is read up to g
 abbrev pub PartAt : List ℕ → List ℕ → ℕ → List ℕ → Frame → Frame → Bool → List ℕ → List ℕ → List Bool → Part → Type 0
 PartAt t o n s f g inside before after marks (part.List q u next) = Due (schemaAt t o n) n s f g inside before after marks q (u .at) (untaggedFrom t o n (g .parameter) next)
-PartAt t o n s f g inside before after marks (part.On u next) = (g .at < u .at) × Bodying (schemaAt t o n) s f (movedOf g (u .at) next) inside before after marks []
+PartAt t o n s f g inside before after marks (part.On u next from) = (g .at < u .at) × Bodying (schemaAt t o n) s f (movedOf g (u .at) next) inside before after marks []
 PartAt t o n s f g inside before after marks (part.Done u next) = Ends (bodyOf (schemaAt t o n) s f inside) s f before after 0 (Done u next)
 PartAt t o n s f g inside before after marks (part.Refused k q) = Ends (bodyOf (schemaAt t o n) s f inside) s f before after 0 (Refused k q)

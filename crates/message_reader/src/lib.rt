@@ -8,6 +8,7 @@ ghost use Prim.Native.Nat.{ℕ, _+_, _≤_, _<_};
 ghost use lib.ListN.{length};
 ghost use Rattle.numbers.specs.Limits.{messageLimit};
 ghost use Rattle.reading_rules.specs.Parse.{structAt, wholeList, listsAt, bodyAt};
+ghost use Rattle.table_tags.specs.Search.{Searchable};
 ghost use Rattle.message_lookup.specs.Questions.{schemaAt, untaggedFrom};
 ghost use Rattle.message_lookup.specs.IntList.{IntsOf};
 ghost use Rattle.message_frame.specs.Ends.{Room, Ends, EndsValue};
@@ -206,6 +207,7 @@ fn open_row(rows: &mut [u32], f: Frame, start: usize)
 // Any value: a loop down a chain of choices, whose rows are neighbours with one end, then a value that is no choice.
 fn value(table: &[u8], unpacked: &[u32], n: usize, s: &[u8], rows: &mut [u32], f: Frame) -> Got
     requires { ⌜ Room f (length (now s)) n ⌝ }
+    requires { ⌜ Searchable (now table) (now unpacked) n ⌝ }
     requires { ⌜ f .parameter < n ⌝ }
     ensures { λ r. ⌜ EndsValue (valuesOf (schemaAt (now (table .entry)) (now (unpacked .entry)) n) (f .depth) (f .parameter) (here (now (s .entry)) f)) (now (s .entry)) f (now (rows .entry)) (now (rows .exit)) r ⌝ }
 {
@@ -245,6 +247,7 @@ fn braced(
     u: usize,
 ) -> Got
     requires { ⌜ Room f (length (now s)) n ⌝ }
+    requires { ⌜ Searchable (now table) (now unpacked) n ⌝ }
     requires { ⌜ f .parameter < n ⌝ }
     ensures { λ r. ⌜ EndsValue (structAt (bodyAt (schemaAt (now (table .entry)) (now (unpacked .entry)) n) (f .depth) true) u (here (now (s .entry)) f)) (now (s .entry)) f (now (rows .entry)) (now (rows .exit)) r ⌝ }
 {
@@ -271,6 +274,7 @@ fn plain_value(
     u: usize,
 ) -> Got
     requires { ⌜ Room f (length (now s)) n ⌝ }
+    requires { ⌜ Searchable (now table) (now unpacked) n ⌝ }
     requires { ⌜ f .parameter < n ⌝ }
     requires { ⌜ u ≡ schemaAt (now table) (now unpacked) n .core (f .parameter) ⌝ }
     ensures { λ r. ⌜ PlainAt (schemaAt (now (table .entry)) (now (unpacked .entry)) n) (now (s .entry)) f (now (rows .entry)) (now (rows .exit)) r ⌝ }
@@ -305,6 +309,7 @@ fn list_value(
     e: Ints,
 ) -> Taken
     requires { ⌜ Room f (length (now s)) n ⌝ }
+    requires { ⌜ Searchable (now table) (now unpacked) n ⌝ }
     requires { ⌜ f .parameter < n ⌝ }
     requires { ⌜ IntsOf (schemaAt (now table) (now unpacked) n) (f .parameter) e ⌝ }
     ensures { λ r. ⌜ TakenAt (schemaAt (now (table .entry)) (now (unpacked .entry)) n) (now (s .entry)) f (now (rows .entry)) (now (rows .exit)) r ⌝ }
@@ -330,6 +335,7 @@ fn element(
     e: Ints,
 ) -> Taken
     requires { ⌜ Room f (length (now s)) n ⌝ }
+    requires { ⌜ Searchable (now table) (now unpacked) n ⌝ }
     requires { ⌜ f .parameter < n ⌝ }
     requires { ⌜ IntsOf (schemaAt (now table) (now unpacked) n) (f .parameter) e ⌝ }
     ensures { λ r. ⌜ ElementAt (schemaAt (now (table .entry)) (now (unpacked .entry)) n) (now (s .entry)) f (now (rows .entry)) (now (rows .exit)) r ⌝ }
@@ -357,6 +363,7 @@ fn element(
 // The whole list of a field, whose first value f is for.
 fn list(table: &[u8], unpacked: &[u32], n: usize, s: &[u8], rows: &mut [u32], f: Frame) -> Got
     requires { ⌜ Room f (length (now s)) n ⌝ }
+    requires { ⌜ Searchable (now table) (now unpacked) n ⌝ }
     requires { ⌜ (f .parameter < n) × (f .index ≡ 0) ⌝ }
     ensures { λ r. ⌜ Ends (wholeList (schemaAt (now (table .entry)) (now (unpacked .entry)) n) (valuesOf (schemaAt (now (table .entry)) (now (unpacked .entry)) n) (f .depth)) (f .parameter) (here (now (s .entry)) f)) (now (s .entry)) f (now (rows .entry)) (now (rows .exit)) 1 r ⌝ }
 {
@@ -380,15 +387,16 @@ fn list(table: &[u8], unpacked: &[u32], n: usize, s: &[u8], rows: &mut [u32], f:
 // ---- bodies
 
 // What stands next in a body: the list of the field q, due at the cursor, after which the untagged fields from record i on
-// are left; an item that is read, up to the cursor, and the next row; the body's end; or refused.
+// are left; an item that is read, up to the cursor, the next row, and the record that the next tag is looked for from; the
+// body's end; or refused.
 enum Part {
     List(usize, Cursor, usize),
-    On(Cursor, usize),
+    On(Cursor, usize, usize),
     Done(Cursor, usize),
     Refused(u32, usize),
 }
 
-// One item after the untagged fields. Its field is marked.
+// One item after the untagged fields. Its field is marked. Its tag is looked for from a record on and round.
 fn item(
     table: &[u8],
     unpacked: &[u32],
@@ -398,12 +406,14 @@ fn item(
     f: Frame,
     inside: bool,
     seen: &mut [bool; numbers::PARAMETER_LIMIT],
+    from: usize,
 ) -> Part
     requires { ⌜ Room f (length (now s)) n ⌝ }
+    requires { ⌜ Searchable (now table) (now unpacked) n ⌝ }
     requires { ⌜ Marked (now seen) ⌝ }
     ensures { λ r. ⌜ ((e : Frame) (before : List ℕ) → Bodying (schemaAt (now (table .entry)) (now (unpacked .entry)) n) (now (s .entry)) e f inside before (now (rows .entry)) (now (seen .entry)) [] → PartAt (now (table .entry)) (now (unpacked .entry)) n (now (s .entry)) e f inside before (now (rows .exit)) (now (seen .exit)) r) ⌝ }
 {
-    match message_bodies::item_at(table, unpacked, n, s, f, inside, seen) {
+    match message_bodies::item_at(table, unpacked, n, s, f, inside, seen, from) {
         Item::End => Part::Done(Cursor { at: f.at }, f.row),
         Item::Void(q, a, v) => {
             message_lookup::mark(seen, q);
@@ -418,13 +428,13 @@ fn item(
                     index: 0, // a void's
                 },
             );
-            Part::On(v, f.row + 1)
+            Part::On(v, f.row + 1, q + 1)
         }
         Item::List(q, v) => {
             message_lookup::mark(seen, q);
             Part::List(q, v, n)
         }
-        Item::Unknown(v) => Part::On(v, f.row),
+        Item::Unknown(v) => Part::On(v, f.row, from),
         Item::Refused(k, p) => Part::Refused(k, p),
     }
 }
@@ -440,13 +450,15 @@ fn next_part(
     inside: bool,
     seen: &mut [bool; numbers::PARAMETER_LIMIT],
     i: usize,
+    from: usize,
 ) -> Part
     requires { ⌜ Room f (length (now s)) n ⌝ }
+    requires { ⌜ Searchable (now table) (now unpacked) n ⌝ }
     requires { ⌜ Marked (now seen) ⌝ }
     ensures { λ r. ⌜ ((e : Frame) (before : List ℕ) → Bodying (schemaAt (now (table .entry)) (now (unpacked .entry)) n) (now (s .entry)) e f inside before (now (rows .entry)) (now (seen .entry)) (untaggedFrom (now (table .entry)) (now (unpacked .entry)) n (f .parameter) i) → PartAt (now (table .entry)) (now (unpacked .entry)) n (now (s .entry)) e f inside before (now (rows .exit)) (now (seen .exit)) r) ⌝ }
 {
     match message_lookup::next_untagged(table, unpacked, n, f.parameter, i) {
-        Found::Nowhere => item(table, unpacked, n, s, rows, f, inside, seen),
+        Found::Nowhere => item(table, unpacked, n, s, rows, f, inside, seen, from),
         Found::At(q) => {
             let v = Cursor { at: f.at };
             match message_bodies::field_at(table, unpacked, n, s, for_field(f, v, q), inside) {
@@ -459,6 +471,7 @@ fn next_part(
 }
 
 // The untagged fields' lists in order, then the items: one loop, so that one place calls `list`, which is then inlined.
+// Each tag is looked for from behind the field found last, so that items in the table's order are found at once.
 fn fields(
     table: &[u8],
     unpacked: &[u32],
@@ -469,26 +482,30 @@ fn fields(
     inside: bool,
 ) -> Got
     requires { ⌜ Room f (length (now s)) n ⌝ }
+    requires { ⌜ Searchable (now table) (now unpacked) n ⌝ }
     ensures { λ r. ⌜ Ends (listsAt (schemaAt (now (table .entry)) (now (unpacked .entry)) n) (valuesOf (schemaAt (now (table .entry)) (now (unpacked .entry)) n) (f .depth)) inside (f .parameter) (schemaAt (now (table .entry)) (now (unpacked .entry)) n .untagged (f .parameter)) (here (now (s .entry)) f)) (now (s .entry)) f (now (rows .entry)) (now (rows .exit)) 0 r ⌝ }
 {
     let mut seen = message_lookup::no_marks();
     let mut g = f;
     let mut i: usize = 0;
+    let mut from = f.parameter;
     loop {
-        match next_part(table, unpacked, n, s, rows, g, inside, &mut seen, i) {
+        match next_part(table, unpacked, n, s, rows, g, inside, &mut seen, i, from) {
             Part::List(q, v, next) => {
                 let due = for_field(g, v, q);
                 match list(table, unpacked, n, s, rows, due) {
                     Got::Done(w, m) => {
                         g = moved(g, w, m);
                         i = next;
+                        from = q + 1;
                     }
                     Got::Refused(k, p) => return Got::Refused(k, p),
                 }
             }
-            Part::On(v, m) => {
+            Part::On(v, m, next) => {
                 g = moved(g, v, m);
                 i = n;
+                from = next;
             }
             Part::Done(v, m) => return Got::Done(v, m),
             Part::Refused(k, p) => return Got::Refused(k, p),
@@ -507,6 +524,7 @@ pub fn body(
     inside: bool,
 ) -> Got
     requires { ⌜ Room f (length (now s)) n ⌝ }
+    requires { ⌜ Searchable (now table) (now unpacked) n ⌝ }
     ensures { λ r. ⌜ Ends (bodyAt (schemaAt (now (table .entry)) (now (unpacked .entry)) n) (f .depth) inside (f .parameter) (here (now (s .entry)) f)) (now (s .entry)) f (now (rows .entry)) (now (rows .exit)) 0 r ⌝ }
 {
     if f.depth == 0 {

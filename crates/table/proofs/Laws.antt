@@ -15,14 +15,15 @@ use Rattle.definition_rules.specs.Table.{Maybe, none, just, decode}
 use Rattle.definition_rules.specs.Finite.{finites, isEndless}
 use Rattle.definition_rules.specs.Words.{kindIsCompound}
 use Rattle.table_rules.specs.Compilable.{Compilable}
+use Rattle.table_rules.proofs.Facts.{rules-formed, rules-ordered, apart}
+use Rattle.table_rules.proofs.TextRules.{ordered-after-parents}
 use Rattle.table_rules.proofs.Theorems.{rules-iff}
 use Rattle.table_rules.specs.RecordRules.{noneBroken, recordChecks, recordRules, rulesOf, tableRules}
 use Rattle.table_records.specs.Stored.{recordIn, recordsFrom, recordsAt}
 use Rattle.table_records.proofs.Laws.{length-records, records-more, records-end, records-all}
 use Rattle.table_checks.specs.Sweeps.{HasFinites, AllFinite}
 use Rattle.definition_rules.specs.Faults.{voidMany, rule7Broken, tagRepeated, rootNoStruct}
-use Rattle.table_tags.specs.Lists.{Links}
-use Rattle.table_tags.proofs.Searching.{links-records}
+use Rattle.table_tags.specs.Search.{Searchable}
 use Rattle.table_walk.specs.declared.Walk.{Walk}
 use Rattle.table_walk.specs.declared.Walk.the-variants.{Count, Bad}
 use Rattle.table_walk.specs.Walked.{Enough, RecordsCounted, Uncounted, Walked}
@@ -66,38 +67,48 @@ none-endless have i (q ∷ qs) f =
     let h : getD have i false ≡ true = rw y (f 0 (omega arith)) in
     rw (h, and-no (kindIsCompound (q .kind))) (none-endless have (suc i) qs (λ k l. let z : suc i + k ≡ i + suc k = omega arith in rw z (f (suc k) (omega arith))))
 
-all-four : (a b c d w x y z : Bool) → not (c || (d || (a || b))) && (w && (x && (y && z))) ≡ (not a && w) && ((not b && x) && ((not c && y) && (not d && z)))
-all-four a b true d w x y z = rw (and-no (not b && x), and-no (not a && w))
-all-four a b false true w x y z = rw (and-no y, and-no (not b && x), and-no (not a && w))
-all-four true b false false w x y z = refl
-all-four false true false false w x y z = rw (and-no w)
-all-four false false false false w x y z = refl
+all-three : (a b d w x z : Bool) → not (d || (a || b)) && (w && (x && z)) ≡ (not a && w) && ((not b && x) && (not d && z))
+all-three a b true w x z = rw (and-no (not b && x), and-no (not a && w))
+all-three true b false w x z = refl
+all-three false true false w x z = rw (and-no w)
+all-three false false false w x z = refl
 
-fifth : (w x y z e : Bool) → (w && (x && (y && z))) && e ≡ w && (x && (y && (z && e)))
-fifth true true true z e = refl
-fifth true true false z e = refl
-fifth true false y z e = refl
-fifth false x y z e = refl
+in-turn : (v r t o e : Bool) → (v && (r && o)) && (t && e) ≡ v && (r && (t && (o && e)))
+in-turn true true true true e = refl
+in-turn true true true false e = refl
+in-turn true true false true e = refl
+in-turn true true false false e = refl
+in-turn true false t o e = refl
+in-turn false r t o e = refl
 
 module _ (rs : List Record) where
-  -- four checks in one go over the records
-  four : (i : ℕ) (qs : List Record) → noneBroken (isBroken rs) i qs ≡ noneBroken voidMany i qs && (noneBroken (rule7Broken rs) i qs && (noneBroken (tagRepeated rs) i qs && noneBroken rootNoStruct i qs))
+  abbrev unbroken : Bool
+  unbroken = noneBroken (isBroken rs) 0 rs
+
+  abbrev tagsOnce : Bool
+  tagsOnce = noneBroken (tagRepeated rs) 0 rs
+
+  -- three checks in one go over the records
+  three : (i : ℕ) (qs : List Record) → noneBroken (isBroken rs) i qs ≡ noneBroken voidMany i qs && (noneBroken (rule7Broken rs) i qs && noneBroken rootNoStruct i qs)
   unfolding noneBroken isBroken
-  four i [] = refl
-  four i (q ∷ qs) = rw (four (suc i) qs) (all-four (voidMany i q) (rule7Broken rs i q) (tagRepeated rs i q) (rootNoStruct i q) _ _ _ _)
+  three i [] = refl
+  three i (q ∷ qs) = rw (three (suc i) qs) (all-three (voidMany i q) (rule7Broken rs i q) (rootNoStruct i q) _ _ _)
 
-  checks-are : noneBroken (isBroken rs) 0 rs && noneBroken (isEndless (finites rs)) 0 rs ≡ recordChecks rs
+  checks-are : unbroken && (tagsOnce && noneBroken (isEndless (finites rs)) 0 rs) ≡ recordChecks rs
   unfolding recordChecks
-  checks-are = ap (λ b. b && noneBroken (isEndless (finites rs)) 0 rs) (four 0 rs) ∙ fifth (noneBroken voidMany 0 rs) (noneBroken (rule7Broken rs) 0 rs) (noneBroken (tagRepeated rs) 0 rs) (noneBroken rootNoStruct 0 rs) _
+  checks-are = ap (λ b. b && (tagsOnce && noneBroken (isEndless (finites rs)) 0 rs)) (three 0 rs) ∙ in-turn (noneBroken voidMany 0 rs) (noneBroken (rule7Broken rs) 0 rs) tagsOnce (noneBroken rootNoStruct 0 rs) _
 
-  pub checks-broken : noneBroken (isBroken rs) 0 rs ≡ false → recordChecks rs ≡ false
+  pub checks-broken : unbroken ≡ false → recordChecks rs ≡ false
   checks-broken e = sym checks-are ∙ rw e
 
-  pub checks-finite : (have : List Bool) → noneBroken (isBroken rs) 0 rs ≡ true → HasFinites rs have → noneBroken (isEndless have) 0 rs ≡ recordChecks rs
-  checks-finite have e f = none-found rs have f 0 rs ∙ (sym (rw e) ∙ checks-are)
+  pub checks-repeated : unbroken ≡ true → tagsOnce ≡ false → recordChecks rs ≡ false
+  checks-repeated e o = sym checks-are ∙ rw (e, o)
 
-  pub checks-structs : noneBroken (isBroken rs) 0 rs ≡ true → AllFinite rs → recordChecks rs ≡ true
-  checks-structs e f = sym checks-are ∙ rw e (none-endless (finites rs) 0 rs (λ k h. let z : 0 + k ≡ k = omega arith in rw z (f k h)))
+  pub checks-finite : (have : List Bool) → unbroken ≡ true → tagsOnce ≡ true → HasFinites rs have → noneBroken (isEndless have) 0 rs ≡ recordChecks rs
+  checks-finite have e o f = none-found rs have f 0 rs ∙ (sym (rw (e, o)) ∙ checks-are)
+
+  pub checks-structs : unbroken ≡ true → tagsOnce ≡ true → AllFinite rs → recordChecks rs ≡ true
+  checks-structs e o f = sym checks-are ∙ rw (e, o) (none-endless (finites rs) 0 rs (λ k h. let z : 0 + k ≡ k = omega arith in rw z (f k h)))
 
 -- ---- the rules
 
@@ -134,10 +145,17 @@ walked-bad t unpacked w h e = rw e at h
 pub promised : (t : List ℕ) (b : Bool) → ((i : ℕ) → getD t i 0 < 2 ^ 8) → b ≡ tableRules parameterLimit t → (b ≡ tableRules parameterLimit t) × ((b ≡ true) ↔ Compilable t)
 promised t b h e = (e, ((λ x. rules-iff t h .0 (sym e ∙ x)), λ c. e ∙ rules-iff t h .1 c))
 
--- ---- the lists
+-- ---- the search
 
-pub linked-counted : (t cs after : List ℕ) (n : ℕ) → Links t cs n after → RecordsCounted t cs n → RecordsCounted t after n
-linked-counted t cs after n l c = record { few = c .few; long = c .long; these = c .these ∙ ap just (sym (links-records t cs after n l)) }
+-- the records of a table that keeps the rules can be searched
+pub searchable : (t cs : List ℕ) (n : ℕ) → tableRules parameterLimit t ≡ true → RecordsCounted t cs n → Searchable t cs n
+searchable t cs n e c = record { laid = c .laid; behind = ordered-after-parents rs (rules-ordered parameterLimit rs rules); once = apart rs (rules-formed parameterLimit rs rules) }
+  where
+    rs : List Record
+    rs = recordsAt t cs n
+
+    rules : recordRules parameterLimit rs ≡ true
+    rules = table-counted t cs n c ∙ e
 
 -- ---- the check
 
@@ -149,8 +167,8 @@ pub checked-bad : (t cs : List ℕ) (w : Walk) → Checked t cs w → w ≡ Bad 
 unfolding Checked
 checked-bad t cs w h e = rw e at h
 
-pub few-enough : (bytes room : ℕ) → bytes ≤ 400 → 240 ≡ room → Enough bytes room
+pub few-enough : (bytes room : ℕ) → bytes ≤ 400 → 160 ≡ room → Enough bytes room
 few-enough bytes room h e n a b = omega arith
 
-pub many-enough : (bytes room : ℕ) → 2880 ≡ room → Enough bytes room
+pub many-enough : (bytes room : ℕ) → 2560 ≡ room → Enough bytes room
 many-enough bytes room e n a b = omega arith

@@ -14,8 +14,8 @@ use Rattle.numbers.specs.LittleEndian.{le16, leInt}
 use Rattle.reading_rules.specs.Record.{top, under}
 use Rattle.reading_rules.specs.Schema.{isUnder}
 use Rattle.definition_rules.specs.Table.{numberUp}
-use Rattle.table_records.specs.Stored.{storedAt, headCells, recordCells, cellPlace, isThere, cellIn, keptIn, recordIn, Unpacked}
-use Rattle.table_records.proofs.Laws.{there, cell-agree, record-agree}
+use Rattle.table_records.specs.Stored.{storedAt, recordCells, cellPlace, isThere, cellIn, keptIn, recordIn, Unpacked}
+use Rattle.table_records.proofs.Laws.{there, cell-agree}
 
 pub is-under : (p x : ℕ) → isUnder p (numberUp x) ≡ not (eqb x none16) && eqb x p
 unfolding isUnder numberUp pick
@@ -92,30 +92,27 @@ kept-row (v ∷ vs) cs i k h l =
 
 -- what unpacking a record leaves
 module _ (t : List ℕ) (o : ℕ) (cs after : List ℕ) (i : ℕ) where
-  unpacked : i < parameterLimit → headCells + recordCells * (i + 1) ≤ length cs → after ≡ sets cs (cellPlace i 0) (numbersAt t o) → Unpacked t o cs i after
-  unpacked h l e = record { here = here; others = others; size = size }
+  unpacked : i < parameterLimit → recordCells * (i + 1) ≤ length cs → after ≡ sets cs (cellPlace i 0) (numbersAt t o) → Unpacked t o cs i after
+  unpacked h l e = record { here = here; place = cell 0 (omega arith); sized = cell 9 (omega arith); others = same; size = size }
     where
       size : length after ≡ length cs
       size = rw e (length-sets cs (cellPlace i 0) (numbersAt t o))
 
-      place : (k : ℕ) → cellPlace i k ≡ cellPlace i 0 + k
-      place k = omega arith
+      beside : (k : ℕ) → cellPlace i k ≡ cellPlace i 0 + k
+      beside k = omega arith
 
-      cell : (k : ℕ) → k < 10 → cellIn after i k ≡ getD (numbersAt t o) k 0
+      cell : (k : ℕ) → k < recordCells → cellIn after i k ≡ getD (numbersAt t o) k 0
       cell k b =
           sym (cell-there after i k (there after i h (rw size (omega arith)))) ∙
-          rw (e, place k) (stores-there (numbersAt t o) cs (cellPlace i 0) k b (omega arith))
+          rw (e, beside k) (stores-there (numbersAt t o) cs (cellPlace i 0) k b (omega arith))
 
       here : recordIn t after i ≡ storedAt t o
       here = unfold recordIn storedAt in (rw (cell 0 (omega arith), cell 1 (omega arith), cell 2 (omega arith), cell 3 (omega arith), cell 4 (omega arith), cell 5 (omega arith), cell 6 (omega arith), cell 7 (omega arith), cell 8 (omega arith), cell 9 (omega arith)))
 
-      same : (j k : ℕ) → j < i → k < 10 → cellIn after j k ≡ cellIn cs j k
+      same : (j k : ℕ) → j < i → k < recordCells → cellIn after j k ≡ cellIn cs j k
       same j k b d = cell-agree cs after j k size (rw e (stores-before (numbersAt t o) cs (cellPlace i 0) (cellPlace j k) (omega arith)))
 
-      others : (j : ℕ) → j < i → recordIn t after j ≡ recordIn t cs j
-      others j b = record-agree t cs after j (λ k d. same j k b d)
-
 -- the same, of the numbers that the code read
-pub unpacked-all : (t : List ℕ) (o : ℕ) (cs after : List ℕ) (i p a b c d e f g h j : ℕ) → p ≡ o → a ≡ le16 t (p + 2) → b ≡ le16 t (p + 4) → c ≡ le16 t (p + 6) → d ≡ le16 t (p + 8) → e ≡ le16 t (p + 10) → f ≡ leInt t (p + 12) → g ≡ leInt t (p + 16) → h ≡ le16 t (p + 20) → j ≡ le16 t (p + 22) → after ≡ keptRow cs i 0 (o ∷ a ∷ b ∷ c ∷ d ∷ e ∷ f ∷ g ∷ h ∷ j ∷ []) → i < parameterLimit → headCells + recordCells * (i + 1) ≤ length cs → Unpacked t o cs i after
+pub unpacked-all : (t : List ℕ) (o : ℕ) (cs after : List ℕ) (i p a b c d e f g h j : ℕ) → p ≡ o → a ≡ le16 t (p + 2) → b ≡ le16 t (p + 4) → c ≡ le16 t (p + 6) → d ≡ le16 t (p + 8) → e ≡ le16 t (p + 10) → f ≡ leInt t (p + 12) → g ≡ leInt t (p + 16) → h ≡ le16 t (p + 20) → j ≡ le16 t (p + 22) → after ≡ keptRow cs i 0 (o ∷ a ∷ b ∷ c ∷ d ∷ e ∷ f ∷ g ∷ h ∷ j ∷ []) → i < parameterLimit → recordCells * (i + 1) ≤ length cs → Unpacked t o cs i after
 unpacked-all t o cs after i p a b c d e f g h j q qa qb qc qd qe qf qg qh qj z l m =
     unpacked t o cs after i l m (z ∙ (kept-row (o ∷ a ∷ b ∷ c ∷ d ∷ e ∷ f ∷ g ∷ h ∷ j ∷ []) cs i 0 l (omega arith) ∙ rw (qa, qb, qc, qd, qe, qf, qg, qh, qj, q)))

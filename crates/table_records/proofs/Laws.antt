@@ -1,17 +1,15 @@
 -- Unpacked records: their number, each of them, and one more in a loop.
-use mathlib.Core.Path.{_≡_, refl, ap, sym, _∙_}
-use mathlib.Core.Bool.{Bool, true, false}
+use mathlib.Core.Path.{_≡_, refl, ap, _∙_}
+use mathlib.Core.Bool.{true}
 use mathlib.Core.List.{List, [], _∷_, _++_}
 use Prim.Native.Nat.{ℕ, zero, suc, _+_, _-_, _≤_, _<_}
 use native.Mathlib.Omega.{arith}
 use native.Mathlib.Numerals.{add-one}
-use lib.ListN.{length, getD, drop, set, length-set, List·getD-eq-default}
-use lib.Seq.{getD-set-same, getD-set-other}
+use lib.ListN.{length, getD, drop, List·getD-eq-default}
 use borrow.Author.Tests.{lt-ltb, le-leb}
-use Rattle.classes.specs.Lists.{pick}
 use Rattle.numbers.specs.Limits.{parameterLimit}
 use Rattle.reading_rules.specs.Record.{blank, recordAt}
-use Rattle.table_records.specs.Stored.{headCells, recordCells, cellPlace, isThere, cellIn, keptIn, recordIn, recordsFrom, recordsAt}
+use Rattle.table_records.specs.Stored.{recordCells, cellPlace, isThere, cellIn, recordIn, recordsFrom, recordsAt, Laid}
 
 module _ (t unpacked : List ℕ) where
   pub length-records : (n i : ℕ) → length (recordsFrom t unpacked n i) ≡ n
@@ -21,16 +19,15 @@ module _ (t unpacked : List ℕ) where
 
   -- ---- one of them
 
-  getD-records : (n i k : ℕ) → k < n → getD (recordsFrom t unpacked n i) k blank ≡ recordIn t unpacked (i + k)
-  unfolding recordsFrom
-  getD-records zero i k h = absurd (omega arith)
-  getD-records (suc n) i zero h = ap (recordIn t unpacked) (omega arith)
-  getD-records (suc n) i (suc k) h =
-      getD-records n (suc i) k (omega arith) ∙ ap (recordIn t unpacked) (omega arith)
+  pub record-from : (n i k : ℕ) → k < n → recordAt (recordsFrom t unpacked n i) k ≡ recordIn t unpacked (i + k)
+  unfolding recordsFrom recordAt
+  record-from zero i k h = absurd (omega arith)
+  record-from (suc n) i zero h = ap (recordIn t unpacked) (omega arith)
+  record-from (suc n) i (suc k) h =
+      record-from n (suc i) k (omega arith) ∙ ap (recordIn t unpacked) (omega arith)
 
   pub record-at : (n k : ℕ) → k < n → recordAt (recordsAt t unpacked n) k ≡ recordIn t unpacked k
-  unfolding recordAt
-  record-at n k h = getD-records n 0 k h ∙ ap (recordIn t unpacked) (omega arith)
+  record-at n k h = record-from n 0 k h ∙ ap (recordIn t unpacked) (omega arith)
 
   pub record-past : (n k : ℕ) → n ≤ k → recordAt (recordsAt t unpacked n) k ≡ blank
   unfolding recordAt
@@ -97,46 +94,10 @@ pub cell-agree : (a b : List ℕ) (j k : ℕ) → length b ≡ length a → getD
 unfolding cellIn
 cell-agree a b j k e f = rw (same-there a b j e, f)
 
-pub record-agree : (t a b : List ℕ) (j : ℕ) → ((k : ℕ) → k < 10 → cellIn b j k ≡ cellIn a j k) → recordIn t b j ≡ recordIn t a j
+pub record-agree : (t a b : List ℕ) (j : ℕ) → ((k : ℕ) → k < recordCells → cellIn b j k ≡ cellIn a j k) → recordIn t b j ≡ recordIn t a j
 unfolding recordIn
 record-agree t a b j f =
     rw (f 0 (omega arith), f 1 (omega arith), f 2 (omega arith), f 3 (omega arith), f 4 (omega arith), f 5 (omega arith), f 6 (omega arith), f 7 (omega arith), f 8 (omega arith), f 9 (omega arith))
-
--- as many cells, and those past the heads, give the records
-pub record-past-heads : (t a b : List ℕ) (j : ℕ) → length b ≡ length a → ((m : ℕ) → headCells ≤ m → getD b m 0 ≡ getD a m 0) → recordIn t b j ≡ recordIn t a j
-record-past-heads t a b j e f = record-agree t a b j (λ k h. cell-agree a b j k e (f (cellPlace j k) (omega arith)))
-
-module _ (cs : List ℕ) (i x : ℕ) where
-  pub link-size : length (keptIn cs i 10 x) ≡ length cs
-  unfolding keptIn
-  link-size = by (isThere cs i)
-    where
-      by : (b : Bool) → length (pick b (set cs (cellPlace i 10) x) cs) ≡ length cs
-      by true = unfold pick in (length-set cs (cellPlace i 10) x)
-      by false = unfold pick in refl
-
-  -- a link is no other cell
-  link-other : (m : ℕ) → (m ≡ cellPlace i 10 → ⊥) → getD (keptIn cs i 10 x) m 0 ≡ getD cs m 0
-  unfolding keptIn
-  link-other m h = by (isThere cs i)
-    where
-      by : (b : Bool) → getD (pick b (set cs (cellPlace i 10) x) cs) m 0 ≡ getD cs m 0
-      by true = unfold pick in (getD-set-other cs (cellPlace i 10) m x 0 h)
-      by false = unfold pick in refl
-
-  pub link-cell : (j k : ℕ) → (cellPlace i 10 ≡ cellPlace j k → ⊥) → cellIn (keptIn cs i 10 x) j k ≡ cellIn cs j k
-  link-cell j k h = cell-agree cs (keptIn cs i 10 x) j k link-size (link-other (cellPlace j k) (λ e. h (sym e)))
-
-  pub link-record : (t : List ℕ) (j : ℕ) → recordIn t (keptIn cs i 10 x) j ≡ recordIn t cs j
-  link-record t j = record-agree t cs (keptIn cs i 10 x) j (λ k h. link-cell j k (λ e. omega arith))
-
-  pub link-head : (h : ℕ) → h < headCells → getD (keptIn cs i 10 x) h 0 ≡ getD cs h 0
-  link-head h l = link-other h (λ e. omega arith)
-
-  pub link-there : i < parameterLimit → cellPlace i 10 < length cs → cellIn (keptIn cs i 10 x) i 10 ≡ x
-  unfolding cellIn keptIn pick
-  link-there h l =
-      rw (there cs i h (omega arith), there (set cs (cellPlace i 10) x) i h (rw length-set (omega arith))) (getD-set-same cs (cellPlace i 10) x 0 l)
 
 pub records-agree : (t a b : List ℕ) (n i : ℕ) → ((k : ℕ) → i ≤ k → k < i + n → recordIn t a k ≡ recordIn t b k) → recordsFrom t a n i ≡ recordsFrom t b n i
 unfolding recordsFrom
@@ -146,5 +107,13 @@ records-agree t a b (suc n) i f =
     (ap (_∷_ (recordIn t b i)) (records-agree t a b n (suc i) (λ k g h. f k (omega arith) (omega arith))))
 
 -- a record that is unpacked behind them
-pub records-unpacked : (t a b : List ℕ) (n : ℕ) → ((k : ℕ) → k < n → recordIn t b k ≡ recordIn t a k) → recordsAt t b n ≡ recordsAt t a n
-records-unpacked t a b n f = records-agree t b a n 0 (λ k g h. f k (omega arith))
+pub records-unpacked : (t a b : List ℕ) (n : ℕ) → ((j k : ℕ) → j < n → k < recordCells → cellIn b j k ≡ cellIn a j k) → recordsAt t b n ≡ recordsAt t a n
+records-unpacked t a b n f = records-agree t b a n 0 (λ j g h. record-agree t a b j (λ k l. f j k (omega arith) l))
+
+-- fewer records of a row that is laid
+pub laid-fewer : (t cs : List ℕ) (n m : ℕ) → m ≤ n → Laid t cs n → Laid t cs m
+laid-fewer t cs n m h l = record {
+  headed = λ k a. l .headed k (omega arith);
+  within = λ k a. l .within k (omega arith);
+  next = λ k a. l .next k (omega arith);
+}

@@ -2,7 +2,7 @@
 use mathlib.Core.Path.{_≡_}
 use mathlib.Core.Bool.{Bool, _&&_}
 use mathlib.Core.List.{List, [], _∷_}
-use Prim.Native.Nat.{ℕ, zero, suc, _+_, _*_, _<_}
+use Prim.Native.Nat.{ℕ, zero, suc, _+_, _*_, _≤_, _<_}
 use lib.Dec.{ltb, leb}
 use lib.ListN.{length, getD, set, take, drop}
 use Rattle.classes.specs.Lists.{pick}
@@ -19,17 +19,13 @@ storedAt t o =
 
 -- ---- unpacked
 
--- the first cells are no record's: crate tags keeps its heads there
-abbrev pub headCells : ℕ
-headCells = 64
-
--- a record's cells: where its bytes begin, its numbers, and one that crate tags keeps
+-- a record's cells: where its bytes begin, and its numbers
 abbrev pub recordCells : ℕ
-recordCells = 11
+recordCells = 10
 
 -- where the k-th cell of the i-th record is
 abbrev pub cellPlace : ℕ → ℕ → ℕ
-cellPlace i k = headCells + recordCells * i + k
+cellPlace i k = recordCells * i + k
 
 -- the cells of the i-th record are there, all of them; none is there past the limit
 unfoldable pub isThere : List ℕ → ℕ → Bool
@@ -68,8 +64,20 @@ recordsFrom t cs (suc n) i = recordIn t cs i ∷ recordsFrom t cs n (suc i)
 abbrev pub recordsAt : List ℕ → List ℕ → ℕ → List Record
 recordsAt t cs n = recordsFrom t cs n 0
 
--- what unpacking leaves: the i-th record is the one whose bytes begin at o, and those before it are as they were
+-- what unpacking leaves: the i-th record is the one whose bytes begin at o, and the cells of those before it are as they were
 pub record Unpacked (t : List ℕ) (o : ℕ) (before : List ℕ) (i : ℕ) (after : List ℕ) : Type 0 where
   pub here : recordIn t after i ≡ storedAt t o
-  pub others : (j : ℕ) → j < i → recordIn t after j ≡ recordIn t before j
+  pub place : cellIn after i 0 ≡ o
+  pub sized : cellIn after i 9 ≡ le16 t (o + 22)
+  pub others : (j k : ℕ) → j < i → k < recordCells → cellIn after j k ≡ cellIn before j k
   pub size : length after ≡ length before
+
+-- how many bytes the i-th record has: its numbers and its label
+abbrev pub lengthIn : List ℕ → ℕ → ℕ
+lengthIn cs i = 24 + cellIn cs i 9
+
+-- the records before the n-th lie in the table one after the other, each with its length at its head
+pub record Laid (t cs : List ℕ) (n : ℕ) : Type 0 where
+  pub headed : (k : ℕ) → k < n → le16 t (cellIn cs k 0) ≡ lengthIn cs k
+  pub within : (k : ℕ) → k < n → cellIn cs k 0 + lengthIn cs k ≤ length t
+  pub next : (k : ℕ) → k + 1 < n → cellIn cs (k + 1) 0 ≡ cellIn cs k 0 + lengthIn cs k

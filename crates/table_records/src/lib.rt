@@ -8,12 +8,10 @@ ghost use Rattle.numbers.specs.Limits.{parameterLimit};
 ghost use Rattle.numbers.specs.LittleEndian.{le16, leInt};
 ghost use Rattle.reading_rules.specs.Schema.{isUnder};
 ghost use Rattle.definition_rules.specs.Table.{upNumber};
-ghost use Rattle.table_records.specs.Stored.{headCells, recordCells, cellIn, keptIn, recordIn, Unpacked};
+ghost use Rattle.table_records.specs.Stored.{recordCells, cellIn, keptIn, recordIn, Unpacked};
 
-// Cells that are no record's, and those of each record: where its bytes begin, its numbers in their order, and a link.
-pub const HEADS: usize = 64;
-
-pub const WIDTH: usize = 11;
+// The cells of a record: where its bytes begin, and its numbers in their order.
+pub const WIDTH: usize = 10;
 
 const BYTES: u8 = 0;
 
@@ -35,13 +33,11 @@ const TARGET: u8 = 8;
 
 const LABEL_LENGTH: u8 = 9;
 
-const LINK: u8 = 10;
-
 // A hi count that sets no limit, as counts are given here.
 pub const NO_LIMIT: usize = numbers::NO_LIMIT as usize;
 
 // Cells for as many records as there may be.
-pub const ALL_CELLS: usize = HEADS + WIDTH * numbers::PARAMETER_LIMIT;
+pub const ALL_CELLS: usize = WIDTH * numbers::PARAMETER_LIMIT;
 
 // The k-th cell of record i. The test is the same for all cells of a record, here and below, so that the compiler can
 // make it once.
@@ -52,7 +48,7 @@ fn cell(unpacked: &[u32], i: usize, k: u8) -> u32
     if numbers::PARAMETER_LIMIT <= i {
         return 0;
     }
-    let at = HEADS + WIDTH * i;
+    let at = WIDTH * i;
     if at + WIDTH <= unpacked.len() {
         return unpacked[at + k as usize];
     }
@@ -83,7 +79,7 @@ fn keep(unpacked: &mut [u32], i: usize, k: u8, x: u32)
     if numbers::PARAMETER_LIMIT <= i {
         return;
     }
-    let at = HEADS + WIDTH * i;
+    let at = WIDTH * i;
     if at + WIDTH <= unpacked.len() {
         unpacked[at + k as usize] = x;
     }
@@ -93,7 +89,7 @@ fn keep(unpacked: &mut [u32], i: usize, k: u8, x: u32)
 // the table, so none of them needs a test of its own.
 pub fn unpack(table: &[u8], at: u32, unpacked: &mut [u32], i: usize)
     requires { ⌜ at + 24 ≤ length (now table) ⌝ }
-    ensures { λ _. ⌜ (i < parameterLimit → headCells + recordCells * (i + 1) ≤ length (now (unpacked .entry)) → Unpacked (now (table .entry)) at (now (unpacked .entry)) i (now (unpacked .exit))) ⌝ }
+    ensures { λ _. ⌜ (i < parameterLimit → recordCells * (i + 1) ≤ length (now (unpacked .entry)) → Unpacked (now (table .entry)) at (now (unpacked .entry)) i (now (unpacked .exit))) ⌝ }
 {
     let from = numbers::u32_as_usize(at);
     keep(unpacked, i, BYTES, at);
@@ -123,17 +119,19 @@ pub fn unpack(table: &[u8], at: u32, unpacked: &mut [u32], i: usize)
     );
 }
 
-// The last cell of a record, which links it to another.
-pub fn link_at(unpacked: &[u32], i: usize) -> usize
-    ensures { λ r. ⌜ r ≡ cellIn (now (unpacked .entry)) i 10 ⌝ }
+// The length that stands at a record's head.
+pub fn length_at(table: &[u8], at: usize) -> usize
+    requires { ⌜ at + 2 ≤ length (now table) ⌝ }
+    ensures { λ r. ⌜ r ≡ le16 (now (table .entry)) at ⌝ }
 {
-    numbers::u32_as_usize(cell(unpacked, i, LINK))
+    numbers::u32_as_usize(pair(table, at))
 }
 
-pub fn set_link(unpacked: &mut [u32], i: usize, x: u32)
-    ensures { λ _. ⌜ now (unpacked .exit) ≡ keptIn (now (unpacked .entry)) i 10 x ⌝ }
+// Where the bytes of record i begin.
+pub fn place_at(unpacked: &[u32], i: usize) -> usize
+    ensures { λ r. ⌜ r ≡ cellIn (now (unpacked .entry)) i 0 ⌝ }
 {
-    keep(unpacked, i, LINK, x);
+    numbers::u32_as_usize(cell(unpacked, i, BYTES))
 }
 
 // Kinds 1 to 10.

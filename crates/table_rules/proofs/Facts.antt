@@ -38,6 +38,13 @@ rules-formed limit rs e =
     and-both (noneBroken (tagRepeated rs) 0 rs) _ e7 (λ a8 e8.
     record { fine = a4; seven = a7; eight = a8 }))))))))
 
+pub rules-ordered : (limit : ℕ) (rs : List Record) → recordRules limit rs ≡ true → ordered [] 0 rs ≡ true
+unfolding recordRules
+rules-ordered limit rs e =
+    and-both (leb 1 (length rs)) _ e (λ a1 e1.
+    and-both (leb (length rs) limit) _ e1 (λ a2 e2.
+    and-both (ordered [] 0 rs) _ e2 (λ a3 e3. a3)))
+
 -- ---- tests
 
 pub and-off : (a b : Bool) → a && b ≡ false → a ≡ true → b ≡ false

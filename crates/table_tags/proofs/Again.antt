@@ -1,62 +1,37 @@
--- A tag that stands before in its body is found before.
+-- A tag that stands before in its body is found among the records before.
 use mathlib.Core.Path.{_≡_, refl, ap, sym, _∙_, fun-ext}
-use mathlib.Core.Bool.{Bool, true, false, not, _&&_}
-use mathlib.Core.List.{List, [], _∷_}
-use Prim.Native.Nat.{ℕ, zero, suc, _+_, _<_}
-use native.Mathlib.Nat.{zero-add}
+use mathlib.Core.Bool.{Bool, true, false, not, _&&_, _||_}
+use mathlib.Core.List.{List, _∷_}
+use Prim.Native.Nat.{ℕ, zero, suc, _-_, _≤_, _<_}
 use native.Mathlib.Omega.{arith}
 use lib.Dec.{eqb}
-use lib.ListN.{length}
-use borrow.Author.Tests.{eq-eqb, ne-eqb}
-use Rattle.classes.proofs.Rows.{bytes-self}
 use Rattle.classes.specs.Lists.{sameBytes}
 use Rattle.numbers.specs.Limits.{none16}
-use Rattle.reading_rules.specs.Record.{Record, Up, top, under, isTop, sameUp, recordAt}
+use Rattle.reading_rules.specs.Record.{Record, Up, top, under, isTop, sameUp}
 use Rattle.reading_rules.specs.Schema as schema
 use Rattle.reading_rules.specs.Schema.{isUnder, isTaggedAs, firstWhere}
-use Rattle.reading_rules.proofs.CountLaws.{clash-bool}
 use Rattle.definition_rules.specs.Faults.{anyBefore, beside, hasWireTag, tagRepeated}
 use Rattle.definition_rules.specs.Table.{upNumber}
-use Rattle.table_records.specs.Stored.{recordIn, recordsAt}
-use Rattle.table_records.proofs.Laws.{length-records, record-at}
+use Rattle.table_records.specs.Stored.{recordIn, recordsFrom, recordsAt}
 use Rattle.table_checks.proofs.Parents.{parent-top, parent-under}
-use Rattle.table_tags.specs.Lists.{Linked, searched}
-use Rattle.table_tags.proofs.Searching.{first-here, first-later, search-first}
+use Rattle.table_tags.proofs.Searching.{first-here, first-later}
 
--- ---- the first one, and those before
+-- ---- those before
 
-module _ (f : Record → Bool) where
-  before-is : (rs : List Record) (k j q : ℕ) → j < length rs → f (recordAt rs j) ≡ true → firstWhere f k rs ≡ schema.found q → not (eqb q (k + j)) ≡ anyBefore j f rs
-  unfolding recordAt anyBefore
-  before-is [] k j q h e g = absurd (omega arith)
-  before-is (r ∷ rs) k j q h e g = by (f r) refl j h e g (λ m. before-is rs (suc k) m q)
-    where
-      by : (b : Bool) → f r ≡ b → (j : ℕ) → j < length (r ∷ rs) → f (recordAt (r ∷ rs) j) ≡ true → firstWhere f k (r ∷ rs) ≡ schema.found q → ((m : ℕ) → m < length rs → f (recordAt rs m) ≡ true → firstWhere f (suc k) rs ≡ schema.found q → not (eqb q (suc k + m)) ≡ anyBefore m f rs) → not (eqb q (k + j)) ≡ anyBefore j f (r ∷ rs)
-      by true x zero h e g w =
-          let y : schema.found k ≡ schema.found q = sym (first-here f k r rs x) ∙ g in
-          let z : k ≡ q = cc in
-          rw (eq-eqb q (k + 0) (omega arith))
-      by true x (suc j) h e g w =
-          let y : schema.found k ≡ schema.found q = sym (first-here f k r rs x) ∙ g in
-          let z : k ≡ q = cc in
-          rw (ne-eqb q (k + suc j) (λ d. omega arith), x)
-      by false x zero h e g w = clash-bool (sym x ∙ e)
-      by false x (suc j) h e g w =
-          let y : firstWhere f (suc k) rs ≡ schema.found q = sym (first-later f k r rs x) ∙ g in
-          let z : k + suc j ≡ suc k + j = omega arith in
-          rw (x, z) (w j (omega arith) e y)
+unfoldable pub isFound : schema.Found → Bool
+isFound schema.nowhere = false
+isFound (schema.found q) = true
 
-  none-is : {X : Type 0} (rs : List Record) (k j : ℕ) → j < length rs → f (recordAt rs j) ≡ true → firstWhere f k rs ≡ schema.nowhere → X
-  unfolding recordAt
-  none-is [] k j h e g = absurd (omega arith)
-  none-is {X} (r ∷ rs) k j h e g = by (f r) refl j h e (λ m. none-is rs (suc k) m)
-    where
-      by : (b : Bool) → f r ≡ b → (j : ℕ) → j < length (r ∷ rs) → f (recordAt (r ∷ rs) j) ≡ true → ((m : ℕ) → m < length rs → f (recordAt rs m) ≡ true → firstWhere f (suc k) rs ≡ schema.nowhere → X) → X
-      by true x j h e w =
-          let y : schema.found k ≡ schema.nowhere = sym (first-here f k r rs x) ∙ g in
-          let z : _≡_ {A = ℕ} 0 1 = cc in absurd (omega arith)
-      by false x zero h e w = clash-bool (sym x ∙ e)
-      by false x (suc j) h e w = w j (omega arith) e (sym (first-later f k r rs x) ∙ g)
+-- one of the first m is so exactly when a search among them finds one
+any-first : (t cs : List ℕ) (f : Record → Bool) (m n k : ℕ) → m ≤ n → anyBefore m f (recordsFrom t cs n k) ≡ isFound (firstWhere f k (recordsFrom t cs m k))
+unfolding anyBefore recordsFrom firstWhere isFound
+any-first t cs f zero n k h = refl
+any-first t cs f (suc m) zero k h = absurd (omega arith)
+any-first t cs f (suc m) (suc n) k h = by (f (recordIn t cs k)) refl (any-first t cs f m n (suc k) (omega arith))
+  where
+    by : (b : Bool) → f (recordIn t cs k) ≡ b → anyBefore m f (recordsFrom t cs n (suc k)) ≡ isFound (firstWhere f (suc k) (recordsFrom t cs m (suc k))) → f (recordIn t cs k) || anyBefore m f (recordsFrom t cs n (suc k)) ≡ isFound (firstWhere f k (recordIn t cs k ∷ recordsFrom t cs m (suc k)))
+    by true x e = rw (first-here f k (recordIn t cs k) (recordsFrom t cs m (suc k)) x, x)
+    by false x e = rw (first-later f k (recordIn t cs k) (recordsFrom t cs m (suc k)) x, x) e
 
 -- ---- the same tag
 
@@ -94,7 +69,7 @@ module _ (t cs : List ℕ) (n i : ℕ) where
   unfolding tagRepeated hasWireTag isTop
   top-once p e z = rw (parent-top t cs i p e z)
 
-  module _ (p : ℕ) (e : p ≡ upNumber (r .parent)) (z : p ≡ none16 → ⊥) (u : r .untagged ≡ false) (h : i < n) (l : Linked t cs n 0) where
+  module _ (p : ℕ) (e : p ≡ upNumber (r .parent)) (z : p ≡ none16 → ⊥) (u : r .untagged ≡ false) (h : i < n) where
     up : r .parent ≡ under p
     up = parent-under t cs i p e z
 
@@ -106,12 +81,17 @@ module _ (t cs : List ℕ) (n i : ℕ) where
     unfolding tagRepeated
     repeated = ap (λ f. hasWireTag r && anyBefore i f rs) (fun-ext (λ q. sym (tagged-same p r q up))) ∙ rw wired
 
-    self : isTaggedAs p (r .label) (recordAt rs i) ≡ true
-    unfolding isUnder
-    self = rw (record-at t cs n i h, up, u, eq-eqb p p refl, bytes-self (r .label))
+    -- what a search among the records before says of the tag
+    again : (w : List ℕ) (g : schema.Found) → w ≡ r .label → g ≡ firstWhere (isTaggedAs p w) 0 (recordsFrom t cs (i - 0) 0) → isFound g ≡ tagRepeated rs i r
+    again w g x y =
+        let b : i - 0 ≡ i = omega arith in
+        ap isFound (y ∙ (ap (λ v. firstWhere (isTaggedAs p v) 0 (recordsFrom t cs (i - 0) 0)) x ∙ ap (λ m. firstWhere (isTaggedAs p (r .label)) 0 (recordsFrom t cs m 0)) b))
+        ∙ (sym (any-first t cs (isTaggedAs p (r .label)) i n 0 (omega arith)) ∙ sym repeated)
 
-    pub again : (w : List ℕ) (q : ℕ) → w ≡ r .label → schema.found q ≡ searched t cs n p w → not (eqb q i) ≡ tagRepeated rs i r
-    again w q x y = ap (λ m. not (eqb q m)) (sym (zero-add i)) ∙ before-is (isTaggedAs p (r .label)) rs 0 i q (rw (length-records t cs n 0) h) self (sym (search-first t cs n p (r .label) l) ∙ (ap (searched t cs n p) (sym x) ∙ sym y)) ∙ sym repeated
+    pub again-found : (w : List ℕ) (g : schema.Found) (q : ℕ) → w ≡ r .label → g ≡ firstWhere (isTaggedAs p w) 0 (recordsFrom t cs (i - 0) 0) → g ≡ schema.found q → true ≡ tagRepeated rs i r
+    unfolding isFound
+    again-found w g q x y e = sym (ap isFound e) ∙ again w g x y
 
-    pub never : {X : Type 0} (w : List ℕ) → w ≡ r .label → schema.nowhere ≡ searched t cs n p w → X
-    never w x y = none-is (isTaggedAs p (r .label)) rs 0 i (rw (length-records t cs n 0) h) self (sym (search-first t cs n p (r .label) l) ∙ (ap (searched t cs n p) (sym x) ∙ sym y))
+    pub again-none : (w : List ℕ) (g : schema.Found) → w ≡ r .label → g ≡ firstWhere (isTaggedAs p w) 0 (recordsFrom t cs (i - 0) 0) → g ≡ schema.nowhere → false ≡ tagRepeated rs i r
+    unfolding isFound
+    again-none w g x y e = sym (ap isFound e) ∙ again w g x y

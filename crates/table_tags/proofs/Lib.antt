@@ -1,8 +1,8 @@
--- the lists, as they are made
-mod Linking
--- the search along a list
+-- the search by record lengths
 pub mod Searching
 -- a tag that stands twice
 mod Again
+-- the marks of tags
+pub mod Marking
 -- what the code says it found
-pub mod Search
+pub mod FoundLaws

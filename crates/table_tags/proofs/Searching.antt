@@ -1,23 +1,22 @@
--- The search along a list finds the first of all records.
+-- The search by record lengths, and that it may start at any record.
 use mathlib.Core.Path.{_≡_, refl, ap, sym, _∙_}
-use mathlib.Core.Bool.{Bool, true, false, not}
+use mathlib.Core.Bool.{Bool, true, false, not, and-false}
 use mathlib.Core.List.{List, _∷_}
-use Prim.Native.Nat.{ℕ, zero, suc, _+_, _-_, _≤_, _<_}
+use Prim.Native.Nat.{ℕ, suc, _+_, _-_, _≤_, _<_}
 use native.Mathlib.Numerals.{add-one}
 use native.Mathlib.Omega.{arith}
-use lib.Dec.{eqb, ltb}
-use borrow.Author.Tests.{eqb-true, eqb-false, lt-ltb, le-ltb, ltb-true}
-use Rattle.classes.proofs.Rows.{same-true}
-use Rattle.classes.specs.Lists.{pick, sameBytes}
-use Rattle.reading_rules.specs.Record.{Record, Up, top, under}
+use lib.Dec.{ltb}
+use lib.ListN.{take, drop}
+use borrow.Author.Tests.{eqb-true, ltb-true, ltb-false}
+use Rattle.classes.specs.Lists.{sameBytes}
+use Rattle.reading_rules.specs.Record.{Up, top, under, Record, Before, AfterParents}
 use Rattle.reading_rules.specs.Schema as schema
-use Rattle.reading_rules.specs.Schema.{isUnder, isTaggedOf, isTaggedAs, firstWhere}
+use Rattle.reading_rules.specs.Schema.{isUnder, isTaggedOf, isTaggedAs, firstWhere, schemaOf}
 use Rattle.reading_rules.proofs.CountLaws.{clash-bool, and-both}
-use Rattle.definition_rules.specs.Table.{upNumber}
-use Rattle.table_records.specs.Stored.{cellIn, recordIn, recordsFrom, recordsAt}
-use Rattle.table_records.proofs.Laws.{records-more, records-end, records-all, records-agree}
-use Rattle.table_tags.specs.Lists.{listKey, keyIn, nextIn, Linked, Links, searchFrom, searched}
-use Rattle.table_tags.proofs.Linking.{key-small, next-here, next-later}
+use Rattle.reading_rules.proofs.Rules.{where-is, where-none, tag-found}
+use Rattle.table_records.specs.Stored.{cellIn, recordIn, recordsFrom, recordsAt, lengthIn}
+use Rattle.table_records.proofs.Laws.{length-records, record-from, record-at, records-more, records-end}
+use Rattle.table_tags.specs.Search.{searched, Searchable}
 
 -- ---- the first record of some
 
@@ -30,109 +29,108 @@ module _ (f : Record → Bool) (i : ℕ) (r : Record) (rs : List Record) where
   unfolding firstWhere
   first-later e = rw (e, firstWhere)
 
--- ---- a step
+-- ---- a turn of the search
+
+module _ (t cs : List ℕ) (f : Record → Bool) (end i : ℕ) where
+  pub search-hit : i < end → f (recordIn t cs i) ≡ true → firstWhere f i (recordsFrom t cs (end - i) i) ≡ schema.found i
+  search-hit h e = rw (records-more t cs end i h) (first-here f i (recordIn t cs i) (recordsFrom t cs (end - (i + 1)) (i + 1)) e)
+
+  pub search-on : i < end → f (recordIn t cs i) ≡ false → firstWhere f i (recordsFrom t cs (end - i) i) ≡ firstWhere f (i + 1) (recordsFrom t cs (end - (i + 1)) (i + 1))
+  search-on h e =
+      rw (records-more t cs end i h)
+      (first-later f i (recordIn t cs i) (recordsFrom t cs (end - (i + 1)) (i + 1)) e ∙ ap (λ m. firstWhere f m (recordsFrom t cs (end - (i + 1)) (i + 1))) (sym (add-one i)))
+
+  pub search-end : end ≤ i → firstWhere f i (recordsFrom t cs (end - i) i) ≡ schema.nowhere
+  search-end h = rw (records-end t cs end i h) (unfold firstWhere in refl)
+
+-- the label of the record whose bytes begin at a place
+pub label-there : (t cs : List ℕ) (i at size : ℕ) → at ≡ cellIn cs i 0 → size ≡ lengthIn cs i → take (at + size - (at + 24)) (drop (at + 24) t) ≡ recordIn t cs i .label
+unfolding recordIn
+label-there t cs i at size e g =
+    let q : at + size - (at + 24) ≡ cellIn cs i 9 = omega arith in
+    rw (q, e)
+
+-- a field of p with another label has not this tag
+pub other-label : (p : ℕ) (w : List ℕ) (r : Record) → sameBytes (r .label) w ≡ false → false ≡ isTaggedAs p w r
+other-label p w r e = rw (e, and-false (isTaggedOf p r))
+
+-- nor has a record of another body
+pub other-body : (p : ℕ) (w : List ℕ) (r : Record) → isUnder p (r .parent) ≡ false → false ≡ isTaggedAs p w r
+other-body p w r e = rw e
+
+-- ---- what a search finds
+
+record FoundIn (t cs : List ℕ) (f : Record → Bool) (from end q : ℕ) : Type 0 where
+  late : from ≤ q
+  early : q < end
+  such : f (recordIn t cs q) ≡ true
+
+module _ (t cs : List ℕ) (f : Record → Bool) (end i : ℕ) where
+  found-in : (q : ℕ) → firstWhere f i (recordsFrom t cs (end - i) i) ≡ schema.found q → FoundIn t cs f i end q
+  found-in q e =
+      let g = where-is f i (recordsFrom t cs (end - i) i) q e in
+      let h : g .0 < end - i = (rw (length-records t cs (end - i) i) at (g .2)) in
+      let x : f (recordIn t cs (i + g .0)) ≡ true = ap f (sym (record-from t cs (end - i) i (g .0) h)) ∙ g .3 in
+      record { late = omega (arith, g .1); early = omega (arith, g .1, h); such = rw (g .1) x }
+
+  none-in : firstWhere f i (recordsFrom t cs (end - i) i) ≡ schema.nowhere → (k : ℕ) → i ≤ k → k < end → f (recordIn t cs k) ≡ false
+  none-in e k a b =
+      let h : k - i < end - i = omega arith in
+      let z : k ≡ i + (k - i) = omega arith in
+      rw z (ap f (sym (record-from t cs (end - i) i (k - i) h)) ∙ where-none f i (recordsFrom t cs (end - i) i) e (k - i) (rw (length-records t cs (end - i) i) h))
+
+-- ---- the one of all records
 
 module _ (t cs : List ℕ) (n p : ℕ) (w : List ℕ) where
-  pub search-none : (k : ℕ) → searchFrom t cs n p w k 0 ≡ schema.nowhere
-  unfolding searchFrom
-  search-none zero = refl
-  search-none (suc k) = refl
-
-  pub search-out : (k at : ℕ) → n < at → searchFrom t cs n p w k at ≡ schema.nowhere
-  unfolding searchFrom pick
-  search-out zero at h = refl
-  search-out (suc k) zero h = refl
-  search-out (suc k) (suc q) h = rw (le-ltb q n (omega arith))
-
-  search-step : (k q : ℕ) → q < n → searchFrom t cs n p w (suc k) (suc q) ≡ pick (isTaggedAs p w (recordIn t cs q)) (schema.found q) (searchFrom t cs n p w k (cellIn cs q 10))
-  unfolding searchFrom pick
-  search-step k q h = rw (lt-ltb q n h) refl
-
-  module _ (k at : ℕ) (a : at ≡ 0 → ⊥) (b : at ≤ n) (c : 0 < k) where
-    from-one : searchFrom t cs n p w k at ≡ pick (isTaggedAs p w (recordIn t cs (at - 1))) (schema.found (at - 1)) (searchFrom t cs n p w (k - 1) (cellIn cs (at - 1) 10))
-    from-one =
-        let x : k ≡ suc (k - 1) = omega arith in
-        let y : at ≡ suc (at - 1) = omega arith in
-        ap (λ m. searchFrom t cs n p w m at) x ∙ (ap (λ m. searchFrom t cs n p w (suc (k - 1)) m) y ∙ search-step (k - 1) (at - 1) (omega arith))
-
-    pub search-hit : isTaggedAs p w (recordIn t cs (at - 1)) ≡ true → searchFrom t cs n p w k at ≡ schema.found (at - 1)
-    unfolding pick
-    search-hit e = from-one ∙ ap (λ b. pick b (schema.found (at - 1)) (searchFrom t cs n p w (k - 1) (cellIn cs (at - 1) 10))) e
-
-    pub search-more : isTaggedAs p w (recordIn t cs (at - 1)) ≡ false → searchFrom t cs n p w k at ≡ searchFrom t cs n p w (k - 1) (cellIn cs (at - 1) 10)
-    unfolding pick
-    search-more e = from-one ∙ ap (λ b. pick b (schema.found (at - 1)) (searchFrom t cs n p w (k - 1) (cellIn cs (at - 1) 10))) e
-
-  pub search-spent : (at : ℕ) → searchFrom t cs n p w 0 at ≡ schema.nowhere
-  unfolding searchFrom
-  search-spent at = refl
-
-  -- what is found is one of the records
-  pub search-below : (k at q : ℕ) → searchFrom t cs n p w k at ≡ schema.found q → q < n
-  unfolding searchFrom
-  search-below zero at q e = let z : _≡_ {A = ℕ} 0 1 = cc in absurd (omega arith)
-  search-below (suc k) zero q e = let z : _≡_ {A = ℕ} 0 1 = cc in absurd (omega arith)
-  search-below (suc k) (suc m) q e = by (ltb m n) (isTaggedAs p w (recordIn t cs m)) refl (search-below k (cellIn cs m 10) q) e
-    where
-      by : (a b : Bool) → ltb m n ≡ a → (searchFrom t cs n p w k (cellIn cs m 10) ≡ schema.found q → q < n) → pick a (pick b (schema.found m) (searchFrom t cs n p w k (cellIn cs m 10))) schema.nowhere ≡ schema.found q → q < n
-      by true true x g e = unfold pick in (let z : m ≡ q = cc in omega (arith, ltb-true m n x))
-      by true false x g e = unfold pick in (g e)
-      by false b x g e = unfold pick in (let z : _≡_ {A = ℕ} 0 1 = cc in absurd (omega arith))
-
--- ---- the lists once they are made
-
-pub links-records : (t cs after : List ℕ) (n : ℕ) → Links t cs n after → recordsAt t after n ≡ recordsAt t cs n
-links-records t cs after n l = records-agree t after cs n 0 (λ k a b. l .same k)
-
--- ---- the first of all
-
--- a field of p with the tag is in the tag's list
-tagged-key : (p : ℕ) (w : List ℕ) (r : Record) → isTaggedAs p w r ≡ true → keyIn r ≡ listKey p w
-tagged-key p w r e = and-both (isTaggedOf p r) (sameBytes (r .label) w) e (λ a b. and-both (isUnder p (r .parent)) (not (r .untagged)) a (λ c d. rw (up (r .parent) c, same-true (r .label) w b)))
-  where
-    up : (u : Up) → isUnder p u ≡ true → upNumber u ≡ p
-    up top e = unfold isUnder in (clash-bool e)
-    up (under q) e = unfold isUnder upNumber in (eqb-true q p e)
-
-module _ (t cs : List ℕ) (n p : ℕ) (w : List ℕ) (l : Linked t cs n 0) where
   abbrev f : Record → Bool
   f = isTaggedAs p w
 
-  abbrev h : ℕ
-  h = listKey p w
+  all-from : searched t cs n p w ≡ firstWhere f 0 (recordsFrom t cs (n - 0) 0)
+  all-from = let z : n ≡ n - 0 = omega arith in ap (λ m. firstWhere f 0 (recordsFrom t cs m 0)) z
 
-  -- record i, and what is found from i + 1 on
-  along-one : (i k : ℕ) → i < n → n - i ≤ k → ((k : ℕ) → n - (i + 1) ≤ k → searchFrom t cs n p w k (nextIn h (i + 1) (recordsFrom t cs (n - (i + 1)) (i + 1))) ≡ firstWhere f (i + 1) (recordsFrom t cs (n - (i + 1)) (i + 1))) → searchFrom t cs n p w k (nextIn h i (recordsFrom t cs (n - i) i)) ≡ firstWhere f i (recordsFrom t cs (n - i) i)
-  along-one i k a b g = rw (records-more t cs n i a) (by (eqb (keyIn r) h) (f r) refl refl)
-    where
-      r : Record
-      r = recordIn t cs i
+  pub searched-below : (q : ℕ) → searched t cs n p w ≡ schema.found q → q < n
+  searched-below q e = found-in t cs f n 0 q (sym all-from ∙ e) .early
 
-      rest : List Record
-      rest = recordsFrom t cs (n - (i + 1)) (i + 1)
+  module _ (s : Searchable t cs n) where
+    -- a record with the tag is the one with it
+    searched-found : (q : ℕ) → q < n → f (recordIn t cs q) ≡ true → schema.found q ≡ searched t cs n p w
+    unfolding schemaOf
+    searched-found q h x = sym (tag-found (recordsAt t cs n) (s .once) p q w (rw (length-records t cs n 0) h) (ap f (record-at t cs n q h) ∙ x))
 
-      on : (k : ℕ) → n - (i + 1) ≤ k → searchFrom t cs n p w k (nextIn h (suc i) rest) ≡ firstWhere f (suc i) rest
-      on k c = let q : i + 1 ≡ suc i = add-one i in ap (λ m. searchFrom t cs n p w k (nextIn h m rest)) (sym q) ∙ (g k c ∙ ap (λ m. firstWhere f m rest) q)
+    -- a field of p stands behind it
+    behind : (k : ℕ) → k < n → f (recordIn t cs k) ≡ true → p < k
+    unfolding AfterParents
+    behind k h x = and-both (isTaggedOf p (recordIn t cs k)) (sameBytes (recordIn t cs k .label) w) x (λ a b. and-both (isUnder p (recordIn t cs k .parent)) (not (recordIn t cs k .untagged)) a (λ c d. by (recordIn t cs k .parent) c (rw (record-at t cs n k h) at (s .behind k (rw (length-records t cs n 0) h)))))
+      where
+        by : (u : Up) → isUnder p u ≡ true → Before k u → p < k
+        by top c b = unfold isUnder in (clash-bool c)
+        by (under q) c b = unfold isUnder Before in (omega (arith, eqb-true q p c, b))
 
-      one : suc i - 1 ≡ i
-      one = omega arith
+    searched-none : ((k : ℕ) → p ≤ k → k < n → f (recordIn t cs k) ≡ false) → schema.nowhere ≡ searched t cs n p w
+    searched-none g = by (searched t cs n p w) refl
+      where
+        by : (o : schema.Found) → searched t cs n p w ≡ o → schema.nowhere ≡ o
+        by schema.nowhere e = refl
+        by (schema.found k) e =
+            let r = found-in t cs f n 0 k (sym all-from ∙ e) in
+            let b = behind k (r .early) (r .such) in
+            clash-bool (sym (g k (omega arith) (r .early)) ∙ r .such)
 
-      by : (a b : Bool) → eqb (keyIn r) h ≡ a → f r ≡ b → searchFrom t cs n p w k (nextIn h i (r ∷ rest)) ≡ firstWhere f i (r ∷ rest)
-      by true true x y =
-          rw (next-here h i r rest (eqb-true _ _ x), first-here f i r rest y)
-          (search-hit t cs n p w k (suc i) (λ z. omega arith) (omega arith) (omega arith) (rw one y) ∙ ap schema.found one)
-      by true false x y =
-          let d : keyIn r ≡ h = eqb-true _ _ x in
-          let z : cellIn cs (suc i - 1) 10 ≡ nextIn h (suc i) rest = ap (λ m. cellIn cs m 10) one ∙ (l .links i (omega arith) a ∙ (ap (λ m. nextIn m (i + 1) rest) d ∙ ap (λ m. nextIn h m rest) (add-one i))) in
-          rw (next-here h i r rest d, first-later f i r rest y)
-          (search-more t cs n p w k (suc i) (λ z. omega arith) (omega arith) (omega arith) (rw one y)
-          ∙ (ap (searchFrom t cs n p w (k - 1)) z ∙ on (k - 1) (omega arith)))
-      by false true x y = absurd (eqb-false _ _ x (tagged-key p w r y))
-      by false false x y = rw (next-later h i r rest (eqb-false _ _ x), first-later f i r rest y) (on k (omega arith))
+    -- from a record on to the last
+    pub searched-from : (from q : ℕ) → firstWhere f from (recordsFrom t cs (n - from) from) ≡ schema.found q → schema.found q ≡ searched t cs n p w
+    searched-from from q e = let r = found-in t cs f n from q e in searched-found q (r .early) (r .such)
 
-  along : (m i k : ℕ) → i + m ≡ n → n - i ≤ k → searchFrom t cs n p w k (nextIn h i (recordsFrom t cs (n - i) i)) ≡ firstWhere f i (recordsFrom t cs (n - i) i)
-  along zero i k e b = rw (records-end t cs n i (omega arith)) (unfold nextIn firstWhere in (search-none t cs n p w k))
-  along (suc m) i k e b = along-one i k (omega arith) b (λ k c. along m (i + 1) k (omega arith) c)
+    -- and then from p's own on
+    pub searched-round : (from : ℕ) → from ≤ n → firstWhere f from (recordsFrom t cs (n - from) from) ≡ schema.nowhere → firstWhere f p (recordsFrom t cs (from - p) p) ≡ searched t cs n p w
+    searched-round from h e = by (firstWhere f p (recordsFrom t cs (from - p) p)) refl
+      where
+        by : (g : schema.Found) → firstWhere f p (recordsFrom t cs (from - p) p) ≡ g → g ≡ searched t cs n p w
+        by (schema.found q) z = let r = found-in t cs f from p q z in searched-found q (omega (arith, r .early)) (r .such)
+        by schema.nowhere z = searched-none (λ k a b. on k a b (ltb k from) refl)
+          where
+            on : (k : ℕ) → p ≤ k → k < n → (c : Bool) → ltb k from ≡ c → f (recordIn t cs k) ≡ false
+            on k a b true y = none-in t cs f from p z k a (ltb-true k from y)
+            on k a b false y = none-in t cs f n from e k (ltb-false k from y) b
 
-  pub search-first : searched t cs n p w ≡ firstWhere (isTaggedAs p w) 0 (recordsAt t cs n)
-  search-first = ap (searchFrom t cs n p w n) (l .heads h (key-small p w)) ∙ (along n 0 n (omega arith) (omega arith) ∙ rw (records-all t cs n))
+    pub searched-all : firstWhere f p (recordsFrom t cs (n - p) p) ≡ searched t cs n p w
+    searched-all = searched-round n (omega arith) (search-end t cs f n n (omega arith))

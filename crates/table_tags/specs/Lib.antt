@@ -1,1 +1,4 @@
-pub mod Lists
+-- the search for a tag
+pub mod Search
+-- the marks of tags that were met
+pub mod Marks

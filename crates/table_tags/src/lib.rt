@@ -1,13 +1,11 @@
-// The search for a tag. The records are kept in lists by a key of their labels: the heads stand in the first cells, and
-// each record has a cell for the next one of its list. A cell holds a record's number and one, or 0 where the list ends.
+// The search for a tag, from record to record by the lengths at their heads; and tags that stand twice.
 ghost use mathlib.Core.Path.{_≡_};
-ghost use Prim.Native.Nat.{_+_, _*_, _≤_, _<_};
-ghost use lib.ListN.{length};
-ghost use Rattle.numbers.specs.Limits.{parameterLimit};
-ghost use Rattle.reading_rules.specs.Schema.{isTaggedAs};
+ghost use Prim.Native.Nat.{_+_, _-_, _<_};
+ghost use Rattle.reading_rules.specs.Schema.{isTaggedAs, firstWhere};
 ghost use Rattle.definition_rules.specs.Faults.{tagRepeated};
-ghost use Rattle.table_records.specs.Stored.{headCells, recordCells, recordIn, recordsAt};
-ghost use Rattle.table_tags.specs.Lists.{foundOf, listKey, keyIn, inFront, Cleared, Linked, Links, searched};
+ghost use Rattle.table_records.specs.Stored.{recordIn, recordsFrom, recordsAt, Laid};
+ghost use Rattle.table_tags.specs.Search.{foundOf, searched, Searchable};
+ghost use Rattle.table_tags.specs.Marks.{tagKey, MarkedBefore};
 
 // What a search finds.
 pub enum Found {
@@ -15,112 +13,75 @@ pub enum Found {
     At(usize),
 }
 
-// How many lists there are: each has its head in a cell that is no record's.
-const LISTS: usize = table_records::HEADS;
-
-// ---- the lists
-
-// The number of the list for a label in the body of p, by p and the label's length and last bytes.
-fn key(p: usize, word: &[u8]) -> usize
-    ensures { λ r. ⌜ r ≡ listKey p (now (word .entry)) ⌝ }
-{
-    let n = word.len();
-    if n == 0 {
-        return p % LISTS;
-    }
-    if n < 3 {
-        return (p % LISTS + n + numbers::u8_as_usize(word[n - 1])) % LISTS;
-    }
-    (p % LISTS
-        + n % LISTS
-        + numbers::u8_as_usize(word[n - 1])
-        + 10 * numbers::u8_as_usize(word[n - 2])
-        + 100 * numbers::u8_as_usize(word[n - 3]))
-        % LISTS
-}
-
-// No record is in a list.
-fn clear(unpacked: &mut [u32])
-    ensures { λ _. ⌜ (headCells ≤ length (now (unpacked .entry)) → Cleared (now (unpacked .entry)) headCells (now (unpacked .exit))) ⌝ }
-{
-    if unpacked.len() < LISTS {
-        return;
-    }
-    let mut k: usize = 0;
-    while k < LISTS {
-        unpacked[k] = 0;
-        k += 1;
-    }
-}
-
-// Puts record i in front of its list.
-fn link_one(table: &[u8], unpacked: &mut [u32], i: usize)
-    requires { ⌜ i < parameterLimit ⌝ }
-    ensures { λ _. ⌜ now (unpacked .exit) ≡ inFront (now (unpacked .entry)) i (keyIn (recordIn (now (table .entry)) (now (unpacked .entry)) i)) ⌝ }
-{
-    let k = key(
-        table_records::parent_at(table, unpacked, i),
-        table_records::label_at(table, unpacked, i),
-    );
-    let x = numbers::cell_at(unpacked, k);
-    table_records::set_link(unpacked, i, x);
-    numbers::set_cell(unpacked, k, i as u32 + 1);
-}
-
-// Makes the lists of n records, if their cells are there.
-pub fn link(table: &[u8], unpacked: &mut [u32], n: usize)
-    ensures { λ _. ⌜ (n ≤ parameterLimit → headCells + recordCells * n ≤ length (now (unpacked .entry)) → Links (now (table .entry)) (now (unpacked .entry)) n (now (unpacked .exit))) ⌝ }
-{
-    if numbers::PARAMETER_LIMIT < n {
-        return;
-    }
-    clear(unpacked);
-    let mut i = n;
-    while 0 < i {
-        i -= 1;
-        link_one(table, unpacked, i);
-    }
-}
-
 // ---- the search
 
-fn is_tagged_as(table: &[u8], unpacked: &[u32], p: usize, word: &[u8], i: usize) -> bool
+// The record i, with this label, is a field of p with the word as its wire tag. The bytes are compared only where length
+// and last byte agree.
+fn is_tagged_as(
+    table: &[u8],
+    unpacked: &[u32],
+    p: usize,
+    word: &[u8],
+    i: usize,
+    label: &[u8],
+) -> bool
+    requires { ⌜ now label ≡ recordIn (now table) (now unpacked) i .label ⌝ }
     ensures { λ r. ⌜ r ≡ isTaggedAs p (now (word .entry)) (recordIn (now (table .entry)) (now (unpacked .entry)) i) ⌝ }
 {
-    if table_records::is_under(table, unpacked, i, p) {
-        if table_records::untagged_at(table, unpacked, i) {
-            return false;
-        }
-        return classes::same_bytes(table_records::label_at(table, unpacked, i), word);
+    if label.len() != word.len() {
+        return false;
     }
-    false
+    if classes::last_byte(label) != classes::last_byte(word) {
+        return false;
+    }
+    if !table_records::is_under(table, unpacked, i, p) {
+        return false;
+    }
+    if table_records::untagged_at(table, unpacked, i) {
+        return false;
+    }
+    classes::same_before_last(label, word)
 }
 
-// The field or alternative of p with this wire tag, along its list. Where the lists were made, it is the first of all records.
-pub fn find(table: &[u8], unpacked: &[u32], n: usize, p: usize, word: &[u8]) -> Found
-    ensures { λ r. ⌜ foundOf r ≡ searched (now (table .entry)) (now (unpacked .entry)) n p (now (word .entry)) ⌝ }
+// The first record from one on, before end, that is a field of p with this wire tag: from each to the next by its length.
+fn search(table: &[u8], unpacked: &[u32], p: usize, word: &[u8], from: usize, end: usize) -> Found
+    requires { ⌜ Laid (now table) (now unpacked) end ⌝ }
+    ensures { λ r. ⌜ foundOf r ≡ firstWhere (isTaggedAs p (now (word .entry))) from (recordsFrom (now (table .entry)) (now (unpacked .entry)) (end - from) from) ⌝ }
 {
-    let mut at = numbers::u32_as_usize(numbers::cell_at(unpacked, key(p, word)));
-    let mut left = n;
-    while 0 < left {
-        if at == 0 {
-            return Found::Nowhere;
+    let mut at = table_records::place_at(unpacked, from);
+    let mut i = from;
+    while i < end {
+        let size = table_records::length_at(table, at);
+        let label = &table[at + numbers::RECORD_HEADER..at + size];
+        if is_tagged_as(table, unpacked, p, word, i, label) {
+            return Found::At(i);
         }
-        if n < at {
-            return Found::Nowhere;
-        }
-        if is_tagged_as(table, unpacked, p, word, at - 1) {
-            return Found::At(at - 1);
-        }
-        at = table_records::link_at(unpacked, at - 1);
-        left -= 1;
+        at += size;
+        i += 1;
     }
     Found::Nowhere
 }
 
-// The wire tag of record i stands before in its body. The lists are made.
+// The field or alternative of p with this wire tag, looked for from a record on to the last, and then from p's own record on.
+// It may start at any record, as the tag stands once in p's body.
+pub fn find(table: &[u8], unpacked: &[u32], n: usize, p: usize, word: &[u8], from: usize) -> Found
+    requires { ⌜ Searchable (now table) (now unpacked) n ⌝ }
+    ensures { λ r. ⌜ foundOf r ≡ searched (now (table .entry)) (now (unpacked .entry)) n p (now (word .entry)) ⌝ }
+{
+    if n < from {
+        return search(table, unpacked, p, word, p, n);
+    }
+    match search(table, unpacked, p, word, from, n) {
+        Found::At(q) => Found::At(q),
+        Found::Nowhere => search(table, unpacked, p, word, p, from),
+    }
+}
+
+// ---- tags that stand twice
+
+// The wire tag of record i stands before in its body.
 pub fn tag_again(table: &[u8], unpacked: &[u32], n: usize, i: usize) -> bool
-    requires { ⌜ (i < n) × Linked (now table) (now unpacked) n 0 ⌝ }
+    requires { ⌜ (i < n) × Laid (now table) (now unpacked) n ⌝ }
     ensures { λ r. ⌜ r ≡ tagRepeated (recordsAt (now (table .entry)) (now (unpacked .entry)) n) i (recordIn (now (table .entry)) (now (unpacked .entry)) i) ⌝ }
 {
     if table_records::untagged_at(table, unpacked, i) {
@@ -130,14 +91,60 @@ pub fn tag_again(table: &[u8], unpacked: &[u32], n: usize, i: usize) -> bool
     if p == numbers::NONE16 {
         return false;
     }
-    match find(
+    match search(
         table,
         unpacked,
-        n,
         p,
         table_records::label_at(table, unpacked, i),
+        0,
+        i,
     ) {
-        Found::At(q) => q != i,
+        Found::At(_) => true,
         Found::Nowhere => false,
     }
+}
+
+// How many marks there are: four for each record that there may be, so that few tags of a table share one.
+pub const MARKS: usize = 4 * numbers::PARAMETER_LIMIT;
+
+// How far apart a byte more or less sets two keys.
+const SPREAD: usize = 37;
+
+// The key of a label in the body of p: the number of its mark.
+fn key(p: usize, label: &[u8]) -> usize
+    ensures { λ r. ⌜ r ≡ tagKey p (now (label .entry)) ⌝ }
+{
+    let mut k = p % MARKS;
+    let mut i: usize = 0;
+    while i < label.len() {
+        k = (SPREAD * k + numbers::u8_as_usize(label[i])) % MARKS;
+        i += 1;
+    }
+    k
+}
+
+// The wire tag of record i stands before in its body, where the keys of all records before are marked; its own is marked
+// too. A tag whose key is new is new, so a search is needed only where it is not.
+pub fn tag_again_marked(
+    table: &[u8],
+    unpacked: &[u32],
+    n: usize,
+    i: usize,
+    marks: &mut [bool],
+) -> bool
+    requires { ⌜ (i < n) × Laid (now table) (now unpacked) n ⌝ }
+    requires { ⌜ MarkedBefore (now table) (now unpacked) i (now marks) ⌝ }
+    ensures { λ r. ⌜ r ≡ tagRepeated (recordsAt (now (table .entry)) (now (unpacked .entry)) n) i (recordIn (now (table .entry)) (now (unpacked .entry)) i) ⌝ }
+    ensures { λ _. ⌜ MarkedBefore (now (table .entry)) (now (unpacked .entry)) (i + 1) (now (marks .exit)) ⌝ }
+{
+    let k = key(
+        table_records::parent_at(table, unpacked, i),
+        table_records::label_at(table, unpacked, i),
+    );
+    let old = numbers::mark_at(marks, k);
+    numbers::set_mark(marks, k, true);
+    if old {
+        return tag_again(table, unpacked, n, i);
+    }
+    false
 }

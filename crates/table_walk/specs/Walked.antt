@@ -10,7 +10,7 @@ use Rattle.numbers.specs.LittleEndian.{le16}
 use Rattle.classes.specs.Lists.{pick}
 use Rattle.reading_rules.specs.Record.{Record}
 use Rattle.definition_rules.specs.Table.{just, decode}
-use Rattle.table_records.specs.Stored.{headCells, recordCells, recordsAt}
+use Rattle.table_records.specs.Stored.{recordCells, recordsAt, Laid}
 use Rattle.table_walk.specs.declared.Walk.{Walk}
 use Rattle.table_walk.specs.declared.Walk.the-variants.{Count, Bad}
 
@@ -25,13 +25,14 @@ lengthAt t at = pick (isWhole t at) (le16 t at) 0
 
 -- there is room to unpack the records of a table of so many bytes
 abbrev pub Enough : ℕ → ℕ → Type 0
-Enough bytes room = (n : ℕ) → n ≤ parameterLimit → 24 * n ≤ bytes → headCells + recordCells * n ≤ room
+Enough bytes room = (n : ℕ) → n ≤ parameterLimit → 24 * n ≤ bytes → recordCells * n ≤ room
 
 -- what a walk says: the table is these records, no more than there may be
 pub record RecordsCounted (t unpacked : List ℕ) (n : ℕ) : Type 0 where
   pub few : n ≤ parameterLimit
   pub long : 24 * n ≤ length t
   pub these : decode t ≡ just (recordsAt t unpacked n)
+  pub laid : Laid t unpacked n
 
 -- or it is no row of whole records, or of too many
 abbrev pub Uncounted : List ℕ → Type 0

@@ -207,6 +207,10 @@ const T: &[u8] = b"struct s { time t as ?; ascii<1..3> a; };";
 const N: &[u8] = b"struct r { s p[1..*]; void v; }; struct s { int q[1..*]; };";
 const UNTAGGED: &[u8] = b"struct r { int a[1..3] as ?; };";
 
+const ALIKE: &[u8] = b"struct r { int ab[0..1]; int bb[0..1]; int b[0..1]; int xbb[0..1]; };";
+const INNER: &[u8] = b"struct r { struct ab[0..1] { int ab[0..1]; }; int c[0..1]; };";
+const RENAMED: &[u8] = b"struct r { int ab as ?; int cb as ab; };";
+
 const FIRST_MESSAGE: &[u8] = b"17 surveyed=20240310 d=812,790";
 const FIRST_ROWS: [Row; 5] = [
     [0, R, 0, 30, 0],
@@ -622,6 +626,29 @@ pub static CASES: &[Case] = &[
     read("minute 60", SIMPLE, b"t=236000", Refused(30, 2)),
     read("second 60", SIMPLE, b"t=235960", Refused(30, 2)),
     read("five digits", SIMPLE, b"t=23595", Refused(24, 2)),
+    // Request 5: finding a tag. No answer differs.
+    read("one length and one last byte, other beginnings", ALIKE, b"bb=1 ab=2 b=3 xbb=4", Count(5)),
+    read("an unknown tag with the length and last byte of a known one", ALIKE, b"cb=1 ab=2", Count(2)),
+    read("unknown tags may repeat", ALIKE, b"ba=1 ba=2", Count(1)),
+    read("a tag again, found from behind it", ALIKE, b"bb=1 bb=2", Refused(26, 5)),
+    read("a tag of the body around", INNER, b"ab={ab=1 c=2} c=3", Count(4)),
+    read("an untagged field is not found by its name", RENAMED, b"1 ab=2", Count(3)),
+    read("the last field, then the first", ALIKE, b"xbb=1 ab=2", Count(3)),
+    read("backwards", ALIKE, b"xbb=4 b=3 bb=2 ab=1", Count(5)),
+    read("the first again, after the last", ALIKE, b"ab=1 xbb=2 ab=3", Refused(26, 11)),
+    Case {
+        point: "255 fields backwards",
+        ask: Ask::Read(Made(|| flat_table(256)), Made(|| flat_message((1..256).rev())), ROOM),
+        want: Count(256),
+    },
+    Case {
+        point: "the first of 255 fields again, after all of them",
+        ask: Ask::Read(Made(|| flat_table(256)), Made(|| flat_message((1..256).chain(1..2))), ROOM),
+        want: Refused(26, 2_187),
+    },
+    table("the first of 20 tags again", || twenty_tags(b"k1"), Taken(false)),
+    table("the last but one of 20 tags again", || twenty_tags(b"k19"), Taken(false)),
+    table("20 tags, the last with the length and last byte of the first", || twenty_tags(b"j1"), Taken(true)),
     // Request 2: leap years.
     read("29 February 1900", D, b"17 surveyed=19000229 d=1", Refused(30, 12)),
     read("29 February 1700", D, b"17 surveyed=17000229 d=1", Refused(30, 12)),
@@ -802,6 +829,20 @@ fn trailing_byte() -> Vec<u8> {
 fn flat_table(count: usize) -> Vec<u8> {
     let one = |number: usize| plain(BOOL, Some(0), format!("{number}").as_bytes());
     under_root(&(1..count).map(one).collect::<Vec<_>>())
+}
+
+/// The fields of a flat table with these numbers, in this order.
+fn flat_message(numbers: impl Iterator<Item = usize>) -> Vec<u8> {
+    let items = numbers.map(|number| format!("{number}=true "));
+    items.collect::<String>().into_bytes()
+}
+
+/// A root with the fields k1 to k19 and one with this tag.
+fn twenty_tags(last: &[u8]) -> Vec<u8> {
+    let one = |number: usize| plain(BOOL, Some(0), format!("k{number}").as_bytes());
+    let mut fields: Vec<_> = (1..20).map(one).collect();
+    fields.push(plain(BOOL, Some(0), last));
+    under_root(&fields)
 }
 
 fn outside_after_inside() -> Vec<u8> {

@@ -75,7 +75,7 @@ impl Frame {
 }
 
 /// Definitions that every stream's pool starts with.
-pub const FIXED: [&str; 17] = [
+pub const FIXED: [&str; 20] = [
     "struct tile { int<1..99999> id as ?; date surveyed; int<0..30000> depth[1..*] as d; [ unquoted-ascii<1..8> boat; ] };",
     "struct t { unquoted-ascii<1..8> remark[0..1] as ?; date surveyed; };",
     "struct r { u x[1..2]; }; union u { int<0..9> n as ?; void any; u deep; };",
@@ -93,6 +93,9 @@ pub const FIXED: [&str; 17] = [
     "struct r { struct e as ? { }; u x[0..1]; }; union u { e5 d; [ r box; ] }; ascii<2..5> e5;",
     "struct s{};",
     "struct r { date d[1..*] as ?; };",
+    "struct r { int ab[0..1]; int bb[0..1]; int b[0..1]; int xbb[0..1]; };",
+    "struct r { int ab as ?; int cb as ab; struct cab[0..1] { int cb[0..1]; void ab[0..1]; int bb[0..1]; }; };",
+    "struct r { int aab[0..1]; void bab[0..1]; struct cab[0..2] { int aab[0..1]; void bab[0..1]; int dab[0..1]; int ab[0..1]; }; union dab[0..*] { void aab; int bab; void cab; bool ab; void b; }; void eab[0..1]; int fab[0..1]; bool ab[0..1]; int b[0..1]; void aac[0..1]; int bac[0..1]; int aaab[0..1]; u k[0..1]; }; union u { int n as ?; void aab; u bab; u cab; int dab; };",
 ];
 
 /// The fixed definitions with a union in itself, those with a root in itself, and a list of dates.
@@ -979,10 +982,16 @@ impl Walker<'_> {
     }
 
     fn unknown_item(&mut self) {
-        let word = self
-            .rng
-            .pick(&["zz", "q", "-", "x/y", "12", "~", "Zz.9", "//c"]);
-        self.put(word);
+        if self.rng.one_in(2) {
+            let at = self.rng.below(self.entry.records.len());
+            let word = look_alike(self.rng, &self.entry.records[at].name);
+            self.out.push(word);
+        } else {
+            let word = self
+                .rng
+                .pick(&["zz", "q", "-", "x/y", "12", "~", "Zz.9", "//c"]);
+            self.put(word);
+        }
         if self.rng.one_in(4) {
             return;
         }
@@ -1024,6 +1033,22 @@ impl Walker<'_> {
             }
         }
     }
+}
+
+/// A tag that differs from another in one byte, or in its length by one.
+fn look_alike(rng: &mut Rng, tag: &Token) -> Token {
+    let mut word = tag.clone();
+    let last = word.len() - 1;
+    let at = rng.below(word.len());
+    match rng.below(6) {
+        0 => word[last] = rng.pick(b"abz9"),
+        1 => word.push(rng.pick(b"abz9")),
+        2 => word.insert(0, rng.pick(b"abz9")),
+        3 if last > 0 => drop(word.remove(at)),
+        4 => word[0] = rng.pick(b"abz9"),
+        _ => word[at] = rng.pick(b"abz9"),
+    }
+    word
 }
 
 fn quoted(rng: &mut Rng, len: usize) -> Token {
@@ -1199,6 +1224,7 @@ pub fn message_tokens(rng: &mut Rng, entry: &Entry, faults: usize, size: usize) 
 pub struct Stream {
     rng: Rng,
     pool: Vec<Entry>,
+    wide: Entry,
     hand: Vec<Frame>,
 }
 
@@ -1214,6 +1240,7 @@ impl Stream {
         Stream {
             rng: Rng::new(seed),
             pool,
+            wide: wide_entry(),
             hand: cases::CASES.iter().rev().map(hand_frame).collect(),
         }
     }
@@ -1277,8 +1304,7 @@ impl Stream {
     }
 
     fn read_frame(&mut self) -> Frame {
-        let (at, b) = self.read_parts();
-        let mut a = self.pool[at].table.clone();
+        let (mut a, b) = self.read_parts();
         if self.rng.one_in(12) {
             a = mutate_table(&mut self.rng, &a);
         }
@@ -1291,26 +1317,29 @@ impl Stream {
         }
     }
 
-    /// One of the pool's tables, by its number there, and a message.
-    fn read_parts(&mut self) -> (usize, Vec<u8>) {
+    /// A table and a message for it.
+    fn read_parts(&mut self) -> (Vec<u8>, Vec<u8>) {
         let rng = &mut self.rng;
-        match rng.below(120) {
-            0 | 1 => {
-                let at = rng.pick(&CHAINS);
+        let (entry, message) = match rng.below(240) {
+            0..=3 => {
+                let entry = &self.pool[rng.pick(&CHAINS)];
                 let most = rng.pick(&[60, 60, 60, 60, 60, 8200]);
-                (at, chain_message(rng, &self.pool[at], most))
+                (entry, chain_message(rng, entry, most))
             }
-            2 | 3 => {
-                let at = rng.pick(&NESTS);
-                (at, nested_message(rng, &self.pool[at]))
+            4..=7 => {
+                let entry = &self.pool[rng.pick(&NESTS)];
+                (entry, nested_message(rng, entry))
             }
-            4 | 5 => (DATES, dates_message(rng)),
+            8..=11 => (&self.pool[DATES], dates_message(rng)),
+            12 => (&self.wide, wide_message(rng, &self.wide)),
             _ => {
                 let at = self.entry();
                 let (rng, entry) = self.parts(at);
-                (at, message_bytes(rng, entry))
+                let message = message_bytes(rng, entry);
+                (&self.pool[at], message)
             }
-        }
+        };
+        (entry.table.clone(), message)
     }
 
     fn read_room(&mut self, a: &[u8], b: &[u8]) -> u32 {
@@ -1703,6 +1732,51 @@ fn dates_message(rng: &mut Rng) -> Vec<u8> {
         list.extend([token(&date), token(",")]);
     }
     list.pop();
+    spaced(rng, &list)
+}
+
+/// A root with 255 fields, whose tags are of few lengths and end alike; every fifth is a void.
+fn wide_entry() -> Entry {
+    let mut text = b"struct r{".to_vec();
+    for i in 0..255 {
+        let kind = if i % 5 == 3 { "void" } else { "int" };
+        text.extend(format!("{kind} f{}[0..1];", i * 3).bytes());
+    }
+    text.extend(b"};");
+    let table = definition::compile(&text, AMPLE).expect("a lawful definition");
+    Entry::new(table)
+}
+
+/// Fields of a root with many: in the table's order, from another on and round, backwards or mixed; now and then one twice,
+/// or one that is unknown.
+fn wide_message(rng: &mut Rng, entry: &Entry) -> Vec<u8> {
+    let mut fields = entry.kids[0].clone();
+    match rng.below(4) {
+        0 => {}
+        1 => fields.rotate_left(rng.below(255)),
+        2 => fields.reverse(),
+        _ => rng.shuffle(&mut fields),
+    }
+    let (share, faults) = (1 + rng.below(9), rng.pick(&[0, 0, 0, 300]));
+    let mut walker = Walker {
+        rng,
+        entry,
+        faults: 0,
+        size: 600,
+        out: vec![],
+    };
+    for f in fields {
+        if !walker.rng.one_in(share) {
+            walker.item(f);
+            if walker.rng.one_in(faults) {
+                walker.item(f);
+            }
+        }
+        if walker.rng.one_in(40) {
+            walker.unknown_item();
+        }
+    }
+    let list = walker.out;
     spaced(rng, &list)
 }
 

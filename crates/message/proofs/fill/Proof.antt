@@ -10,7 +10,7 @@ root-requires : tie.Need-root-requires
 root-requires c κs = search needs
 
 body-requires : tie.Need-body-requires
-body-requires c κs = rw (c .root .ensures) (root-room _ _ (c .before .before .before .before .before .before .before .before .before .before .pre .0) (c .before .before .before .before .before .before .before .before .before .before .pre .1))
+body-requires c κs = rw (c .root .ensures) (root-room _ _ (c .before .before .before .before .before .before .before .before .before .before .pre .0 .0) (c .before .before .before .before .before .before .before .before .before .before .pre .0 .1), c .before .before .before .before .before .before .before .before .before .before .pre .1)
 
 same-length : tie.Need-same-length
 same-length c = search needs

@@ -19,13 +19,13 @@ enum-told : tie.Need-enum-told
 enum-told c = search needs
 
 read-tokens-requires : tie.Need-read-tokens-requires
-read-tokens-requires c κs = search needs
+read-tokens-requires c κs = ((c .before .before .before .before .if1 .left, c .before .before .before .before .before .before .before .before .before .pre .0), c .before .before .before .before .before .before .before .before .before .pre .1)
 
 same-length : tie.Need-same-length
 same-length c = search needs
 
 returns-3 : tie.Need-returns-3
-returns-3 c = rw (no-bad _ _ _ _ (c .before .before .before .before .before .before .scan-fault .result) (c .before .before .before .before .before .before .before .before .before .before .before .before .pre .1) (c .before .before .before .before .before .before .before .if1 .left) (c .before .before .before .before .before .before .scan-fault .ensures) (c .before .before .before .before .enum-told .given .1)) (c .before .before .read-tokens .ensures)
+returns-3 c = rw (no-bad _ _ _ _ (c .before .before .before .before .before .before .scan-fault .result) (c .before .before .before .before .before .before .before .if1 .left) (c .before .before .before .before .before .before .scan-fault .ensures) (c .before .before .before .before .enum-told .given .1)) (c .before .before .read-tokens .ensures)
 
 pub read-records-spec : {M : Type 1} → statement M
 read-records-spec =

@@ -6,7 +6,7 @@ use Rattle.message.proofs.read_tokens.Statement.{statement}
 use Rattle.message.proofs.read_tokens.Tie as tie
 
 count-requires : tie.Need-count-requires
-count-requires c κs = search needs
+count-requires c κs = c .before .before .before .before .before .pre
 
 enum-known-m : tie.Need-enum-known-m
 enum-known-m c = search needs
@@ -18,7 +18,7 @@ returns : tie.Need-returns
 returns c = let w = with-little _ (now (c .before .before .before .before .before .before .before .before .before .before .before .before .args .rows)) _ (rw (c .before .before .m .given .1) at (c .before .before .before .before .before .before .count .ensures .0)) (rw (c .before .before .before .before .before .before .count .ensures .1) at (c .if1 .taken)) in (w .0, c .before .before .before .before .before .before .count .ensures .1 ∙ w .1)
 
 fill-requires : tie.Need-fill-requires
-fill-requires c κs = search needs
+fill-requires c κs = c .before .before .before .before .before .before .before .before .before .before .before .before .before .pre
 
 same-length-2 : tie.Need-same-length-2
 same-length-2 c = search needs

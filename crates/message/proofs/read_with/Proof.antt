@@ -12,7 +12,7 @@ enum-known-n : tie.Need-enum-known-n
 enum-known-n c = search needs
 
 read-records-requires : tie.Need-read-records-requires
-read-records-requires c κs = ((checked-fine (c .before .before .before .before .before .before .before .before .before .before .before .before .before .args .table .now) _ (c .before .before .before .before .before .before .before .checked .result) _ (c .before .before .before .before .before .before .before .checked .ensures) (c .before .before .before .n .given .1)) .counted .few, (checked-fine (c .before .before .before .before .before .before .before .before .before .before .before .before .before .args .table .now) _ (c .before .before .before .before .before .before .before .checked .result) _ (c .before .before .before .before .before .before .before .checked .ensures) (c .before .before .before .n .given .1)) .linked)
+read-records-requires c κs = ((checked-fine (c .before .before .before .before .before .before .before .before .before .before .before .before .before .args .table .now) _ (c .before .before .before .before .before .before .before .checked .result) _ (c .before .before .before .before .before .before .before .checked .ensures) (c .before .before .before .n .given .1)) .counted .few, (checked-fine (c .before .before .before .before .before .before .before .before .before .before .before .before .before .args .table .now) _ (c .before .before .before .before .before .before .before .checked .result) _ (c .before .before .before .before .before .before .before .checked .ensures) (c .before .before .before .n .given .1)) .searchable)
 
 enum-told : tie.Need-enum-told
 enum-told c = search needs

@@ -3,7 +3,7 @@ use native.Mathlib.Omega.{arith}
 use denote.Ref.{now}
 use Rattle.message_lookup.proofs.Marked.{complete-marks}
 use Rattle.message_frame.proofs.AtToken.{step-of-word}
-use Rattle.table_tags.proofs.Search.{found-at, found-none}
+use Rattle.table_tags.proofs.FoundLaws.{found-at, found-none}
 use Rattle.message_bodies.proofs.Parts.{unknown-ends, known-ends, items-done, items-stopped}
 use borrow.Author.Needs.{needs}
 use Rattle.message_bodies.proofs.item_at.Statement.{statement}
@@ -22,7 +22,7 @@ part-find-end : tie.Need-part-find-end
 part-find-end c = omega (arith, step-of-word (c .before .before .before .before .before .before .before .args .f .base) (now (c .before .before .before .before .before .before .before .args .s)) (c .before .before .before .before .before .before .before .args .f .at) (c .before .before .before .head .result) (c .before .before .before .head .ensures (c .before .before .before .before .before .before .before .args .f .base)) (c .if1 .taken) .less, step-of-word (c .before .before .before .before .before .before .before .args .f .base) (now (c .before .before .before .before .before .before .before .args .s)) (c .before .before .before .before .before .before .before .args .f .at) (c .before .before .before .head .result) (c .before .before .before .head .ensures (c .before .before .before .before .before .before .before .args .f .base)) (c .if1 .taken) .within)
 
 find-requires : tie.Need-find-requires
-find-requires c κs = search needs
+find-requires c κs = c .before .before .before .before .before .before .before .before .pre .1
 
 enum-told : tie.Need-enum-told
 enum-told c = search needs
@@ -49,13 +49,13 @@ end-at-requires : tie.Need-end-at-requires
 end-at-requires c κs = search needs
 
 returns-3 : tie.Need-returns-3
-returns-3 c = λ ks m. items-done _ _ (c .before .before .before .before .before .before .before .before .before .before .before .args .f) _ ks (c .before .before .before .before .before .before .before .head .result) (c .before .before .before .before .before .before .before .head .ensures _) _ _ (c .before .before .complete .ensures ∙ complete-marks _ _ _ _ ks m) (c .before .end-at .ensures) (c .before .before .before .before .if1 .left) (c .if2 .taken)
+returns-3 c = λ ks m. items-done _ _ (c .before .before .before .before .before .before .before .before .before .before .before .args .f) _ ks (c .before .before .before .before .before .before .before .head .result) (c .before .before .before .before .before .before .before .head .ensures _) _ _ (c .before .before .complete .ensures ∙ complete-marks _ _ _ ks m) (c .before .end-at .ensures) (c .before .before .before .before .if1 .left) (c .if2 .taken)
 
-add-t23 : tie.Need-add-t23
-add-t23 c = omega (arith, c .before .before .before .before .before .before .before .before .head .ensures 0 .within, c .before .before .before .before .before .before .before .before .before .before .before .before .pre)
+add-t24 : tie.Need-add-t24
+add-t24 c = omega (arith, c .before .before .before .before .before .before .before .before .head .ensures 0 .within, c .before .before .before .before .before .before .before .before .before .before .before .before .pre .0)
 
 returns-4 : tie.Need-returns-4
-returns-4 c = λ ks m. items-stopped _ _ (c .before .before .before .before .before .before .before .before .before .before .before .before .args .f) _ ks (c .before .before .before .before .before .before .before .before .head .result) (c .before .before .before .before .before .before .before .before .head .ensures _) _ _ (c .before .before .before .complete .ensures ∙ complete-marks _ _ _ _ ks m) (c .before .before .end-at .ensures) (c .before .before .before .before .before .if1 .left) (c .before .if2 .left)
+returns-4 c = λ ks m. items-stopped _ _ (c .before .before .before .before .before .before .before .before .before .before .before .before .args .f) _ ks (c .before .before .before .before .before .before .before .before .head .result) (c .before .before .before .before .before .before .before .before .head .ensures _) _ _ (c .before .before .before .complete .ensures ∙ complete-marks _ _ _ ks m) (c .before .before .end-at .ensures) (c .before .before .before .before .before .if1 .left) (c .before .if2 .left)
 
 pub item-at-spec : {M : Type 1} → statement M
 item-at-spec =
@@ -75,5 +75,5 @@ item-at-spec =
     complete-requires
     end-at-requires
     returns-3
-    add-t23
+    add-t24
     returns-4)

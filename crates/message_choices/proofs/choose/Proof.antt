@@ -1,7 +1,7 @@
 use native.Mathlib.Omega.{arith}
 use denote.Ref.{now}
 use Rattle.message_frame.proofs.AtToken.{step-of-word, union-stopped}
-use Rattle.table_tags.proofs.Search.{found-at, found-none}
+use Rattle.table_tags.proofs.FoundLaws.{found-at, found-none}
 use Rattle.message_choices.proofs.Parts.{int-whole, int-stopped, chosen-ends}
 use borrow.Author.Needs.{needs}
 use Rattle.message_choices.proofs.choose.Statement.{statement}
@@ -41,7 +41,7 @@ returns : tie.Need-returns
 returns c = int-whole _ _ _ _ (c .before .before .before .before .before .before .before .before .before .before .before .before .before .before .before .args .f) _ _ _ _ (step-of-word (c .before .before .before .before .before .before .before .before .before .before .before .before .before .before .before .args .f .base) (now (c .before .before .before .before .before .before .before .before .before .before .before .before .before .before .before .args .s)) (c .before .before .before .before .before .before .before .before .before .before .before .before .before .before .before .args .f .at) (c .before .before .before .before .before .before .before .before .before .before .before .head .result) (c .before .before .before .before .before .before .before .before .before .before .before .head .ensures (c .before .before .before .before .before .before .before .before .before .before .before .before .before .before .before .args .f .base)) (c .before .before .before .before .before .before .before .before .if1 .taken)) _ (found-at (c .before .before .before .before .before .before .bare-for .result) _ _ (c .before .before .before .before .q .given .1) (c .before .before .before .before .before .before .bare-for .ensures)) _ (c .before .judge .ensures) (c .if2 .taken)
 
 add-t21 : tie.Need-add-t21
-add-t21 c = omega (arith, c .before .before .before .before .before .before .before .before .before .before .before .before .head .ensures 0 .within, c .before .before .before .before .before .before .before .before .before .before .before .before .before .before .before .before .pre)
+add-t21 c = omega (arith, c .before .before .before .before .before .before .before .before .before .before .before .before .head .ensures 0 .within, c .before .before .before .before .before .before .before .before .before .before .before .before .before .before .before .before .pre .0)
 
 returns-2 : tie.Need-returns-2
 returns-2 c = int-stopped _ _ _ _ (c .before .before .before .before .before .before .before .before .before .before .before .before .before .before .before .before .args .f) _ _ _ _ (step-of-word (c .before .before .before .before .before .before .before .before .before .before .before .before .before .before .before .before .args .f .base) (now (c .before .before .before .before .before .before .before .before .before .before .before .before .before .before .before .before .args .s)) (c .before .before .before .before .before .before .before .before .before .before .before .before .before .before .before .before .args .f .at) (c .before .before .before .before .before .before .before .before .before .before .before .before .head .result) (c .before .before .before .before .before .before .before .before .before .before .before .before .head .ensures (c .before .before .before .before .before .before .before .before .before .before .before .before .before .before .before .before .args .f .base)) (c .before .before .before .before .before .before .before .before .before .if1 .taken)) _ (found-at (c .before .before .before .before .before .before .before .bare-for .result) _ _ (c .before .before .before .before .before .q .given .1) (c .before .before .before .before .before .before .before .bare-for .ensures)) _ (c .before .before .judge .ensures) (c .before .if2 .left)
@@ -59,7 +59,7 @@ unfit-requires : tie.Need-unfit-requires
 unfit-requires c κs = search needs
 
 add-t26 : tie.Need-add-t26
-add-t26 c = omega (arith, c .before .before .before .before .before .head .ensures 0 .within, c .before .before .before .before .before .before .before .before .before .pre)
+add-t26 c = omega (arith, c .before .before .before .before .before .head .ensures 0 .within, c .before .before .before .before .before .before .before .before .before .pre .0)
 
 returns-4 : tie.Need-returns-4
 returns-4 c = union-stopped (c .before .before .before .before .before .before .before .before .before .args .f .base) (now (c .before .before .before .before .before .before .before .before .before .args .s)) (c .before .before .before .before .before .before .before .before .before .args .f .at) (c .before .before .before .before .before .head .result) (c .before .before .before .before .before .head .ensures (c .before .before .before .before .before .before .before .before .before .args .f .base)) _ _ _ (c .before .before .if1 .left) (c .before .unfit .ensures)

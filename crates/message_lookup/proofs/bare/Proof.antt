@@ -1,4 +1,3 @@
-use Rattle.message_lookup.specs.Questions.{withFind}
 use Rattle.reading_rules.specs.Schema.{schemaOf}
 use borrow.Author.Needs.{needs}
 use Rattle.message_lookup.proofs.bare.Statement.{statement}
@@ -8,7 +7,7 @@ next-untagged-requires : tie.Need-next-untagged-requires
 next-untagged-requires c κs = search needs
 
 returns : tie.Need-returns
-unfolding schemaOf withFind
+unfolding schemaOf
 returns c = c .next-untagged .ensures
 
 pub bare-spec : {M : Type 1} → statement M

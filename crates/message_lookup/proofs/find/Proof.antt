@@ -1,12 +1,12 @@
 use mathlib.Core.Path.{_∙_, sym, ap}
-use Rattle.message_lookup.specs.Questions.{withFind}
-use Rattle.table_tags.specs.Lists.{foundOf}
+use Rattle.reading_rules.specs.Schema.{schemaOf}
+use Rattle.table_tags.specs.Search.{foundOf}
 use borrow.Author.Needs.{needs}
 use Rattle.message_lookup.proofs.find.Statement.{statement}
 use Rattle.message_lookup.proofs.find.Tie as tie
 
 find-requires : tie.Need-find-requires
-find-requires c κs = search needs
+find-requires c κs = c .before .before .before .pre
 
 enum-told : tie.Need-enum-told
 enum-told c = search needs
@@ -15,11 +15,11 @@ enum-known-q : tie.Need-enum-known-q
 enum-known-q c = search needs
 
 returns : tie.Need-returns
-unfolding withFind
+unfolding schemaOf
 returns c = ap foundOf (sym (c .enum-told .given .1)) ∙ c .before .before .find .ensures
 
 returns-2 : tie.Need-returns-2
-unfolding withFind
+unfolding schemaOf
 returns-2 c = ap foundOf (sym (c .before .q .given .1)) ∙ c .before .before .before .find .ensures
 
 pub find-spec : {M : Type 1} → statement M

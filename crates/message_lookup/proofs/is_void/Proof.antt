@@ -1,4 +1,3 @@
-use Rattle.message_lookup.specs.Questions.{withFind}
 use Rattle.reading_rules.specs.Schema.{schemaOf}
 use Rattle.message_lookup.proofs.Steps.{void-number}
 use borrow.Author.Needs.{needs}
@@ -9,7 +8,7 @@ kind-number-requires : tie.Need-kind-number-requires
 kind-number-requires c κs = search needs
 
 returns : tie.Need-returns
-unfolding schemaOf withFind
+unfolding schemaOf
 returns c = rw (← c .kind-number .ensures) (void-number _)
 
 pub is-void-spec : {M : Type 1} → statement M

@@ -163,7 +163,7 @@ body-add-t11 : (t : ℕ) → body-lts.Need-add-t11 (
   fields-below t,
   fields.Post,
 ) (body-at t) body.Post
-body-add-t11 t c = omega (arith, c .before .before .head .ensures 0 .within, c .before .before .before .before .before .before .before .before .before .pre .1 .short)
+body-add-t11 t c = omega (arith, c .before .before .head .ensures 0 .within, c .before .before .before .before .before .before .before .before .before .pre .1 .0 .short)
 
 body-returns : (t : ℕ) → body-lts.Need-returns (
   head-reads.Asked,
@@ -193,7 +193,7 @@ body-fields-requires : (t : ℕ) → body-lts.Need-fields-requires (
   fields-below t,
   fields.Post,
 ) (body-at t) body.Post
-body-fields-requires t c κs = rw (c .deeper .ensures) (omega (arith, c .before .before .before .before .before .before .before .before .pre .1, pos-of-ne-zero (c .before .before .if1 .left)))
+body-fields-requires t c κs = rw (c .deeper .ensures) (omega (arith, pos-of-ne-zero (c .before .before .if1 .left)), (omega (arith, c .before .before .before .before .before .before .before .before .pre .1 .0), c .before .before .before .before .before .before .before .before .pre .1 .1))
 
 body-same-length : (t : ℕ) → body-lts.Need-same-length (
   head-reads.Asked,
@@ -297,7 +297,7 @@ braced-body-requires : (t : ℕ) → braced-lts.Need-body-requires (
   shut-reads.Asked,
   shut-reads.Learnt,
 ) (braced-at t) braced.Post
-braced-body-requires t c κs = let o = (rw (c .before .before .before .before .a .given .1) at (c .before .before .before .before .before .before .open-brace .ensures)) in let q = room-inner (c .before .before .before .before .before .before .before .before .before .before .before .args .f) (now (c .before .before .before .before .before .before .before .before .before .before .before .args .s)) _ _ 0 (c .before .before .before .before .before .before .before .before .before .before .before .pre .1 .0) (step-within _ _ _ _ _ _ o .0) (o .within) in rw (c .inner .ensures) (omega (arith, q))
+braced-body-requires t c κs = let o = (rw (c .before .before .before .before .a .given .1) at (c .before .before .before .before .before .before .open-brace .ensures)) in let q = room-inner (c .before .before .before .before .before .before .before .before .before .before .before .args .f) (now (c .before .before .before .before .before .before .before .before .before .before .before .args .s)) _ _ 0 (c .before .before .before .before .before .before .before .before .before .before .before .pre .1 .0) (step-within _ _ _ _ _ _ o .0) (o .within) in rw (c .inner .ensures) (omega (arith, q), (omega (arith, q), c .before .before .before .before .before .before .before .before .before .before .before .pre .1 .1 .0))
 
 braced-enum-known-w : (t : ℕ) → braced-lts.Need-enum-known-w (
   open-brace-reads.Asked,
@@ -333,7 +333,7 @@ braced-shut-requires : (t : ℕ) → braced-lts.Need-shut-requires (
   shut-reads.Asked,
   shut-reads.Learnt,
 ) (braced-at t) braced.Post
-braced-shut-requires t c κs = let o = (rw (c .before .before .before .before .before .before .before .before .before .before .before .before .a .given .1) at (c .before .before .before .before .before .before .before .before .before .before .before .before .before .before .open-brace .ensures)) in omega (arith, o .less, o .within, c .before .before .before .before .before .before .before .before .before .before .before .before .before .before .before .before .before .before .before .pre .1 .0, c .before .before .before .before .before .before .before .before .before .before .before .before .before .before .before .before .before .before .before .pre .1 .1)
+braced-shut-requires t c κs = let o = (rw (c .before .before .before .before .before .before .before .before .before .before .before .before .a .given .1) at (c .before .before .before .before .before .before .before .before .before .before .before .before .before .before .open-brace .ensures)) in omega (arith, o .less, o .within, c .before .before .before .before .before .before .before .before .before .before .before .before .before .before .before .before .before .before .before .pre .1 .0, c .before .before .before .before .before .before .before .before .before .before .before .before .before .before .before .before .before .before .before .pre .1 .1 .1)
 
 braced-enum-known-k : (t : ℕ) → braced-lts.Need-enum-known-k (
   open-brace-reads.Asked,
@@ -572,10 +572,10 @@ element-returns-5 : (t : ℕ) → element-lts.Need-returns-5 (
 element-returns-5 t c = element-refused _ _ (c .before .before .before .before .before .before .before .before .before .before .before .args .f) _ _ (rw (c .before .k2 .given .1) at (c .before .before .before .before .before .list-value .ensures))
 
 abbrev fields-Inv-loop : fields-lts.InvT-loop
-fields-Inv-loop table unpacked n s rows₀ inside seen₀ g₀ i₀ rows seen g i = Bodying (schemaAt table unpacked n) s g₀ g inside rows₀ rows seen (untaggedFrom table unpacked n (g .parameter) i)
+fields-Inv-loop table unpacked n s rows₀ inside seen₀ g₀ i₀ from₀ rows seen g i from = Bodying (schemaAt table unpacked n) s g₀ g inside rows₀ rows seen (untaggedFrom table unpacked n (g .parameter) i)
 
 abbrev fields-μ-loop : fields-lts.MeasureT-loop
-fields-μ-loop table unpacked n s rows₀ inside seen₀ g₀ i₀ rows seen g i = length s - g .at
+fields-μ-loop table unpacked n s rows₀ inside seen₀ g₀ i₀ from₀ rows seen g i from = length s - g .at
 
 fields-no-marks-requires : (t : ℕ) → fields-lts.Need-no-marks-requires (
   no-marks-reads.Asked,
@@ -603,7 +603,7 @@ fields-loop-holds : (t : ℕ) → fields-lts.Need-loop-holds (
   moved-reads.Asked,
   moved-reads.Learnt,
 ) (fields-at t) fields.Post fields-Inv-loop fields-μ-loop
-fields-loop-holds t c = bodying-start _ _ _ _ _ _ _ _ (c .no-marks .ensures) (c .before .before .before .before .before .pre .1 .here)
+fields-loop-holds t c = bodying-start _ _ _ _ _ _ _ _ (c .no-marks .ensures) (c .before .before .before .before .before .pre .1 .0 .here)
 
 fields-next-part-requires : (t : ℕ) → fields-lts.Need-next-part-requires (
   no-marks-reads.Asked,
@@ -617,7 +617,7 @@ fields-next-part-requires : (t : ℕ) → fields-lts.Need-next-part-requires (
   moved-reads.Asked,
   moved-reads.Learnt,
 ) (fields-at t) fields.Post fields-Inv-loop fields-μ-loop
-fields-next-part-requires t c κs = (bodying-room (c .before .before .loop .inv) _ (c .before .before .before .before .before .before .before .before .pre .1), record { ks = c .before .before .loop .inv .seen; marks = c .before .before .loop .inv .marked })
+fields-next-part-requires t c κs = (bodying-room (c .before .before .loop .inv) _ (c .before .before .before .before .before .before .before .before .pre .1 .0), (c .before .before .before .before .before .before .before .before .pre .1 .1, record { ks = c .before .before .loop .inv .seen; marks = c .before .before .loop .inv .marked }))
 
 fields-enum-known-q : (t : ℕ) → fields-lts.Need-enum-known-q (
   no-marks-reads.Asked,
@@ -659,7 +659,7 @@ fields-list-requires : (t : ℕ) → fields-lts.Need-list-requires (
   moved-reads.Asked,
   moved-reads.Learnt,
 ) (fields-at t) fields.Post fields-Inv-loop fields-μ-loop
-fields-list-requires t c κs = let r = bodying-room (c .before .before .before .before .before .before .before .before .before .before .loop .inv) _ (c .before .before .before .before .before .before .before .before .before .before .before .before .before .before .before .before .pre .1) in let d = (rw (c .before .before .before .q .given .1) at (c .before .before .before .before .before .before .before .next-part .ensures _ _ (c .before .before .before .before .before .before .before .before .before .before .loop .inv))) in rw (c .before .for-field .ensures) (omega (arith, r, d .below, d .far, d .within, bodying-depth (c .before .before .before .before .before .before .before .before .before .before .loop .inv)))
+fields-list-requires t c κs = let r = bodying-room (c .before .before .before .before .before .before .before .before .before .before .loop .inv) _ (c .before .before .before .before .before .before .before .before .before .before .before .before .before .before .before .before .pre .1 .0) in let d = (rw (c .before .before .before .q .given .1) at (c .before .before .before .before .before .before .before .next-part .ensures _ _ (c .before .before .before .before .before .before .before .before .before .before .loop .inv))) in let k = bodying-depth (c .before .before .before .before .before .before .before .before .before .before .loop .inv) in rw (c .before .for-field .ensures) (omega (arith, k), (omega (arith, r, d .far, d .within), (c .before .before .before .before .before .before .before .before .before .before .before .before .before .before .before .before .pre .1 .1, omega (arith, d .below))))
 
 fields-enum-known-w : (t : ℕ) → fields-lts.Need-enum-known-w (
   no-marks-reads.Asked,
@@ -688,6 +688,20 @@ fields-moved-requires : (t : ℕ) → fields-lts.Need-moved-requires (
   moved-reads.Learnt,
 ) (fields-at t) fields.Post fields-Inv-loop fields-μ-loop
 fields-moved-requires t c κs = search needs
+
+fields-add-from : (t : ℕ) → fields-lts.Need-add-from (
+  no-marks-reads.Asked,
+  no-marks-reads.Learnt,
+  next-part-reads.Asked,
+  next-part-reads.Learnt,
+  for-field-reads.Asked,
+  for-field-reads.Learnt,
+  list-below t,
+  list.Post,
+  moved-reads.Asked,
+  moved-reads.Learnt,
+) (fields-at t) fields.Post fields-Inv-loop fields-μ-loop
+fields-add-from t c = let d = (rw (c .before .before .before .before .before .before .before .before .before .before .q .given .1) at (c .before .before .before .before .before .before .before .before .before .before .before .before .before .before .next-part .ensures _ _ (c .before .before .before .before .before .before .before .before .before .before .before .before .before .before .before .before .before .loop .inv))) in let r = bodying-room (c .before .before .before .before .before .before .before .before .before .before .before .before .before .before .before .before .before .loop .inv) _ (c .before .before .before .before .before .before .before .before .before .before .before .before .before .before .before .before .before .before .before .before .before .before .before .pre .1 .0) in omega (arith, d .below, r .known)
 
 fields-loop-less : (t : ℕ) → fields-lts.Need-loop-less (
   no-marks-reads.Asked,
@@ -923,7 +937,7 @@ list-loop-holds : (t : ℕ) → list-lts.Need-loop-holds (
   next-value-reads.Asked,
   next-value-reads.Learnt,
 ) (list-at t) list.Post list-Inv-loop list-μ-loop
-list-loop-holds t c = listing-start _ _ _ _ (c .before .before .before .before .before .pre .1 .0 .here) (c .before .before .before .before .before .pre .1 .1 .1)
+list-loop-holds t c = listing-start _ _ _ _ (c .before .before .before .before .before .pre .1 .0 .here) (c .before .before .before .before .before .pre .1 .1 .1 .1)
 
 list-element-requires : (t : ℕ) → list-lts.Need-element-requires (
   ints-of-reads.Asked,
@@ -933,7 +947,7 @@ list-element-requires : (t : ℕ) → list-lts.Need-element-requires (
   next-value-reads.Asked,
   next-value-reads.Learnt,
 ) (list-at t) list.Post list-Inv-loop list-μ-loop
-list-element-requires t c κs = let r = (listing-room (c .before .loop .inv) _ (c .before .before .before .before .before .before .before .pre .1 .0)) in let d = listing-depth (c .before .loop .inv) in let k = listing-named (c .before .loop .inv) in let i = listing-ints (c .before .loop .inv) _ (c .before .before .ints-of .ensures) in let p = c .before .before .before .before .before .before .before .pre .1 .1 .0 in (omega (arith, d), (r, (omega (arith, k, p), i)))
+list-element-requires t c κs = let r = (listing-room (c .before .loop .inv) _ (c .before .before .before .before .before .before .before .pre .1 .0)) in let d = listing-depth (c .before .loop .inv) in let k = listing-named (c .before .loop .inv) in let i = listing-ints (c .before .loop .inv) _ (c .before .before .ints-of .ensures) in let p = c .before .before .before .before .before .before .before .pre .1 .1 .1 .0 in (omega (arith, d), (r, (c .before .before .before .before .before .before .before .pre .1 .1 .0, (omega (arith, k, p), i))))
 
 list-enum-known-v : (t : ℕ) → list-lts.Need-enum-known-v (
   ints-of-reads.Asked,
@@ -1041,7 +1055,7 @@ list-value-quick-int-requires : (t : ℕ) → list-value-lts.Need-quick-int-requ
   value-below t,
   value.Post,
 ) (list-value-at t) list-value.Post
-list-value-quick-int-requires t c κs = c .before .before .before .before .before .pre .1
+list-value-quick-int-requires t c κs = (c .before .before .before .before .before .pre .1 .0, c .before .before .before .before .before .pre .1 .1 .1)
 
 list-value-enum-known-v : (t : ℕ) → list-value-lts.Need-enum-known-v (
   quick-int-reads.Asked,
@@ -1073,7 +1087,7 @@ list-value-value-requires : (t : ℕ) → list-value-lts.Need-value-requires (
   value-below t,
   value.Post,
 ) (list-value-at t) list-value.Post
-list-value-value-requires t c κs = omega (arith, c .before .before .before .before .before .before .before .before .before .before .before .pre .1 .0, c .before .before .before .before .before .before .before .before .before .before .before .pre .1 .1 .0)
+list-value-value-requires t c κs = (omega arith, (c .before .before .before .before .before .before .before .before .before .before .before .pre .1 .0, (c .before .before .before .before .before .before .before .before .before .before .before .pre .1 .1 .0, c .before .before .before .before .before .before .before .before .before .before .before .pre .1 .1 .1 .0)))
 
 list-value-enum-known-v-3 : (t : ℕ) → list-value-lts.Need-enum-known-v-3 (
   quick-int-reads.Asked,
@@ -1213,7 +1227,7 @@ plain-value-simple-requires : (t : ℕ) → plain-value-lts.Need-simple-requires
   braced-below t,
   braced.Post,
 ) (plain-value-at t) plain-value.Post
-plain-value-simple-requires t c κs = omega (arith, c .before .before .before .before .before .before .before .before .pre .1)
+plain-value-simple-requires t c κs = omega (arith, c .before .before .before .before .before .before .before .before .pre .1 .0, c .before .before .before .before .before .before .before .before .pre .1 .1 .1 .0)
 
 plain-value-enum-told-3 : (t : ℕ) → plain-value-lts.Need-enum-told-3 (
   kind-reads.Asked,
@@ -1237,7 +1251,7 @@ plain-value-braced-requires : (t : ℕ) → plain-value-lts.Need-braced-requires
   braced-below t,
   braced.Post,
 ) (plain-value-at t) plain-value.Post
-plain-value-braced-requires t c κs = omega (arith, c .before .before .before .before .before .before .before .before .pre .1)
+plain-value-braced-requires t c κs = (omega arith, (c .before .before .before .before .before .before .before .before .pre .1 .0, (c .before .before .before .before .before .before .before .before .pre .1 .1 .0, c .before .before .before .before .before .before .before .before .pre .1 .1 .1 .0)))
 
 plain-value-enum-told-4 : (t : ℕ) → plain-value-lts.Need-enum-told-4 (
   kind-reads.Asked,
@@ -1297,7 +1311,7 @@ plain-value-returns : (t : ℕ) → plain-value-lts.Need-returns (
   braced-below t,
   braced.Post,
 ) (plain-value-at t) plain-value.Post
-plain-value-returns t c = plain-none _ _ (c .before .before .before .before .before .before .before .before .args .f) _ _ (c .no-value .result) schema.void (rw (← c .before .before .before .before .before .before .before .before .pre .1 .1 .1) (sym (c .before .before .before .kind .ensures) ∙ ap shapeOf (c .before .enum-told .given .1))) refl (c .no-value .ensures)
+plain-value-returns t c = plain-none _ _ (c .before .before .before .before .before .before .before .before .args .f) _ _ (c .no-value .result) schema.void (rw (← c .before .before .before .before .before .before .before .before .pre .1 .1 .1 .1) (sym (c .before .before .before .kind .ensures) ∙ ap shapeOf (c .before .enum-told .given .1))) refl (c .no-value .ensures)
 
 plain-value-same-length : (t : ℕ) → plain-value-lts.Need-same-length (
   kind-reads.Asked,
@@ -1321,7 +1335,7 @@ plain-value-returns-2 : (t : ℕ) → plain-value-lts.Need-returns-2 (
   braced-below t,
   braced.Post,
 ) (plain-value-at t) plain-value.Post
-plain-value-returns-2 t c = plain-simple _ _ (c .before .before .before .before .before .before .before .before .before .before .before .args .f) _ _ (c .before .before .simple .result) _ (c .before .before .before .before .before .before .before .before .before .before .before .pre .1 .1 .1) (sym (c .before .before .before .before .before .before .kind .ensures) ∙ ap shapeOf (c .before .before .before .before .enum-told2 .given .1)) (c .before .before .simple .ensures)
+plain-value-returns-2 t c = plain-simple _ _ (c .before .before .before .before .before .before .before .before .before .before .before .args .f) _ _ (c .before .before .simple .result) _ (c .before .before .before .before .before .before .before .before .before .before .before .pre .1 .1 .1 .1) (sym (c .before .before .before .before .before .before .kind .ensures) ∙ ap shapeOf (c .before .before .before .before .enum-told2 .given .1)) (c .before .before .simple .ensures)
 
 plain-value-same-length-2 : (t : ℕ) → plain-value-lts.Need-same-length-2 (
   kind-reads.Asked,
@@ -1345,7 +1359,7 @@ plain-value-returns-3 : (t : ℕ) → plain-value-lts.Need-returns-3 (
   braced-below t,
   braced.Post,
 ) (plain-value-at t) plain-value.Post
-plain-value-returns-3 t c = plain-struct _ _ (c .before .before .before .before .before .before .before .before .before .before .before .args .f) _ _ (c .before .before .braced .result) _ (c .before .before .before .before .before .before .before .before .before .before .before .pre .1 .1 .1) (sym (c .before .before .before .before .before .before .kind .ensures) ∙ ap shapeOf (c .before .before .before .before .enum-told3 .given .1)) (c .before .before .braced .ensures)
+plain-value-returns-3 t c = plain-struct _ _ (c .before .before .before .before .before .before .before .before .before .before .before .args .f) _ _ (c .before .before .braced .result) _ (c .before .before .before .before .before .before .before .before .before .before .before .pre .1 .1 .1 .1) (sym (c .before .before .before .before .before .before .kind .ensures) ∙ ap shapeOf (c .before .before .before .before .enum-told3 .given .1)) (c .before .before .braced .ensures)
 
 plain-value-returns-4 : (t : ℕ) → plain-value-lts.Need-returns-4 (
   kind-reads.Asked,
@@ -1357,7 +1371,7 @@ plain-value-returns-4 : (t : ℕ) → plain-value-lts.Need-returns-4 (
   braced-below t,
   braced.Post,
 ) (plain-value-at t) plain-value.Post
-plain-value-returns-4 t c = plain-none _ _ (c .before .before .before .before .before .before .before .before .args .f) _ _ (c .no-value2 .result) schema.union (rw (← c .before .before .before .before .before .before .before .before .pre .1 .1 .1) (sym (c .before .before .before .kind .ensures) ∙ ap shapeOf (c .before .enum-told4 .given .1))) refl (c .no-value2 .ensures)
+plain-value-returns-4 t c = plain-none _ _ (c .before .before .before .before .before .before .before .before .args .f) _ _ (c .no-value2 .result) schema.union (rw (← c .before .before .before .before .before .before .before .before .pre .1 .1 .1 .1) (sym (c .before .before .before .kind .ensures) ∙ ap shapeOf (c .before .enum-told4 .given .1))) refl (c .no-value2 .ensures)
 
 plain-value-returns-5 : (t : ℕ) → plain-value-lts.Need-returns-5 (
   kind-reads.Asked,
@@ -1369,7 +1383,7 @@ plain-value-returns-5 : (t : ℕ) → plain-value-lts.Need-returns-5 (
   braced-below t,
   braced.Post,
 ) (plain-value-at t) plain-value.Post
-plain-value-returns-5 t c = plain-none _ _ (c .before .before .before .before .before .before .before .before .args .f) _ _ (c .no-value3 .result) schema.reference (rw (← c .before .before .before .before .before .before .before .before .pre .1 .1 .1) (sym (c .before .before .before .kind .ensures) ∙ ap shapeOf (c .before .enum-told5 .given .1))) refl (c .no-value3 .ensures)
+plain-value-returns-5 t c = plain-none _ _ (c .before .before .before .before .before .before .before .before .args .f) _ _ (c .no-value3 .result) schema.reference (rw (← c .before .before .before .before .before .before .before .before .pre .1 .1 .1 .1) (sym (c .before .before .before .kind .ensures) ∙ ap shapeOf (c .before .enum-told5 .given .1))) refl (c .no-value3 .ensures)
 
 abbrev value-Inv-loop : value-lts.InvT-loop
 value-Inv-loop table unpacked n s rows₀ f g₀ rows g = Choosing (schemaAt table unpacked n) s f g n rows₀ rows
@@ -1395,7 +1409,7 @@ value-loop-holds : (t : ℕ) → value-lts.Need-loop-holds (
   whole-reads.Asked,
   whole-reads.Learnt,
 ) (value-at t) value.Post value-Inv-loop value-μ-loop
-value-loop-holds t c = choosing-start _ _ _ _ _ (c .before .before .before .before .pre .1 .0) (c .before .before .before .before .pre .1 .1)
+value-loop-holds t c = choosing-start _ _ _ _ _ (c .before .before .before .before .pre .1 .0) (c .before .before .before .before .pre .1 .1 .1)
 
 value-core-requires : (t : ℕ) → value-lts.Need-core-requires (
   core-reads.Asked,
@@ -1455,7 +1469,7 @@ value-plain-value-requires : (t : ℕ) → value-lts.Need-plain-value-requires (
   whole-reads.Asked,
   whole-reads.Learnt,
 ) (value-at t) value.Post value-Inv-loop value-μ-loop
-value-plain-value-requires t c κs = let r = (choosing-room (c .before .before .before .before .loop .inv)) in omega (arith, r, c .before .before .before .before .loop .inv .down .named, choosing-depth (c .before .before .before .before .loop .inv), c .before .before .before .core .ensures)
+value-plain-value-requires t c κs = let r = (choosing-room (c .before .before .before .before .loop .inv)) in let d = choosing-depth (c .before .before .before .before .loop .inv) in (omega (arith, d), (r, (c .before .before .before .before .before .before .before .before .before .pre .1 .1 .0, (omega (arith, c .before .before .before .before .loop .inv .down .named), c .before .before .before .core .ensures))))
 
 value-close-chain-requires : (t : ℕ) → value-lts.Need-close-chain-requires (
   core-reads.Asked,
@@ -1535,7 +1549,7 @@ value-choose-requires : (t : ℕ) → value-lts.Need-choose-requires (
   whole-reads.Asked,
   whole-reads.Learnt,
 ) (value-at t) value.Post value-Inv-loop value-μ-loop
-value-choose-requires t c κs = let r = (choosing-room (c .before .before .before .loop .inv)) in omega (arith, r)
+value-choose-requires t c κs = let r = (choosing-room (c .before .before .before .loop .inv)) in (omega (arith, r), c .before .before .before .before .before .before .before .before .pre .1 .1 .0)
 
 value-enum-known-q : (t : ℕ) → value-lts.Need-enum-known-q (
   core-reads.Asked,
@@ -1905,6 +1919,7 @@ pub +body+braced+element+fields+list+list-value+plain-value+value-spec : {M : Ty
     (fields-list-requires t)
     (fields-enum-known-w t)
     (fields-moved-requires t)
+    (fields-add-from t)
     (fields-loop-less t)
     (fields-loop-again t)
     (fields-enum-known-k t)

@@ -9,7 +9,7 @@ use Rattle.message_reader.proofs.item.Statement.{statement}
 use Rattle.message_reader.proofs.item.Tie as tie
 
 item-at-requires : tie.Need-item-at-requires
-item-at-requires c κs = omega (arith, c .before .before .before .before .before .pre .0 .short)
+item-at-requires c κs = (omega (arith, c .before .before .before .before .before .pre .0 .short), c .before .before .before .before .before .pre .1 .0)
 
 enum-told : tie.Need-enum-told
 enum-told c = search needs
@@ -20,17 +20,20 @@ enum-known-q c = search needs
 mark-requires : tie.Need-mark-requires
 mark-requires c κs = search needs
 
-add-t26 : tie.Need-add-t26
-add-t26 c = let w = ((rw (c .before .before .before .before .before .q .given .1) at (c .before .before .before .before .before .before .before .item-at .ensures)) (c .before .before .before .before .before .before .before .before .before .before .before .before .before .pre .1 .ks) (c .before .before .before .before .before .before .before .before .before .before .before .before .before .pre .1 .marks)) in omega (arith, w .step .less, w .step .within, c .before .before .before .before .before .before .before .before .before .before .before .before .before .pre .0 .short)
-
 add-t27 : tie.Need-add-t27
-add-t27 c = let w = ((rw (c .before .before .before .before .before .before .before .q .given .1) at (c .before .before .before .before .before .before .before .before .before .item-at .ensures)) (c .before .before .before .before .before .before .before .before .before .before .before .before .before .before .before .pre .1 .ks) (c .before .before .before .before .before .before .before .before .before .before .before .before .before .before .before .pre .1 .marks)) in omega (arith, w .step .less, w .step .within, c .before .before .before .before .before .before .before .before .before .before .before .before .before .before .before .pre .0 .short)
+add-t27 c = let w = ((rw (c .before .before .before .before .before .q .given .1) at (c .before .before .before .before .before .before .before .item-at .ensures)) (c .before .before .before .before .before .before .before .before .before .before .before .before .before .pre .1 .1 .ks) (c .before .before .before .before .before .before .before .before .before .before .before .before .before .pre .1 .1 .marks)) in omega (arith, w .step .less, w .step .within, c .before .before .before .before .before .before .before .before .before .before .before .before .before .pre .0 .short)
+
+add-t28 : tie.Need-add-t28
+add-t28 c = let w = ((rw (c .before .before .before .before .before .before .before .q .given .1) at (c .before .before .before .before .before .before .before .before .before .item-at .ensures)) (c .before .before .before .before .before .before .before .before .before .before .before .before .before .before .before .pre .1 .1 .ks) (c .before .before .before .before .before .before .before .before .before .before .before .before .before .before .before .pre .1 .1 .marks)) in omega (arith, w .step .less, w .step .within, c .before .before .before .before .before .before .before .before .before .before .before .before .before .before .before .pre .0 .short)
 
 put-row-requires : tie.Need-put-row-requires
-put-row-requires c κs = let w = ((rw (c .before .before .before .before .before .before .before .q .given .1) at (c .before .before .before .before .before .before .before .before .before .item-at .ensures)) (c .before .before .before .before .before .before .before .before .before .before .before .before .before .before .before .pre .1 .ks) (c .before .before .before .before .before .before .before .before .before .before .before .before .before .before .before .pre .1 .marks)) in omega (arith, w .step .less, w .step .within, w .below, c .before .before .before .before .before .before .before .before .before .before .before .before .before .before .before .pre .0)
+put-row-requires c κs = let w = ((rw (c .before .before .before .before .before .before .before .q .given .1) at (c .before .before .before .before .before .before .before .before .before .item-at .ensures)) (c .before .before .before .before .before .before .before .before .before .before .before .before .before .before .before .pre .1 .1 .ks) (c .before .before .before .before .before .before .before .before .before .before .before .before .before .before .before .pre .1 .1 .marks)) in omega (arith, w .step .less, w .step .within, w .below, c .before .before .before .before .before .before .before .before .before .before .before .before .before .before .before .pre .0)
 
-add-t26-2 : tie.Need-add-t26-2
-add-t26-2 c = omega (arith, c .before .before .before .before .before .before .before .before .before .before .before .before .before .before .before .before .before .before .before .pre .0)
+add-t27-2 : tie.Need-add-t27-2
+add-t27-2 c = omega (arith, c .before .before .before .before .before .before .before .before .before .before .before .before .before .before .before .before .before .before .before .pre .0)
+
+add-t28-2 : tie.Need-add-t28-2
+add-t28-2 c = let w = ((rw (c .before .before .before .before .before .before .before .before .before .before .before .q .given .1) at (c .before .before .before .before .before .before .before .before .before .before .before .before .before .item-at .ensures)) (c .before .before .before .before .before .before .before .before .before .before .before .before .before .before .before .before .before .before .before .pre .1 .1 .ks) (c .before .before .before .before .before .before .before .before .before .before .before .before .before .before .before .before .before .before .before .pre .1 .1 .marks)) in omega (arith, w .below, c .before .before .before .before .before .before .before .before .before .before .before .before .before .before .before .before .before .before .before .pre .0 .known)
 
 enum-known-q-2 : tie.Need-enum-known-q-2
 enum-known-q-2 c = search needs
@@ -70,10 +73,11 @@ item-spec =
     enum-told
     enum-known-q
     mark-requires
-    add-t26
     add-t27
+    add-t28
     put-row-requires
-    add-t26-2
+    add-t27-2
+    add-t28-2
     enum-known-q-2
     mark-requires-2
     enum-known-v

@@ -1,7 +1,7 @@
 use mathlib.Core.List.{[]}
 use native.Mathlib.Omega.{arith}
 use Rattle.message_lookup.proofs.Laws.{untagged-next, untagged-none}
-use Rattle.table_tags.proofs.Search.{found-at, found-none}
+use Rattle.table_tags.proofs.FoundLaws.{found-at, found-none}
 use Rattle.message_frame.specs.declared.Got.the-variants.{Done, Refused}
 use Rattle.message_reader.proofs.Steps.{next-between, field-none, bodying-out, due-field}
 use borrow.Author.Needs.{needs}
@@ -29,8 +29,8 @@ field-at-requires c κs = rw (c .for-field .ensures) (c .before .before .before 
 enum-told-2 : tie.Need-enum-told-2
 enum-told-2 c = search needs
 
-add-t22 : tie.Need-add-t22
-add-t22 c = let b = (next-between _ _ _ _ _ _ (found-at (c .before .before .before .before .before .before .before .next-untagged .result) _ _ (c .before .before .before .before .before .q .given .1) (c .before .before .before .before .before .before .before .next-untagged .ensures))) in omega (arith, b, c .before .before .before .before .before .before .before .before .before .before .before .before .pre .0 .known)
+add-t23 : tie.Need-add-t23
+add-t23 c = let b = (next-between _ _ _ _ _ _ (found-at (c .before .before .before .before .before .before .before .next-untagged .result) _ _ (c .before .before .before .before .before .q .given .1) (c .before .before .before .before .before .before .before .next-untagged .ensures))) in omega (arith, b, c .before .before .before .before .before .before .before .before .before .before .before .before .pre .0 .known)
 
 enum-told-3 : tie.Need-enum-told-3
 enum-told-3 c = search needs
@@ -64,7 +64,7 @@ next-part-spec =
     for-field-requires
     field-at-requires
     enum-told-2
-    add-t22
+    add-t23
     enum-told-3
     enum-known-k
     same-length

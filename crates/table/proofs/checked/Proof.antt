@@ -1,7 +1,6 @@
 use mathlib.Core.Path.{sym, _∙_}
 use Rattle.table.specs.Checks.{Checked}
-use Rattle.table.proofs.Laws.{table-counted, table-bad, walked-count, walked-bad, linked-counted}
-use native.Mathlib.Omega.{arith}
+use Rattle.table.proofs.Laws.{table-counted, table-bad, walked-count, walked-bad, searchable}
 use borrow.Author.Needs.{needs}
 use Rattle.table.proofs.checked.Statement.{statement}
 use Rattle.table.proofs.checked.Tie as tie
@@ -12,18 +11,15 @@ unpack-requires c κs = search needs
 enum-known-n : tie.Need-enum-known-n
 enum-known-n c = search needs
 
-link-requires : tie.Need-link-requires
-link-requires c κs = search needs
-
 rules-requires : tie.Need-rules-requires
-rules-requires c κs = ((walked-count (c .before .before .before .before .before .before .before .before .before .before .before .before .before .before .args .table .now) (c .before .before .before .before .before .before .before .before .before .before .unpack .last .1 .0) (c .before .before .before .before .before .before .before .before .before .before .unpack .result) _ (c .before .before .before .before .before .before .before .before .before .before .unpack .ensures (c .before .before .before .before .before .before .before .before .before .before .before .before .before .before .pre)) (c .before .before .before .before .before .before .n .given .1)) .few, (c .before .before .before .link .ensures ((walked-count (c .before .before .before .before .before .before .before .before .before .before .before .before .before .before .args .table .now) (c .before .before .before .before .before .before .before .before .before .before .unpack .last .1 .0) (c .before .before .before .before .before .before .before .before .before .before .unpack .result) _ (c .before .before .before .before .before .before .before .before .before .before .unpack .ensures (c .before .before .before .before .before .before .before .before .before .before .before .before .before .before .pre)) (c .before .before .before .before .before .before .n .given .1)) .few) (omega (arith, c .before .before .before .before .before .before .before .before .before .before .unpack .kept .1 .0, (c .before .before .before .before .before .before .before .before .before .before .before .before .before .before .pre _ ((walked-count (c .before .before .before .before .before .before .before .before .before .before .before .before .before .before .args .table .now) (c .before .before .before .before .before .before .before .before .before .before .unpack .last .1 .0) (c .before .before .before .before .before .before .before .before .before .before .unpack .result) _ (c .before .before .before .before .before .before .before .before .before .before .unpack .ensures (c .before .before .before .before .before .before .before .before .before .before .before .before .before .before .pre)) (c .before .before .before .before .before .before .n .given .1)) .few) ((walked-count (c .before .before .before .before .before .before .before .before .before .before .before .before .before .before .args .table .now) (c .before .before .before .before .before .before .before .before .before .before .unpack .last .1 .0) (c .before .before .before .before .before .before .before .before .before .before .unpack .result) _ (c .before .before .before .before .before .before .before .before .before .before .unpack .ensures (c .before .before .before .before .before .before .before .before .before .before .before .before .before .before .pre)) (c .before .before .before .before .before .before .n .given .1)) .long))))) .linked)
+rules-requires c κs = ((walked-count (c .before .before .before .before .before .before .before .before .before .before .args .table .now) (c .before .before .before .before .before .before .unpack .last .1 .0) (c .before .before .before .before .before .before .unpack .result) _ (c .before .before .before .before .before .before .unpack .ensures (c .before .before .before .before .before .before .before .before .before .before .pre)) (c .before .before .n .given .1)) .few, (walked-count (c .before .before .before .before .before .before .before .before .before .before .args .table .now) (c .before .before .before .before .before .before .unpack .last .1 .0) (c .before .before .before .before .before .before .unpack .result) _ (c .before .before .before .before .before .before .unpack .ensures (c .before .before .before .before .before .before .before .before .before .before .pre)) (c .before .before .n .given .1)) .laid)
 
 same-length : tie.Need-same-length
 same-length c = search needs
 
 returns : tie.Need-returns
 unfolding Checked
-returns c = record { kept = sym ((c .before .rules .ensures ∙ table-counted (c .before .before .before .before .before .before .before .before .before .before .before .before .before .before .before .before .args .table .now) (c .before .before .before .before .before .link .last .1 .0) _ (linked-counted (c .before .before .before .before .before .before .before .before .before .before .before .before .before .before .before .before .args .table .now) _ _ _ (c .before .before .before .before .before .link .ensures ((walked-count (c .before .before .before .before .before .before .before .before .before .before .before .before .before .before .before .before .args .table .now) (c .before .before .before .before .before .before .before .before .before .before .before .before .unpack .last .1 .0) (c .before .before .before .before .before .before .before .before .before .before .before .before .unpack .result) _ (c .before .before .before .before .before .before .before .before .before .before .before .before .unpack .ensures (c .before .before .before .before .before .before .before .before .before .before .before .before .before .before .before .before .pre)) (c .before .before .before .before .before .before .before .before .n .given .1)) .few) (omega (arith, c .before .before .before .before .before .before .before .before .before .before .before .before .unpack .kept .1 .0, (c .before .before .before .before .before .before .before .before .before .before .before .before .before .before .before .before .pre _ ((walked-count (c .before .before .before .before .before .before .before .before .before .before .before .before .before .before .before .before .args .table .now) (c .before .before .before .before .before .before .before .before .before .before .before .before .unpack .last .1 .0) (c .before .before .before .before .before .before .before .before .before .before .before .before .unpack .result) _ (c .before .before .before .before .before .before .before .before .before .before .before .before .unpack .ensures (c .before .before .before .before .before .before .before .before .before .before .before .before .before .before .before .before .pre)) (c .before .before .before .before .before .before .before .before .n .given .1)) .few) ((walked-count (c .before .before .before .before .before .before .before .before .before .before .before .before .before .before .before .before .args .table .now) (c .before .before .before .before .before .before .before .before .before .before .before .before .unpack .last .1 .0) (c .before .before .before .before .before .before .before .before .before .before .before .before .unpack .result) _ (c .before .before .before .before .before .before .before .before .before .before .before .before .unpack .ensures (c .before .before .before .before .before .before .before .before .before .before .before .before .before .before .before .before .pre)) (c .before .before .before .before .before .before .before .before .n .given .1)) .long))))) (walked-count (c .before .before .before .before .before .before .before .before .before .before .before .before .before .before .before .before .args .table .now) (c .before .before .before .before .before .before .before .before .before .before .before .before .unpack .last .1 .0) (c .before .before .before .before .before .before .before .before .before .before .before .before .unpack .result) _ (c .before .before .before .before .before .before .before .before .before .before .before .before .unpack .ensures (c .before .before .before .before .before .before .before .before .before .before .before .before .before .before .before .before .pre)) (c .before .before .before .before .before .before .before .before .n .given .1))))) ∙ c .if1 .taken; counted = (linked-counted (c .before .before .before .before .before .before .before .before .before .before .before .before .before .before .before .before .args .table .now) _ _ _ (c .before .before .before .before .before .link .ensures ((walked-count (c .before .before .before .before .before .before .before .before .before .before .before .before .before .before .before .before .args .table .now) (c .before .before .before .before .before .before .before .before .before .before .before .before .unpack .last .1 .0) (c .before .before .before .before .before .before .before .before .before .before .before .before .unpack .result) _ (c .before .before .before .before .before .before .before .before .before .before .before .before .unpack .ensures (c .before .before .before .before .before .before .before .before .before .before .before .before .before .before .before .before .pre)) (c .before .before .before .before .before .before .before .before .n .given .1)) .few) (omega (arith, c .before .before .before .before .before .before .before .before .before .before .before .before .unpack .kept .1 .0, (c .before .before .before .before .before .before .before .before .before .before .before .before .before .before .before .before .pre _ ((walked-count (c .before .before .before .before .before .before .before .before .before .before .before .before .before .before .before .before .args .table .now) (c .before .before .before .before .before .before .before .before .before .before .before .before .unpack .last .1 .0) (c .before .before .before .before .before .before .before .before .before .before .before .before .unpack .result) _ (c .before .before .before .before .before .before .before .before .before .before .before .before .unpack .ensures (c .before .before .before .before .before .before .before .before .before .before .before .before .before .before .before .before .pre)) (c .before .before .before .before .before .before .before .before .n .given .1)) .few) ((walked-count (c .before .before .before .before .before .before .before .before .before .before .before .before .before .before .before .before .args .table .now) (c .before .before .before .before .before .before .before .before .before .before .before .before .unpack .last .1 .0) (c .before .before .before .before .before .before .before .before .before .before .before .before .unpack .result) _ (c .before .before .before .before .before .before .before .before .before .before .before .before .unpack .ensures (c .before .before .before .before .before .before .before .before .before .before .before .before .before .before .before .before .pre)) (c .before .before .before .before .before .before .before .before .n .given .1)) .long))))) (walked-count (c .before .before .before .before .before .before .before .before .before .before .before .before .before .before .before .before .args .table .now) (c .before .before .before .before .before .before .before .before .before .before .before .before .unpack .last .1 .0) (c .before .before .before .before .before .before .before .before .before .before .before .before .unpack .result) _ (c .before .before .before .before .before .before .before .before .before .before .before .before .unpack .ensures (c .before .before .before .before .before .before .before .before .before .before .before .before .before .before .before .before .pre)) (c .before .before .before .before .before .before .before .before .n .given .1))); linked = (c .before .before .before .before .before .link .ensures ((walked-count (c .before .before .before .before .before .before .before .before .before .before .before .before .before .before .before .before .args .table .now) (c .before .before .before .before .before .before .before .before .before .before .before .before .unpack .last .1 .0) (c .before .before .before .before .before .before .before .before .before .before .before .before .unpack .result) _ (c .before .before .before .before .before .before .before .before .before .before .before .before .unpack .ensures (c .before .before .before .before .before .before .before .before .before .before .before .before .before .before .before .before .pre)) (c .before .before .before .before .before .before .before .before .n .given .1)) .few) (omega (arith, c .before .before .before .before .before .before .before .before .before .before .before .before .unpack .kept .1 .0, (c .before .before .before .before .before .before .before .before .before .before .before .before .before .before .before .before .pre _ ((walked-count (c .before .before .before .before .before .before .before .before .before .before .before .before .before .before .before .before .args .table .now) (c .before .before .before .before .before .before .before .before .before .before .before .before .unpack .last .1 .0) (c .before .before .before .before .before .before .before .before .before .before .before .before .unpack .result) _ (c .before .before .before .before .before .before .before .before .before .before .before .before .unpack .ensures (c .before .before .before .before .before .before .before .before .before .before .before .before .before .before .before .before .pre)) (c .before .before .before .before .before .before .before .before .n .given .1)) .few) ((walked-count (c .before .before .before .before .before .before .before .before .before .before .before .before .before .before .before .before .args .table .now) (c .before .before .before .before .before .before .before .before .before .before .before .before .unpack .last .1 .0) (c .before .before .before .before .before .before .before .before .before .before .before .before .unpack .result) _ (c .before .before .before .before .before .before .before .before .before .before .before .before .unpack .ensures (c .before .before .before .before .before .before .before .before .before .before .before .before .before .before .before .before .pre)) (c .before .before .before .before .before .before .before .before .n .given .1)) .long))))) .linked }
+returns c = let k = sym ((c .before .rules .ensures ∙ table-counted (c .before .before .before .before .before .before .before .before .before .before .before .before .args .table .now) (c .before .before .before .before .before .before .before .before .unpack .last .1 .0) _ (walked-count (c .before .before .before .before .before .before .before .before .before .before .before .before .args .table .now) (c .before .before .before .before .before .before .before .before .unpack .last .1 .0) (c .before .before .before .before .before .before .before .before .unpack .result) _ (c .before .before .before .before .before .before .before .before .unpack .ensures (c .before .before .before .before .before .before .before .before .before .before .before .before .pre)) (c .before .before .before .before .n .given .1)))) ∙ c .if1 .taken in record { kept = k; counted = (walked-count (c .before .before .before .before .before .before .before .before .before .before .before .before .args .table .now) (c .before .before .before .before .before .before .before .before .unpack .last .1 .0) (c .before .before .before .before .before .before .before .before .unpack .result) _ (c .before .before .before .before .before .before .before .before .unpack .ensures (c .before .before .before .before .before .before .before .before .before .before .before .before .pre)) (c .before .before .before .before .n .given .1)); searchable = searchable (c .before .before .before .before .before .before .before .before .before .before .before .before .args .table .now) (c .before .before .before .before .before .before .before .before .unpack .last .1 .0) _ k (walked-count (c .before .before .before .before .before .before .before .before .before .before .before .before .args .table .now) (c .before .before .before .before .before .before .before .before .unpack .last .1 .0) (c .before .before .before .before .before .before .before .before .unpack .result) _ (c .before .before .before .before .before .before .before .before .unpack .ensures (c .before .before .before .before .before .before .before .before .before .before .before .before .pre)) (c .before .before .before .before .n .given .1)) }
 
 enum-told : tie.Need-enum-told
 enum-told c = search needs
@@ -33,7 +29,7 @@ same-length-2 c = search needs
 
 returns-2 : tie.Need-returns-2
 unfolding Checked
-returns-2 c = sym ((c .before .rules .ensures ∙ table-counted (c .before .before .before .before .before .before .before .before .before .before .before .before .before .before .before .before .args .table .now) (c .before .before .before .before .before .link .last .1 .0) _ (linked-counted (c .before .before .before .before .before .before .before .before .before .before .before .before .before .before .before .before .args .table .now) _ _ _ (c .before .before .before .before .before .link .ensures ((walked-count (c .before .before .before .before .before .before .before .before .before .before .before .before .before .before .before .before .args .table .now) (c .before .before .before .before .before .before .before .before .before .before .before .before .unpack .last .1 .0) (c .before .before .before .before .before .before .before .before .before .before .before .before .unpack .result) _ (c .before .before .before .before .before .before .before .before .before .before .before .before .unpack .ensures (c .before .before .before .before .before .before .before .before .before .before .before .before .before .before .before .before .pre)) (c .before .before .before .before .before .before .before .before .n .given .1)) .few) (omega (arith, c .before .before .before .before .before .before .before .before .before .before .before .before .unpack .kept .1 .0, (c .before .before .before .before .before .before .before .before .before .before .before .before .before .before .before .before .pre _ ((walked-count (c .before .before .before .before .before .before .before .before .before .before .before .before .before .before .before .before .args .table .now) (c .before .before .before .before .before .before .before .before .before .before .before .before .unpack .last .1 .0) (c .before .before .before .before .before .before .before .before .before .before .before .before .unpack .result) _ (c .before .before .before .before .before .before .before .before .before .before .before .before .unpack .ensures (c .before .before .before .before .before .before .before .before .before .before .before .before .before .before .before .before .pre)) (c .before .before .before .before .before .before .before .before .n .given .1)) .few) ((walked-count (c .before .before .before .before .before .before .before .before .before .before .before .before .before .before .before .before .args .table .now) (c .before .before .before .before .before .before .before .before .before .before .before .before .unpack .last .1 .0) (c .before .before .before .before .before .before .before .before .before .before .before .before .unpack .result) _ (c .before .before .before .before .before .before .before .before .before .before .before .before .unpack .ensures (c .before .before .before .before .before .before .before .before .before .before .before .before .before .before .before .before .pre)) (c .before .before .before .before .before .before .before .before .n .given .1)) .long))))) (walked-count (c .before .before .before .before .before .before .before .before .before .before .before .before .before .before .before .before .args .table .now) (c .before .before .before .before .before .before .before .before .before .before .before .before .unpack .last .1 .0) (c .before .before .before .before .before .before .before .before .before .before .before .before .unpack .result) _ (c .before .before .before .before .before .before .before .before .before .before .before .before .unpack .ensures (c .before .before .before .before .before .before .before .before .before .before .before .before .before .before .before .before .pre)) (c .before .before .before .before .before .before .before .before .n .given .1))))) ∙ c .if1 .left
+returns-2 c = sym ((c .before .rules .ensures ∙ table-counted (c .before .before .before .before .before .before .before .before .before .before .before .before .args .table .now) (c .before .before .before .before .before .before .before .before .unpack .last .1 .0) _ (walked-count (c .before .before .before .before .before .before .before .before .before .before .before .before .args .table .now) (c .before .before .before .before .before .before .before .before .unpack .last .1 .0) (c .before .before .before .before .before .before .before .before .unpack .result) _ (c .before .before .before .before .before .before .before .before .unpack .ensures (c .before .before .before .before .before .before .before .before .before .before .before .before .pre)) (c .before .before .before .before .n .given .1)))) ∙ c .if1 .left
 
 same-length-3 : tie.Need-same-length-3
 same-length-3 c = search needs
@@ -48,7 +44,6 @@ checked-spec =
     (tie.spec
     unpack-requires
     enum-known-n
-    link-requires
     rules-requires
     same-length
     returns

@@ -11,9 +11,6 @@ returns c = kept-out (now (c .before .args .unpacked)) (c .before .args .i) (c .
 mul-at : tie.Need-mul-at
 mul-at c = search needs
 
-add-at : tie.Need-add-at
-add-at c = search needs
-
 add-if2 : tie.Need-add-if2
 add-if2 c = search needs
 
@@ -41,7 +38,6 @@ keep-spec =
     (tie.spec
     returns
     mul-at
-    add-at
     add-if2
     add-unpacked
     mul-unpacked

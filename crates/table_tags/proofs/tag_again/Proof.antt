@@ -1,7 +1,9 @@
 use denote.Ref.{now}
 use mathlib.Core.Path.{sym, ap, _∙_}
-use Rattle.table_tags.specs.Lists.{foundOf}
-use Rattle.table_tags.proofs.Again.{untagged-once, top-once, again, never}
+use native.Mathlib.Omega.{arith}
+use Rattle.table_records.proofs.Laws.{laid-fewer}
+use Rattle.table_tags.specs.Search.{foundOf}
+use Rattle.table_tags.proofs.Again.{untagged-once, top-once, again-found, again-none}
 use borrow.Author.Needs.{needs}
 use Rattle.table_tags.proofs.tag_again.Statement.{statement}
 use Rattle.table_tags.proofs.tag_again.Tie as tie
@@ -21,20 +23,20 @@ returns-2 c = top-once (now (c .before .before .before .before .before .before .
 label-at-requires : tie.Need-label-at-requires
 label-at-requires c κs = search needs
 
-find-requires : tie.Need-find-requires
-find-requires c κs = search needs
-
-enum-known-q : tie.Need-enum-known-q
-enum-known-q c = search needs
+search-requires : tie.Need-search-requires
+search-requires c κs = laid-fewer _ _ (c .before .before .before .before .before .before .before .args .n) _ (omega (arith, c .before .before .before .before .before .before .before .pre .0)) (c .before .before .before .before .before .before .before .pre .1)
 
 enum-told : tie.Need-enum-told
 enum-told c = search needs
 
+enum-told-2 : tie.Need-enum-told-2
+enum-told-2 c = search needs
+
 returns-3 : tie.Need-returns-3
-returns-3 c = again (now (c .before .before .before .before .before .before .before .before .before .before .before .args .table)) (now (c .before .before .before .before .before .before .before .before .before .before .before .args .unpacked)) (c .before .before .before .before .before .before .before .before .before .before .before .args .n) (c .before .before .before .before .before .before .before .before .before .before .before .args .i) (c .before .before .before .before .before .before .parent-at .result) (c .before .before .before .before .before .before .parent-at .ensures) (c .before .before .before .before .before .if2 .left) (sym (c .before .before .before .before .before .before .before .before .untagged-at .ensures) ∙ c .before .before .before .before .before .before .before .if1 .left) (c .before .before .before .before .before .before .before .before .before .before .before .pre .0) (c .before .before .before .before .before .before .before .before .before .before .before .pre .1) _ _ (c .before .before .before .before .label-at .ensures) (ap foundOf (sym (c .before .q .given .1)) ∙ c .before .before .before .find .ensures)
+returns-3 c = again-found (now (c .before .before .before .before .before .before .before .before .before .before .args .table)) (now (c .before .before .before .before .before .before .before .before .before .before .args .unpacked)) (c .before .before .before .before .before .before .before .before .before .before .args .n) (c .before .before .before .before .before .before .before .before .before .before .args .i) (c .before .before .before .before .before .parent-at .result) (c .before .before .before .before .before .parent-at .ensures) (c .before .before .before .before .if2 .left) (sym (c .before .before .before .before .before .before .before .untagged-at .ensures) ∙ c .before .before .before .before .before .before .if1 .left) (c .before .before .before .before .before .before .before .before .before .before .pre .0) _ _ _ (c .before .before .before .label-at .ensures) (c .before .before .search .ensures) (ap foundOf (c .enum-told .given .1))
 
 returns-4 : tie.Need-returns-4
-returns-4 c = never (now (c .before .before .before .before .before .before .before .before .before .before .args .table)) (now (c .before .before .before .before .before .before .before .before .before .before .args .unpacked)) (c .before .before .before .before .before .before .before .before .before .before .args .n) (c .before .before .before .before .before .before .before .before .before .before .args .i) (c .before .before .before .before .before .parent-at .result) (c .before .before .before .before .before .parent-at .ensures) (c .before .before .before .before .if2 .left) (sym (c .before .before .before .before .before .before .before .untagged-at .ensures) ∙ c .before .before .before .before .before .before .if1 .left) (c .before .before .before .before .before .before .before .before .before .before .pre .0) (c .before .before .before .before .before .before .before .before .before .before .pre .1) _ (c .before .before .before .label-at .ensures) (ap foundOf (sym (c .enum-told .given .1)) ∙ c .before .before .find .ensures)
+returns-4 c = again-none (now (c .before .before .before .before .before .before .before .before .before .before .args .table)) (now (c .before .before .before .before .before .before .before .before .before .before .args .unpacked)) (c .before .before .before .before .before .before .before .before .before .before .args .n) (c .before .before .before .before .before .before .before .before .before .before .args .i) (c .before .before .before .before .before .parent-at .result) (c .before .before .before .before .before .parent-at .ensures) (c .before .before .before .before .if2 .left) (sym (c .before .before .before .before .before .before .before .untagged-at .ensures) ∙ c .before .before .before .before .before .before .if1 .left) (c .before .before .before .before .before .before .before .before .before .before .pre .0) _ _ (c .before .before .before .label-at .ensures) (c .before .before .search .ensures) (ap foundOf (c .enum-told2 .given .1))
 
 pub tag-again-spec : {M : Type 1} → statement M
 tag-again-spec =
@@ -45,8 +47,8 @@ tag-again-spec =
     parent-at-requires
     returns-2
     label-at-requires
-    find-requires
-    enum-known-q
+    search-requires
     enum-told
+    enum-told-2
     returns-3
     returns-4)

@@ -3,7 +3,7 @@ use mathlib.Core.Path.{_≡_, sym, ap, _∙_}
 use Prim.Native.Nat.{ℕ}
 use Rattle.reading_rules.specs.Schema.{nowhere, found}
 use Rattle.reading_rules.specs.Schema as schema
-use Rattle.table_tags.specs.Lists.{foundOf}
+use Rattle.table_tags.specs.Search.{foundOf}
 use Rattle.table_tags.specs.declared.Found.{Found}
 use Rattle.table_tags.specs.declared.Found.the-variants.{Nowhere, At}
 
