@@ -27,7 +27,7 @@ use Rattle.table_walk.specs.Walked.{RecordsCounted, Uncounted, Walked}
 use Rattle.table_walk.specs.declared.Walk.{Walk}
 use Rattle.table_walk.specs.declared.Walk.the-variants.{Count, Bad}
 use Rattle.table_checks.specs.Sweeps.{HasFinites}
-use Rattle.definition_faults.specs.RecordFaults.{recordFault}
+use Rattle.definition_faults.specs.RecordFaults.{recordFault, tagFault}
 use Rattle.definition_faults.proofs.FaultLaws.{spots-from}
 use Rattle.definition_writer.specs.Written.{WroteRecords, recordsWritten}
 use Rattle.definition_writer.proofs.Widths.{labels-short}
@@ -65,9 +65,9 @@ module _ (text cs t unpacked : List ℕ) (n : ℕ) where
   unfolding recordFault pick
   seven have = sym (spots-from (rule7Broken rs) (λ s. s .nameAt) text cs t unpacked n 0)
 
-  eight : (have : List Bool) → leastFrom (recordFault cs t unpacked have n 8) n 0 ≡ leastPlace (recordSpots (tagRepeated rs) (λ s. s .tagAt) 0 rs ns)
-  unfolding recordFault pick
-  eight have = sym (spots-from (tagRepeated rs) (λ s. s .tagAt) text cs t unpacked n 0)
+  eight : leastFrom (tagFault cs t unpacked n) n 0 ≡ leastPlace (recordSpots (tagRepeated rs) (λ s. s .tagAt) 0 rs ns)
+  unfolding pick
+  eight = sym (spots-from (tagRepeated rs) (λ s. s .tagAt) text cs t unpacked n 0)
 
   nine : (have : List Bool) → leastFrom (recordFault cs t unpacked have n 9) n 0 ≡ leastPlace (recordSpots rootNoStruct (λ s. s .nameAt) 0 rs ns)
   unfolding recordFault pick
@@ -90,18 +90,18 @@ module _ (text cs t unpacked : List ℕ) (n : ℕ) where
   pub past-seven : (have : List Bool) → Nowhere ≡ leastFrom (recordFault cs t unpacked have n 7) n 0 → leastPlace (faults7 rs ns) ≡ Nowhere
   past-seven have e = sym (e ∙ seven have)
 
-  join-eight : (have : List Bool) (a b : Place) → a ≡ leastPlace (repeatedNames [] ns) → b ≡ leastFrom (recordFault cs t unpacked have n 8) n 0 → lesser a b ≡ leastPlace (faults8 rs ns)
-  join-eight have a b x y = rw (x, y, eight have) (sym (least-append (repeatedNames [] ns) (recordSpots (tagRepeated rs) (λ s. s .tagAt) 0 rs ns)))
+  join-eight : (a b : Place) → a ≡ leastPlace (repeatedNames [] ns) → b ≡ leastFrom (tagFault cs t unpacked n) n 0 → lesser a b ≡ leastPlace (faults8 rs ns)
+  join-eight a b x y = rw (x, y, eight) (sym (least-append (repeatedNames [] ns) (recordSpots (tagRepeated rs) (λ s. s .tagAt) 0 rs ns)))
 
   join-nine : (have : List Bool) (a b : Place) → a ≡ leastFrom (recordFault cs t unpacked have n 9) n 0 → b ≡ leastPlace (spotsWhere (dangling (topNames (declarationsOf ns))) (λ s. s .typeAt) ns) → lesser a b ≡ leastPlace (faults9 rs ns)
   join-nine have a b x y = rw (x, y, nine have) (sym (least-append (recordSpots rootNoStruct (λ s. s .nameAt) 0 rs ns) (spotsWhere (dangling (topNames (declarationsOf ns))) (λ s. s .typeAt) ns)))
 
-  pub at-eight : (have : List Bool) (a b : Place) (p : ℕ) → leastPlace (faults7 rs ns) ≡ Nowhere → a ≡ leastPlace (repeatedNames [] ns) → b ≡ leastFrom (recordFault cs t unpacked have n 8) n 0 → At p ≡ lesser a b → fault 8 p ≡ firstFault (checks7to10 rs ns)
+  pub at-eight : (a b : Place) (p : ℕ) → leastPlace (faults7 rs ns) ≡ Nowhere → a ≡ leastPlace (repeatedNames [] ns) → b ≡ leastFrom (tagFault cs t unpacked n) n 0 → At p ≡ lesser a b → fault 8 p ≡ firstFault (checks7to10 rs ns)
   unfolding checks7to10
-  at-eight have a b p s x y e = sym (pass 7 (faults7 rs ns) _ s ∙ hit 8 (faults8 rs ns) _ p (sym (e ∙ join-eight have a b x y)))
+  at-eight a b p s x y e = sym (pass 7 (faults7 rs ns) _ s ∙ hit 8 (faults8 rs ns) _ p (sym (e ∙ join-eight a b x y)))
 
-  pub past-eight : (have : List Bool) (a b : Place) → a ≡ leastPlace (repeatedNames [] ns) → b ≡ leastFrom (recordFault cs t unpacked have n 8) n 0 → Nowhere ≡ lesser a b → leastPlace (faults8 rs ns) ≡ Nowhere
-  past-eight have a b x y e = sym (e ∙ join-eight have a b x y)
+  pub past-eight : (a b : Place) → a ≡ leastPlace (repeatedNames [] ns) → b ≡ leastFrom (tagFault cs t unpacked n) n 0 → Nowhere ≡ lesser a b → leastPlace (faults8 rs ns) ≡ Nowhere
+  past-eight a b x y e = sym (e ∙ join-eight a b x y)
 
   pub at-nine : (have : List Bool) (a b : Place) (p : ℕ) → leastPlace (faults7 rs ns) ≡ Nowhere → leastPlace (faults8 rs ns) ≡ Nowhere → a ≡ leastFrom (recordFault cs t unpacked have n 9) n 0 → b ≡ leastPlace (spotsWhere (dangling (topNames (declarationsOf ns))) (λ s. s .typeAt) ns) → At p ≡ lesser a b → fault 9 p ≡ firstFault (checks7to10 rs ns)
   unfolding checks7to10

@@ -74,7 +74,7 @@ fn record_fault(text: &[u8], cells: &[u32], table: &[u8], unpacked: &[u32], n: u
         Place::Nowhere => {}
     }
     let names = definition_checks::repeated_name(text, cells, n);
-    let tags = definition_faults::least_fault(cells, table, unpacked, &have, n, 8);
+    let tags = definition_faults::repeated_tag(cells, table, unpacked, n);
     match definition_cells::lesser(names, tags) {
         Place::At(p) => {
             return Stop::Fault(8, p);

@@ -7,7 +7,7 @@ use borrow.Author.Tests.{ne-eqb}
 use Rattle.classes.specs.Lists.{pick}
 use Rattle.reading_rules.specs.Record.{Record}
 use Rattle.definition_rules.specs.Declarations.{Spots}
-use Rattle.definition_rules.specs.Faults.{recordSpots, rule7Broken, tagRepeated, rootNoStruct}
+use Rattle.definition_rules.specs.Faults.{recordSpots, rule7Broken, rootNoStruct}
 use Rattle.definition_rules.specs.Finite.{isEndless}
 use Rattle.definition_cells.specs.declared.Place.{Place}
 use Rattle.definition_cells.specs.Cells.{cellAt, notedAt, notedFrom}
@@ -23,17 +23,13 @@ module _ (cs t unpacked : List ℕ) (have : List Bool) (n rule i : ℕ) (r : Pla
   unfolding recordFault pick
   fault-seven e h p = is ∙ rw (e, h, p)
 
-  pub fault-eight : (rule ≡ 7 → ⊥) → rule ≡ 8 → hit ≡ tagRepeated (recordsAt t unpacked n) i (recordIn t unpacked i) → at ≡ cellAt cs i 8 → r ≡ recordFault cs t unpacked have n rule i
+  pub fault-nine : (rule ≡ 7 → ⊥) → rule ≡ 9 → hit ≡ rootNoStruct i (recordIn t unpacked i) → at ≡ cellAt cs i 4 → r ≡ recordFault cs t unpacked have n rule i
   unfolding recordFault pick
-  fault-eight a e h p = is ∙ rw (e, h, p)
+  fault-nine a e h p = is ∙ rw (e, h, p)
 
-  pub fault-nine : (rule ≡ 7 → ⊥) → (rule ≡ 8 → ⊥) → rule ≡ 9 → hit ≡ rootNoStruct i (recordIn t unpacked i) → at ≡ cellAt cs i 4 → r ≡ recordFault cs t unpacked have n rule i
+  pub fault-ten : (rule ≡ 7 → ⊥) → (rule ≡ 9 → ⊥) → hit ≡ isEndless have i (recordIn t unpacked i) → at ≡ cellAt cs i 4 → r ≡ recordFault cs t unpacked have n rule i
   unfolding recordFault pick
-  fault-nine a b e h p = is ∙ rw (e, h, p)
-
-  pub fault-ten : (rule ≡ 7 → ⊥) → (rule ≡ 8 → ⊥) → (rule ≡ 9 → ⊥) → hit ≡ isEndless have i (recordIn t unpacked i) → at ≡ cellAt cs i 4 → r ≡ recordFault cs t unpacked have n rule i
-  unfolding recordFault pick
-  fault-ten a b c h p = is ∙ rw (ne-eqb rule 7 a, ne-eqb rule 8 b, ne-eqb rule 9 c, h, p)
+  fault-ten a c h p = is ∙ rw (ne-eqb rule 7 a, ne-eqb rule 9 c, h, p)
 
 -- ---- all parameters: the spots of the records' faults, at the places that the declarations keep
 

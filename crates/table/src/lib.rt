@@ -11,7 +11,6 @@ ghost use mathlib.Core.Logic.{_↔_};
 ghost use Rattle.table_rules.specs.Compilable.{Compilable};
 ghost use Rattle.table_rules.specs.RecordRules.{noneBroken, recordChecks, recordRules, tableRules};
 ghost use Rattle.table_records.specs.Stored.{recordCells, recordIn, recordsAt, Laid};
-ghost use Rattle.table_tags.specs.Marks.{tagMarks};
 ghost use Rattle.table_walk.specs.Walked.{Enough};
 ghost use Rattle.table.specs.Checks.{isBroken, Checked};
 use table_walk::Walk;
@@ -63,18 +62,12 @@ fn tags_once_by_search(table: &[u8], unpacked: &[u32], n: usize) -> bool
     true
 }
 
-fn no_keys() -> [bool; table_tags::MARKS]
-    ensures { λ r. ⌜ length r ≡ tagMarks ⌝ }
-{
-    [false; table_tags::MARKS]
-}
-
 // The same, with a search only for tags whose key was met before.
 fn tags_once_by_marks(table: &[u8], unpacked: &[u32], n: usize) -> bool
     requires { ⌜ Laid (now table) (now unpacked) n ⌝ }
     ensures { λ r. ⌜ r ≡ noneBroken (tagRepeated (recordsAt (now (table .entry)) (now (unpacked .entry)) n)) 0 (recordsAt (now (table .entry)) (now (unpacked .entry)) n) ⌝ }
 {
-    let mut marks = no_keys();
+    let mut marks = table_tags::no_keys();
     let mut i: usize = 0;
     while i < n {
         if table_tags::tag_again_marked(table, unpacked, n, i, &mut marks) {

@@ -1,11 +1,12 @@
 // The search for a tag, from record to record by the lengths at their heads; and tags that stand twice.
 ghost use mathlib.Core.Path.{_≡_};
 ghost use Prim.Native.Nat.{_+_, _-_, _<_};
+ghost use lib.ListN.{length};
 ghost use Rattle.reading_rules.specs.Schema.{isTaggedAs, firstWhere};
 ghost use Rattle.definition_rules.specs.Faults.{tagRepeated};
 ghost use Rattle.table_records.specs.Stored.{recordIn, recordsFrom, recordsAt, Laid};
 ghost use Rattle.table_tags.specs.Search.{foundOf, searched, Searchable};
-ghost use Rattle.table_tags.specs.Marks.{tagKey, MarkedBefore};
+ghost use Rattle.table_tags.specs.Marks.{tagMarks, tagKey, MarkedBefore};
 
 // What a search finds.
 pub enum Found {
@@ -106,6 +107,12 @@ pub fn tag_again(table: &[u8], unpacked: &[u32], n: usize, i: usize) -> bool
 
 // How many marks there are: four for each record that there may be, so that few tags of a table share one.
 pub const MARKS: usize = 4 * numbers::PARAMETER_LIMIT;
+
+pub fn no_keys() -> [bool; MARKS]
+    ensures { λ r. ⌜ length r ≡ tagMarks ⌝ }
+{
+    [false; MARKS]
+}
 
 // How far apart a byte more or less sets two keys.
 const SPREAD: usize = 37;

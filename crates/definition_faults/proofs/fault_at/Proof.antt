@@ -1,4 +1,4 @@
-use Rattle.definition_faults.proofs.FaultLaws.{fault-seven, fault-eight, fault-nine, fault-ten}
+use Rattle.definition_faults.proofs.FaultLaws.{fault-seven, fault-nine, fault-ten}
 use borrow.Author.Needs.{needs}
 use Rattle.definition_faults.proofs.fault_at.Statement.{statement}
 use Rattle.definition_faults.proofs.fault_at.Tie as tie
@@ -15,8 +15,8 @@ at-if-requires c κs = search needs
 returns : tie.Need-returns
 returns c = fault-seven (c .before .before .before .before .before .before .before .before .args .cells .now) (c .before .before .before .before .before .before .before .before .args .table .now) (c .before .before .before .before .before .before .before .before .args .unpacked .now) (c .before .before .before .before .before .before .before .before .args .have .now) (c .before .before .before .before .before .before .before .before .args .n) (c .before .before .before .before .before .before .before .before .args .rule) (c .before .before .before .before .before .before .before .before .args .i) _ _ _ (c .at-if .ensures) (c .before .before .before .if1 .taken) (c .before .before .rule7-broken .ensures) (c .before .cell .ensures)
 
-tag-again-requires : tie.Need-tag-again-requires
-tag-again-requires c κs = search needs
+root-no-struct-requires : tie.Need-root-no-struct-requires
+root-no-struct-requires c κs = search needs
 
 cell-requires-2 : tie.Need-cell-requires-2
 cell-requires-2 c κs = search needs
@@ -25,10 +25,10 @@ at-if-requires-2 : tie.Need-at-if-requires-2
 at-if-requires-2 c κs = search needs
 
 returns-2 : tie.Need-returns-2
-returns-2 c = fault-eight (c .before .before .before .before .before .before .before .before .before .args .cells .now) (c .before .before .before .before .before .before .before .before .before .args .table .now) (c .before .before .before .before .before .before .before .before .before .args .unpacked .now) (c .before .before .before .before .before .before .before .before .before .args .have .now) (c .before .before .before .before .before .before .before .before .before .args .n) (c .before .before .before .before .before .before .before .before .before .args .rule) (c .before .before .before .before .before .before .before .before .before .args .i) _ _ _ (c .at-if2 .ensures) (c .before .before .before .before .if1 .left) (c .before .before .before .if2 .taken) (c .before .before .tag-again .ensures) (c .before .cell2 .ensures)
+returns-2 c = fault-nine (c .before .before .before .before .before .before .before .before .before .args .cells .now) (c .before .before .before .before .before .before .before .before .before .args .table .now) (c .before .before .before .before .before .before .before .before .before .args .unpacked .now) (c .before .before .before .before .before .before .before .before .before .args .have .now) (c .before .before .before .before .before .before .before .before .before .args .n) (c .before .before .before .before .before .before .before .before .before .args .rule) (c .before .before .before .before .before .before .before .before .before .args .i) _ _ _ (c .at-if2 .ensures) (c .before .before .before .before .if1 .left) (c .before .before .before .if2 .taken) (c .before .before .root-no-struct .ensures) (c .before .cell2 .ensures)
 
-root-no-struct-requires : tie.Need-root-no-struct-requires
-root-no-struct-requires c κs = search needs
+is-endless-requires : tie.Need-is-endless-requires
+is-endless-requires c κs = search needs
 
 cell-requires-3 : tie.Need-cell-requires-3
 cell-requires-3 c κs = search needs
@@ -37,19 +37,7 @@ at-if-requires-3 : tie.Need-at-if-requires-3
 at-if-requires-3 c κs = search needs
 
 returns-3 : tie.Need-returns-3
-returns-3 c = fault-nine (c .before .before .before .before .before .before .before .before .before .before .args .cells .now) (c .before .before .before .before .before .before .before .before .before .before .args .table .now) (c .before .before .before .before .before .before .before .before .before .before .args .unpacked .now) (c .before .before .before .before .before .before .before .before .before .before .args .have .now) (c .before .before .before .before .before .before .before .before .before .before .args .n) (c .before .before .before .before .before .before .before .before .before .before .args .rule) (c .before .before .before .before .before .before .before .before .before .before .args .i) _ _ _ (c .at-if3 .ensures) (c .before .before .before .before .before .if1 .left) (c .before .before .before .before .if2 .left) (c .before .before .before .if3 .taken) (c .before .before .root-no-struct .ensures) (c .before .cell3 .ensures)
-
-is-endless-requires : tie.Need-is-endless-requires
-is-endless-requires c κs = search needs
-
-cell-requires-4 : tie.Need-cell-requires-4
-cell-requires-4 c κs = search needs
-
-at-if-requires-4 : tie.Need-at-if-requires-4
-at-if-requires-4 c κs = search needs
-
-returns-4 : tie.Need-returns-4
-returns-4 c = fault-ten (c .before .before .before .before .before .before .before .before .before .before .args .cells .now) (c .before .before .before .before .before .before .before .before .before .before .args .table .now) (c .before .before .before .before .before .before .before .before .before .before .args .unpacked .now) (c .before .before .before .before .before .before .before .before .before .before .args .have .now) (c .before .before .before .before .before .before .before .before .before .before .args .n) (c .before .before .before .before .before .before .before .before .before .before .args .rule) (c .before .before .before .before .before .before .before .before .before .before .args .i) _ _ _ (c .at-if4 .ensures) (c .before .before .before .before .before .if1 .left) (c .before .before .before .before .if2 .left) (c .before .before .before .if3 .left) (c .before .before .is-endless .ensures) (c .before .cell4 .ensures)
+returns-3 c = fault-ten (c .before .before .before .before .before .before .before .before .before .args .cells .now) (c .before .before .before .before .before .before .before .before .before .args .table .now) (c .before .before .before .before .before .before .before .before .before .args .unpacked .now) (c .before .before .before .before .before .before .before .before .before .args .have .now) (c .before .before .before .before .before .before .before .before .before .args .n) (c .before .before .before .before .before .before .before .before .before .args .rule) (c .before .before .before .before .before .before .before .before .before .args .i) _ _ _ (c .at-if3 .ensures) (c .before .before .before .before .if1 .left) (c .before .before .before .if2 .left) (c .before .before .is-endless .ensures) (c .before .cell3 .ensures)
 
 pub fault-at-spec : {M : Type 1} → statement M
 fault-at-spec =
@@ -59,15 +47,11 @@ fault-at-spec =
     cell-requires
     at-if-requires
     returns
-    tag-again-requires
+    root-no-struct-requires
     cell-requires-2
     at-if-requires-2
     returns-2
-    root-no-struct-requires
+    is-endless-requires
     cell-requires-3
     at-if-requires-3
-    returns-3
-    is-endless-requires
-    cell-requires-4
-    at-if-requires-4
-    returns-4)
+    returns-3)
