@@ -17,7 +17,7 @@ use Rattle.reading_rules.proofs.CountLaws.{clash-bool, and-both}
 use Rattle.definition_rules.specs.Faults.{anyBefore, beside, hasWireTag, tagRepeated}
 use Rattle.definition_rules.specs.Table.{upNumber}
 use Rattle.table_records.specs.Stored.{recordIn, recordsFrom, recordsAt}
-use Rattle.table_tags.specs.Marks.{tagMarks, keySpread, keyFrom, keyIn, MarkedBefore}
+use Rattle.table_tags.specs.Keys.{tagMarks, keySpread, keyFrom, keyIn, MarkedBefore}
 
 -- ---- keys
 

@@ -1,4 +1,4 @@
 -- the search for a tag
 pub mod Search
--- the marks of tags that were met
-pub mod Marks
+-- the keys of tags, and marks for those that were met
+pub mod Keys

@@ -6,7 +6,7 @@ ghost use Rattle.reading_rules.specs.Schema.{isTaggedAs, firstWhere};
 ghost use Rattle.definition_rules.specs.Faults.{tagRepeated};
 ghost use Rattle.table_records.specs.Stored.{recordIn, recordsFrom, recordsAt, Laid};
 ghost use Rattle.table_tags.specs.Search.{foundOf, searched, Searchable};
-ghost use Rattle.table_tags.specs.Marks.{tagMarks, tagKey, MarkedBefore};
+ghost use Rattle.table_tags.specs.Keys.{tagMarks, tagKey, MarkedBefore};
 
 // What a search finds.
 pub enum Found {

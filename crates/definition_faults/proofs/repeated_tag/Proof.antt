@@ -4,7 +4,7 @@ use Prim.Native.Nat.{_≤_, _-_}
 use native.Mathlib.Omega.{arith}
 use Rattle.definition_cells.specs.Places.{lesser, leastFrom}
 use Rattle.definition_cells.proofs.PlaceLaws.{loop-start, loop-more, loop-end}
-use Rattle.table_tags.specs.Marks.{MarkedBefore}
+use Rattle.table_tags.specs.Keys.{MarkedBefore}
 use Rattle.table_tags.proofs.Marking.{marked-none}
 use Rattle.definition_faults.specs.RecordFaults.{tagFault}
 use Rattle.definition_faults.proofs.repeated_tag.Statement.{statement}

@@ -5,7 +5,7 @@ use Rattle.definition_rules.specs.Faults.{tagRepeated}
 use Rattle.table_rules.specs.RecordRules.{noneBroken}
 use Rattle.table_records.specs.Stored.{recordsFrom, recordsAt}
 use Rattle.table.proofs.Laws.{none-start, none-end, none-no, none-more}
-use Rattle.table_tags.specs.Marks.{MarkedBefore}
+use Rattle.table_tags.specs.Keys.{MarkedBefore}
 use Rattle.table_tags.proofs.Marking.{marked-none}
 use Rattle.table.proofs.tags_once_by_marks.Statement.{statement}
 use Rattle.table.proofs.tags_once_by_marks.Tie as tie

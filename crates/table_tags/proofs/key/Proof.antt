@@ -5,7 +5,7 @@ use Prim.Native.Nat.{_-_, _<_}
 use native.Mathlib.Nat.{mod-lt}
 use native.Mathlib.Omega.{arith}
 use lib.ListN.{length, drop}
-use Rattle.table_tags.specs.Marks.{tagMarks, keyFrom, tagKey}
+use Rattle.table_tags.specs.Keys.{tagMarks, keyFrom, tagKey}
 use Rattle.table_tags.proofs.Marking.{key-more, key-end}
 use Rattle.table_tags.proofs.key.Statement.{statement}
 use Rattle.table_tags.proofs.key.Tie as tie

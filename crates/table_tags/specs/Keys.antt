@@ -1,4 +1,4 @@
--- Marks of the tags that were met, by a key of each.
+-- Keys of the tags, and marks for those that were met.
 use mathlib.Core.Path.{_≡_}
 use mathlib.Core.Bool.{Bool, true, false}
 use mathlib.Core.List.{List, [], _∷_}
