@@ -1,9 +1,9 @@
 -- The answers of the compiler in the paper's terms, and the checks from the declarations on.
-use Rattle.std.specs.Prelude.{Bool, List, [], ◌∷◌, ℕ}
+use Rattle.std.specs.Prelude.{List, [], ◌∷◌, ℕ}
 use Rattle.reading_rules.specs.Record.{Record}
 use Rattle.definition_rules.specs.Declarations.{Noted, declarations_of}
 use Rattle.definition_rules.specs.Records.{records_of}
-use Rattle.definition_rules.specs.Faults.{faults5, faults6, faults7, faults8, faults9, faults10, faults12}
+use Rattle.definition_rules.specs.Faults.{faults5, faults6, faults7, faults8, faults9, faults10}
 use Rattle.definition_rules.specs.Compile.{Check, check, Finding, clean, fault, first_fault, Verdict, verdict_of, CompileAnswer, compiled, refusal}
 use Rattle.definition_cells.specs.Cells.{noted_from}
 use Rattle.definition.specs.declared.Compiled.{Compiled}
@@ -20,21 +20,17 @@ abbrev pub stopFinding : Stop → Finding
 stopFinding Clear = clean
 stopFinding (Fault n p) = fault n p
 
--- 12, over declarations with places in the text; the old rule leaves it out
-unfoldable pub check12 : Bool → List Record → List Noted → List Check
-check12 old rs ns = check 12 (faults12 old rs ns) ∷ []
+-- 7 to 10, over declarations with places in the text
+unfoldable pub checks7to10 : List Record → List Noted → List Check
+checks7to10 rs ns = check 7 (faults7 rs ns) ∷ check 8 (faults8 rs ns) ∷ check 9 (faults9 rs ns) ∷ check 10 (faults10 rs ns) ∷ []
 
--- 7 to 10, and 12
-unfoldable pub checks7to12 : Bool → List Record → List Noted → List Check
-checks7to12 old rs ns = check 7 (faults7 rs ns) ∷ check 8 (faults8 rs ns) ∷ check 9 (faults9 rs ns) ∷ check 10 (faults10 rs ns) ∷ check12 old rs ns
-
--- 5 to 10, and 12
-unfoldable pub checks5to12 : Bool → List Record → List Noted → List Check
-checks5to12 old rs ns = check 5 (faults5 ns) ∷ check 6 (faults6 rs ns) ∷ checks7to12 old rs ns
+-- 5 to 10
+unfoldable pub checks5to10 : List Record → List Noted → List Check
+checks5to10 rs ns = check 5 (faults5 ns) ∷ check 6 (faults6 rs ns) ∷ checks7to10 rs ns
 
 abbrev pub records_of_cells : List ℕ → List ℕ → ℕ → List Record
 records_of_cells text cs n = records_of (declarations_of (noted_from text cs n 0))
 
 -- what the n declarations that are kept come to
-unfoldable pub verdict_from : Bool → List ℕ → List ℕ → ℕ → Verdict
-verdict_from old text cs n = verdict_of (first_fault (checks5to12 old (records_of_cells text cs n) (noted_from text cs n 0))) (records_of_cells text cs n)
+unfoldable pub verdict_from : List ℕ → List ℕ → ℕ → Verdict
+verdict_from text cs n = verdict_of (first_fault (checks5to10 (records_of_cells text cs n) (noted_from text cs n 0))) (records_of_cells text cs n)

@@ -5,12 +5,10 @@ ghost use Rattle.reading_rules.specs.Record.{Record, Before, AfterParents};
 ghost use Rattle.definition_rules.specs.Table.{numberUp, just, decode};
 ghost use Rattle.definition_rules.specs.Compile.{first_fault, answer_with_room, lent_after, compile_answer, tableAfter};
 ghost use Rattle.definition_rules.specs.Stuck.{StuckPromise};
-ghost use Rattle.definition_rules.specs.Behind.{RulePromise};
 ghost use Rattle.table_rules.specs.Endless.{EndlessPromise};
-ghost use Rattle.table_rules.specs.Compilable.{MadeTable};
 ghost use Rattle.definition_cells.specs.Cells.{cell_at, noted_from, parent_cell};
 ghost use Rattle.table_records.specs.Stored.{records_at, Laid};
-ghost use Rattle.definition.specs.Answers.{answerOfCompile, stopFinding, check12, checks7to12, verdict_from};
+ghost use Rattle.definition.specs.Answers.{answerOfCompile, stopFinding, checks7to10, verdict_from};
 
 use definition_cells::Place;
 use definition_forms::Formed;
@@ -63,31 +61,10 @@ fn blank_marks() -> [bool; numbers::PARAMETER_LIMIT]
 
 // ---- the checks on records
 
-// Number 12, which the old rule leaves out.
-fn rule_fault(cells: &[u32], table: &[u8], unpacked: &[u32], n: usize, old_rule: bool) -> Stop
-    requires { n ≤ parameter_limit }
-    ensures { (text : List ℕ) → stopFinding result ≡ first_fault (check12 old_rule (records_at table.now unpacked.now n) (noted_from text cells.now n 0)) }
-{
-    if old_rule {
-        return Stop::Clear;
-    }
-    match definition_faults::required_behind(cells, table, unpacked, n) {
-        Place::At(p) => Stop::Fault(12, p),
-        Place::Nowhere => Stop::Clear,
-    }
-}
-
-// Numbers 7 to 10, then 12, over the declarations and the records that were written for them.
-fn record_fault(
-    text: &[u8],
-    cells: &[u32],
-    table: &[u8],
-    unpacked: &[u32],
-    n: usize,
-    old_rule: bool,
-) -> Stop
+// Numbers 7 to 10, over the declarations and the records that were written for them.
+fn record_fault(text: &[u8], cells: &[u32], table: &[u8], unpacked: &[u32], n: usize) -> Stop
     requires { (n ≤ parameter_limit) × Laid table.now unpacked.now n }
-    ensures { AfterParents (records_at table.now unpacked.now n) → stopFinding result ≡ first_fault (checks7to12 old_rule (records_at table.now unpacked.now n) (noted_from text.now cells.now n 0)) }
+    ensures { AfterParents (records_at table.now unpacked.now n) → stopFinding result ≡ first_fault (checks7to10 (records_at table.now unpacked.now n) (noted_from text.now cells.now n 0)) }
 {
     let mut have = blank_marks();
     match definition_faults::least_fault(cells, table, unpacked, &have, n, 7) {
@@ -116,35 +93,29 @@ fn record_fault(
     table_checks::finites(table, unpacked, n, &mut have, &mut rest);
     match definition_faults::least_fault(cells, table, unpacked, &have, n, 10) {
         Place::At(p) => Stop::Fault(10, p),
-        Place::Nowhere => rule_fault(cells, table, unpacked, n, old_rule),
+        Place::Nowhere => Stop::Clear,
     }
 }
 
 // The same, over the table in which the records were written. A table of these records is walked to its end.
-fn written_fault(text: &[u8], cells: &[u32], table: &[u8], n: usize, old_rule: bool) -> Stop
+fn written_fault(text: &[u8], cells: &[u32], table: &[u8], n: usize) -> Stop
     requires { n ≤ parameter_limit }
-    ensures { (rs : List Record) → decode table.now ≡ just rs → length rs ≡ n → AfterParents rs → stopFinding result ≡ first_fault (checks7to12 old_rule rs (noted_from text.now cells.now n 0)) }
+    ensures { (rs : List Record) → decode table.now ≡ just rs → length rs ≡ n → AfterParents rs → stopFinding result ≡ first_fault (checks7to10 rs (noted_from text.now cells.now n 0)) }
 {
     let mut unpacked = blank_records();
     match table_walk::unpack(table, &mut unpacked) {
-        Walk::Count(m) => record_fault(text, cells, table, &unpacked, m, old_rule),
+        Walk::Count(m) => record_fault(text, cells, table, &unpacked, m),
         Walk::Bad => Stop::Clear,
     }
 }
 
-// From the declarations to the table: numbers 5 to 12. The records are written into scratch space first,
+// From the declarations to the table: numbers 5 to 11. The records are written into scratch space first,
 // so that the lent table is touched only when nothing can be refused any more.
-fn compile_declarations(
-    text: &[u8],
-    cells: &[u32],
-    n: usize,
-    table: &mut [u8],
-    old_rule: bool,
-) -> Compiled
+fn compile_declarations(text: &[u8], cells: &[u32], n: usize, table: &mut [u8]) -> Compiled
     requires n_le_parameter_limit { (n ≤ parameter_limit) × (length text.now ≤ text_limit) }
     requires by_index { (i : ℕ) → i < n → Before i (numberUp (cell_at cells.now i parent_cell)) }
-    ensures result_value { answerOfCompile result ≡ answer_with_room (length table.old) (verdict_from old_rule text.now cells.now n) }
-    ensures table_after { table.new ≡ lent_after (verdict_from old_rule text.now cells.now n) table.old }
+    ensures result_value { answerOfCompile result ≡ answer_with_room (length table.old) (verdict_from text.now cells.now n) }
+    ensures table_after { table.new ≡ lent_after (verdict_from text.now cells.now n) table.old }
 {
     match definition_checks::broken_form(text, cells, n) {
         Place::At(p) => {
@@ -160,7 +131,7 @@ fn compile_declarations(
     }
     let mut scratch = blank_bytes();
     let len = definition_writer::write_records(text, cells, n, &mut scratch);
-    match written_fault(text, cells, classes::part(&scratch, 0, len), n, old_rule) {
+    match written_fault(text, cells, classes::part(&scratch, 0, len), n) {
         Stop::Fault(k, p) => {
             return Compiled::Refused(k, p);
         }
@@ -173,18 +144,14 @@ fn compile_declarations(
     Compiled::Table(len)
 }
 
-// Compiles a definition into the lent table, by the default rule or the old one. The answer and the lent bytes after are those
-// of the definitions. By either rule a text free of 1 and 2 is refused with 3 exactly when its tokens don't fit the forms, at
-// the first that can't go on; one free of every fault before 10 is refused as endless exactly when one of its structs or unions
-// has no lawful value, at its name; and what is compiled is a table that number 20 allows. Number 12 is the default rule's, and
-// all else is the same by both.
-pub fn compile(text: &[u8], table: &mut [u8], old_rule: bool) -> Compiled
-    ensures result_value { answerOfCompile result ≡ compile_answer old_rule text.now (length table.old) }
-    ensures table_after { table.new ≡ tableAfter old_rule text.now table.old }
+// Compiles a definition into the lent table. The answer and the lent bytes after are those of the definitions. A text free of
+// 1 and 2 is refused with 3 exactly when its tokens don't fit the forms, at the first that can't go on; one free of every
+// fault before 10 is refused as endless exactly when one of its structs or unions has no lawful value, at its name.
+pub fn compile(text: &[u8], table: &mut [u8]) -> Compiled
+    ensures result_value { answerOfCompile result ≡ compile_answer text.now (length table.old) }
+    ensures table_after { table.new ≡ tableAfter text.now table.old }
     ensures stuck_promise { StuckPromise text.now (answerOfCompile result) }
     ensures endless_promise { EndlessPromise text.now (answerOfCompile result) }
-    ensures rule_promise { RulePromise old_rule text.now table.old (answerOfCompile result) table.new }
-    ensures made_table { MadeTable (answerOfCompile result) table.new }
 {
     if numbers::TEXT_LIMIT < text.len() {
         return Compiled::Refused(1, numbers::TEXT_LIMIT);
@@ -199,6 +166,6 @@ pub fn compile(text: &[u8], table: &mut [u8], old_rule: bool) -> Compiled
     match definition_forms::forms(text, &mut cells) {
         Formed::Stuck(p) => Compiled::Refused(3, p),
         Formed::Over(p) => Compiled::Refused(4, p),
-        Formed::Complete(n) => compile_declarations(text, &cells, n, table, old_rule),
+        Formed::Complete(n) => compile_declarations(text, &cells, n, table),
     }
 }

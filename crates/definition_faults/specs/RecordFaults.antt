@@ -1,7 +1,7 @@
 -- The faults that records alone show, by parameter, at the places that its declaration keeps.
 use Rattle.std.specs.Prelude.{Bool, List, ℕ, eqb}
 use Rattle.classes.specs.Lists.{pick}
-use Rattle.definition_rules.specs.Faults.{rule7_broken, tag_repeated, root_no_struct, is_required_behind}
+use Rattle.definition_rules.specs.Faults.{rule7_broken, tag_repeated, root_no_struct}
 use Rattle.definition_rules.specs.Finite.{is_endless}
 use Rattle.definition_cells.specs.declared.Place.{Place}
 use Rattle.definition_cells.specs.Cells.{cell_at, name_cell, tag_cell}
@@ -11,10 +11,6 @@ use Rattle.table_records.specs.Stored.{record_in, records_at}
 -- 8 for tags: the fault of parameter i at its tag
 abbrev pub tag_fault : List ℕ → List ℕ → List ℕ → ℕ → ℕ → Place
 tag_fault cs t unpacked n i = at_if (tag_repeated (records_at t unpacked n) i (record_in t unpacked i)) (cell_at cs i tag_cell)
-
--- 12: the fault of parameter i at its name
-abbrev pub behind_fault : List ℕ → List ℕ → List ℕ → ℕ → ℕ → Place
-behind_fault cs t unpacked n i = at_if (is_required_behind (records_at t unpacked n) i (record_in t unpacked i)) (cell_at cs i name_cell)
 
 -- the fault of parameter i with the refusal's number, at its name: 7, the root's 9, else 10
 unfoldable pub record_fault : List ℕ → List ℕ → List ℕ → List Bool → ℕ → ℕ → ℕ → Place

@@ -1,9 +1,8 @@
-// The least places of the faults that records alone show: numbers 7, 9 for the root, 10 and 12; 8 for tags.
-ghost use Rattle.std.specs.Prelude.{◌≡◌, ◌≤◌, length};
-ghost use Rattle.numbers.specs.Limits.{parameter_limit};
+// The least places of the faults that records alone show: numbers 7, 9 for the root and 10; 8 for tags.
+ghost use Rattle.std.specs.Prelude.{◌≡◌, ◌<◌};
 ghost use Rattle.definition_cells.specs.Places.{least_from};
 ghost use Rattle.table_records.specs.Stored.{Laid};
-ghost use Rattle.definition_faults.specs.RecordFaults.{record_fault, tag_fault, behindFault};
+ghost use Rattle.definition_faults.specs.RecordFaults.{record_fault, tag_fault};
 
 use definition_cells::Place;
 
@@ -72,29 +71,6 @@ pub fn repeated_tag(cells: &[u32], table: &[u8], unpacked: &[u32], n: usize) -> 
         let again = table_tags::tag_again_marked(table, unpacked, n, i, &mut marks);
         let tag = definition_cells::cell(cells, i, definition_cells::TAG);
         best = definition_cells::lesser(best, definition_cells::at_if(again, tag));
-        i += 1;
-    }
-    best
-}
-
-fn none_ended() -> [bool; numbers::PARAMETER_LIMIT]
-    ensures { length result ≡ parameter_limit }
-{
-    [false; numbers::PARAMETER_LIMIT]
-}
-
-// Number 12: the least name of a field that has to appear behind an untagged one that may be absent.
-pub fn required_behind(cells: &[u32], table: &[u8], unpacked: &[u32], n: usize) -> Place
-    requires { n ≤ parameter_limit }
-    ensures { result ≡ least_from (behindFault cells.now table.now unpacked.now n) n 0 }
-{
-    let mut best = Place::Nowhere;
-    let mut ended = none_ended();
-    let mut i: usize = 0;
-    while i < n {
-        let behind = table_checks::is_required_behind(table, unpacked, n, i, &mut ended);
-        let name = definition_cells::cell(cells, i, definition_cells::NAME);
-        best = definition_cells::lesser(best, definition_cells::at_if(behind, name));
         i += 1;
     }
     best

@@ -101,27 +101,27 @@ pub table_refused : {X : Type 0} {b : List ℕ} {n p : ℕ} → table b ≡ refu
 table_refused e = let z : ◌≡◌ {A = ℕ} 0 1 = cc in absurd (omega arith)
 
 -- refused n p exactly when p is the least place of n and every earlier check has none
-pub refused_found : (old : Bool) (text : List ℕ) (n p : ℕ) → verdict old text ≡ refused n p → FirstFaultIs n p (checks old text)
+pub refused_found : (text : List ℕ) (n p : ℕ) → verdict text ≡ refused n p → FirstFaultIs n p (checks text)
 unfolding verdict
-refused_found old text n p e = by (first_fault (checks old text)) refl e
+refused_found text n p e = by (first_fault (checks text)) refl e
   where
-    by : (f : Finding) → first_fault (checks old text) ≡ f → verdict_of f (records_of_text text) ≡ refused n p → FirstFaultIs n p (checks old text)
+    by : (f : Finding) → first_fault (checks text) ≡ f → verdict_of f (records_of_text text) ≡ refused n p → FirstFaultIs n p (checks text)
     by clean q e = unfold verdict_of in table_refused e
-    by (fault m r) q e = unfold verdict_of in (let x = refused_is m n r p e in fault_found (checks old text) n p (q ∙ (rw (x.0, x.1))))
+    by (fault m r) q e = unfold verdict_of in (let x = refused_is m n r p e in fault_found (checks text) n p (q ∙ (rw (x.0, x.1))))
 
-pub found_refused : (old : Bool) (text : List ℕ) (n p : ℕ) → FirstFaultIs n p (checks old text) → verdict old text ≡ refused n p
+pub found_refused : (text : List ℕ) (n p : ℕ) → FirstFaultIs n p (checks text) → verdict text ≡ refused n p
 unfolding verdict verdict_of
-found_refused old text n p f = rw (found_fault (checks old text) n p f)
+found_refused text n p f = rw (found_fault (checks text) n p f)
 
 -- a table exactly when no check has a place, and then the records' bytes
-pub table_clean : (old : Bool) (text bytes : List ℕ) → verdict old text ≡ table bytes → AllEmpty (checks old text) × (encode (records_of_text text) ≡ bytes)
+pub table_clean : (text bytes : List ℕ) → verdict text ≡ table bytes → AllEmpty (checks text) × (encode (records_of_text text) ≡ bytes)
 unfolding verdict
-table_clean old text bytes e = by (first_fault (checks old text)) refl e
+table_clean text bytes e = by (first_fault (checks text)) refl e
   where
-    by : (f : Finding) → first_fault (checks old text) ≡ f → verdict_of f (records_of_text text) ≡ table bytes → AllEmpty (checks old text) × (encode (records_of_text text) ≡ bytes)
-    by clean q e = unfold verdict_of in (let x : encode (records_of_text text) ≡ bytes = cc in (clean_empty (checks old text) q, x))
+    by : (f : Finding) → first_fault (checks text) ≡ f → verdict_of f (records_of_text text) ≡ table bytes → AllEmpty (checks text) × (encode (records_of_text text) ≡ bytes)
+    by clean q e = unfold verdict_of in (let x : encode (records_of_text text) ≡ bytes = cc in (clean_empty (checks text) q, x))
     by (fault m r) q e = unfold verdict_of in table_refused (sym e)
 
-pub clean_table : (old : Bool) (text : List ℕ) → AllEmpty (checks old text) → verdict old text ≡ table (encode (records_of_text text))
+pub clean_table : (text : List ℕ) → AllEmpty (checks text) → verdict text ≡ table (encode (records_of_text text))
 unfolding verdict verdict_of
-clean_table old text a = rw (empty_clean (checks old text) a)
+clean_table text a = rw (empty_clean (checks text) a)

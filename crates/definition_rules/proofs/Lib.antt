@@ -7,7 +7,6 @@ pub mod Spots
 -- T4, T5, T7
 pub mod TableLaws
 pub mod FirstFault
-pub mod TwoRules
 -- the steps of number 10
 pub mod FiniteLaws
 -- laws of the scan and of runs, for code

@@ -44,25 +44,25 @@ pub stuck_iff : (ts : List TextToken) (i : ℕ) → (parse_tokens ts ≡ stuck_a
 stuck_iff ts i = (stuck_by ts i, by_stuck ts i)
 
 -- T4. "The lowest number that applies is given, at its smallest place."
-pub refused_iff : (old : Bool) (text : List ℕ) (n p : ℕ) → (verdict old text ≡ refused n p) ↔ FirstFaultIs n p (checks old text)
-refused_iff old text n p = (refused_found old text n p, found_refused old text n p)
+pub refused_iff : (text : List ℕ) (n p : ℕ) → (verdict text ≡ refused n p) ↔ FirstFaultIs n p (checks text)
+refused_iff text n p = (refused_found text n p, found_refused text n p)
 
 -- T5. "Success gives the table's length; bytes beyond it stay." "the table buffer is untouched"
 fits_room : (room : ℕ) (bytes : List ℕ) → length bytes ≤ room → ltb room (length bytes) ≡ false
 fits_room room bytes h = le-ltb room (length bytes) h
 
-pub compiled_lent : (old : Bool) (text bytes lent : List ℕ) → verdict old text ≡ table bytes → length bytes ≤ length lent → (compile_answer old text (length lent) ≡ compiled (length bytes)) × (table_after old text lent ≡ bytes ++ drop (length bytes) lent)
+pub compiled_lent : (text bytes lent : List ℕ) → verdict text ≡ table bytes → length bytes ≤ length lent → (compile_answer text (length lent) ≡ compiled (length bytes)) × (table_after text lent ≡ bytes ++ drop (length bytes) lent)
 unfolding compile_answer answer_with_room table_after lent_after pick
-compiled_lent old text bytes lent e h = rw (e, fits_room (length lent) bytes h) (refl, refl)
+compiled_lent text bytes lent e h = rw (e, fits_room (length lent) bytes h) (refl, refl)
 
 -- 11: "table longer than the lent buffer", "bytes needed"
-pub short_lent : (old : Bool) (text bytes lent : List ℕ) → verdict old text ≡ table bytes → length lent < length bytes → (compile_answer old text (length lent) ≡ refusal 11 (length bytes)) × (table_after old text lent ≡ lent)
+pub short_lent : (text bytes lent : List ℕ) → verdict text ≡ table bytes → length lent < length bytes → (compile_answer text (length lent) ≡ refusal 11 (length bytes)) × (table_after text lent ≡ lent)
 unfolding compile_answer answer_with_room table_after lent_after pick
-short_lent old text bytes lent e h = rw (e, lt-ltb (length lent) (length bytes) h) (refl, refl)
+short_lent text bytes lent e h = rw (e, lt-ltb (length lent) (length bytes) h) (refl, refl)
 
-pub refused_lent : (old : Bool) (text lent : List ℕ) (n p : ℕ) → verdict old text ≡ refused n p → (compile_answer old text (length lent) ≡ refusal n p) × (table_after old text lent ≡ lent)
+pub refused_lent : (text lent : List ℕ) (n p : ℕ) → verdict text ≡ refused n p → (compile_answer text (length lent) ≡ refusal n p) × (table_after text lent ≡ lent)
 unfolding compile_answer answer_with_room table_after lent_after
-refused_lent old text lent n p e = rw e (refl, refl)
+refused_lent text lent n p e = rw e (refl, refl)
 
 -- T7. Decoding after encoding, and back
 pub there_and_back : (rs : List Record) → All Storable rs → decode (encode rs) ≡ just rs

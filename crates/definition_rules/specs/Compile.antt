@@ -1,12 +1,12 @@
 -- The checks in their order, the answer, and the lent table after.
-use Rattle.std.specs.Prelude.{◌≡◌, Bool, List, [], ◌∷◌, ◌++◌, ◌⊎◌, ℕ, ◌≤◌, min, ltb, length, drop, get_or}
+use Rattle.std.specs.Prelude.{◌≡◌, List, [], ◌∷◌, ◌++◌, ◌⊎◌, ℕ, ◌≤◌, min, ltb, length, drop, get_or}
 use Rattle.numbers.specs.Limits.{text_limit, parameter_limit}
 use Rattle.classes.specs.Lists.{pick}
 use Rattle.definition_rules.specs.Scan.{Item, items_of, text_tokens_of, places_of, bad_places, deep_places, place_if}
 use Rattle.definition_rules.specs.Declarations.{Noted, Outcome, stuck_at, complete, parse_tokens, declarations_of}
 use Rattle.reading_rules.specs.Record.{Record}
 use Rattle.definition_rules.specs.Records.{records_of}
-use Rattle.definition_rules.specs.Faults.{name_spots, faults4, faults5, faults6, faults7, faults8, faults9, faults10, faults12}
+use Rattle.definition_rules.specs.Faults.{faults4, faults5, faults6, faults7, faults8, faults9, faults10}
 use Rattle.definition_rules.specs.Table.{encode}
 
 -- a number and all its places
@@ -86,9 +86,8 @@ noted_of (complete ns) = ns
 
 -- ---- the checks
 
--- old: by the old rule, which has no number 12. By the default rule "the check falls between 10 and 11", which is the room's
-unfoldable pub checks_of : Bool → List ℕ → List Item → Outcome (List Noted) → List Noted → List Record → List Check
-checks_of old text items o ns rs =
+unfoldable pub checks_of : List ℕ → List Item → Outcome (List Noted) → List Noted → List Record → List Check
+checks_of text items o ns rs =
     check 1 (faults1 text)
     ∷ check 2 (faults2 items)
     ∷ check 3 (token_places text items (faults3 o))
@@ -99,7 +98,6 @@ checks_of old text items o ns rs =
     ∷ check 8 (token_places text items (faults8 rs ns))
     ∷ check 9 (token_places text items (faults9 rs ns))
     ∷ check 10 (token_places text items (faults10 rs ns))
-    ∷ check 12 (token_places text items (faults12 old rs ns))
     ∷ []
 
 abbrev pub outcome_of : List ℕ → Outcome (List Noted)
@@ -108,18 +106,14 @@ outcome_of text = parse_tokens (text_tokens_of (items_of text))
 abbrev pub records_of_text : List ℕ → List Record
 records_of_text text = records_of (declarations_of (noted_of (outcome_of text)))
 
--- where the name of the p-th parameter stands
-unfoldable pub name_place : List ℕ → ℕ → ℕ
-name_place text p = token_place text (items_of text) (get_or (name_spots (noted_of (outcome_of text))) p 0)
+unfoldable pub checks_after : List ℕ → List Item → Outcome (List Noted) → List Check
+checks_after text items o = checks_of text items o (noted_of o) (records_of (declarations_of (noted_of o)))
 
-unfoldable pub checks_after : Bool → List ℕ → List Item → Outcome (List Noted) → List Check
-checks_after old text items o = checks_of old text items o (noted_of o) (records_of (declarations_of (noted_of o)))
+unfoldable pub checks_from : List ℕ → List Item → List Check
+checks_from text items = checks_after text items (parse_tokens (text_tokens_of items))
 
-unfoldable pub checks_from : Bool → List ℕ → List Item → List Check
-checks_from old text items = checks_after old text items (parse_tokens (text_tokens_of items))
-
-unfoldable pub checks : Bool → List ℕ → List Check
-checks old text = checks_from old text (items_of text)
+unfoldable pub checks : List ℕ → List Check
+checks text = checks_from text (items_of text)
 
 -- ---- the answer
 
@@ -132,8 +126,8 @@ unfoldable pub verdict_of : Finding → List Record → Verdict
 verdict_of clean rs = table (encode rs)
 verdict_of (fault n p) rs = refused n p
 
-unfoldable pub verdict : Bool → List ℕ → Verdict
-verdict old text = verdict_of (first_fault (checks old text)) (records_of_text text)
+unfoldable pub verdict : List ℕ → Verdict
+verdict text = verdict_of (first_fault (checks text)) (records_of_text text)
 
 -- "Answer: number and place"; "Success gives the table's length"
 pub data CompileAnswer : Type 0 where
@@ -158,13 +152,13 @@ unfoldable pub answer_with_room : ℕ → Verdict → CompileAnswer
 answer_with_room room (refused n p) = refusal n p
 answer_with_room room (table bytes) = pick (ltb room (length bytes)) (refusal 11 (length bytes)) (compiled (length bytes))
 
-unfoldable pub compile_answer : Bool → List ℕ → ℕ → CompileAnswer
-compile_answer old text room = answer_with_room room (verdict old text)
+unfoldable pub compile_answer : List ℕ → ℕ → CompileAnswer
+compile_answer text room = answer_with_room room (verdict text)
 
 -- "the table buffer is untouched"; "bytes beyond it stay"
 unfoldable pub lent_after : Verdict → List ℕ → List ℕ
 lent_after (refused n p) lent = lent
 lent_after (table bytes) lent = pick (ltb (length lent) (length bytes)) lent (bytes ++ drop (length bytes) lent)
 
-unfoldable pub table_after : Bool → List ℕ → List ℕ → List ℕ
-table_after old text lent = lent_after (verdict old text) lent
+unfoldable pub table_after : List ℕ → List ℕ → List ℕ
+table_after text lent = lent_after (verdict text) lent

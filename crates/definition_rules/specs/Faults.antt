@@ -1,4 +1,4 @@
--- The refusals 4 to 10 and 12: for each number the spots (numbers of tokens) of all its faults.
+-- The refusals 4 to 10: for each number the spots (numbers of tokens) of all its faults.
 -- What reads only records is a predicate on records, which the rules for a table share.
 use Rattle.std.specs.Prelude.{Bool, true, false, not, ◌&&◌, ◌||◌, List, [], ◌∷◌, ◌++◌, ℕ, zero, suc, leb, ltb, eqb, drop}
 use Rattle.numbers.specs.Limits.{none16, count_limit}
@@ -11,7 +11,7 @@ use Rattle.definition_rules.specs.Scan.{place_if}
 use Rattle.definition_rules.specs.Forms.{MaybeRun, absent, given, Tag, own_name, tagless, explicit, heading}
 use Rattle.definition_rules.specs.Declarations.{Declaration, declaration, Spots, Noted, noted, declarations_of}
 use Rattle.definition_rules.specs.Records.{kind_least, kind_most, limits_of, count_range_of, top_names, find_top, or_none}
-use Rattle.definition_rules.specs.Finite.{can_do_without, ends_needs, finites, is_endless}
+use Rattle.definition_rules.specs.Finite.{finites, is_endless}
 
 -- ---- all spots of one test
 
@@ -203,13 +203,3 @@ faults9 rs ns = record_spots root_no_struct (λ s. s.name_at) 0 rs ns ++ spots_w
 
 abbrev pub faults10 : List Record → List Noted → List ℕ
 faults10 rs ns = record_spots (is_endless (finites rs)) (λ s. s.name_at) 0 rs ns
-
--- ---- 12: "a struct has an untagged field with lo 0 and after it a field that would otherwise have to appear", "that later field's name"
-
--- r, the i-th, is such a later field: no struct can do without it by itself, and before it in its struct stands an untagged field with lo 0
-unfoldable pub is_required_behind : List Record → ℕ → Record → Bool
-is_required_behind rs i r = eqb (parent_kind rs r.parent) 8 && (not (can_do_without r) && any_before i (λ q. beside r q && ends_needs q) rs)
-
--- none by the old rule
-unfoldable pub faults12 : Bool → List Record → List Noted → List ℕ
-faults12 old rs ns = pick old [] (record_spots (is_required_behind rs) (λ s. s.name_at) 0 rs ns)

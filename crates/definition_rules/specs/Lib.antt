@@ -13,4 +13,3 @@ pub mod Finite
 pub mod Faults
 pub mod Compile
 pub mod Stuck
-pub mod Behind

@@ -5,9 +5,8 @@ ghost use Rattle.std.specs.Prelude.{◌≡◌, true, ◌↔◌, ◌≤◌, lengt
 ghost use Rattle.numbers.specs.Limits.{parameter_limit};
 ghost use Rattle.definition_rules.specs.Compile.{numberOfCompile, compile_answer, tableAfter};
 ghost use Rattle.definition_rules.specs.Stuck.{StuckPromise};
-ghost use Rattle.definition_rules.specs.Behind.{RulePromise};
 ghost use Rattle.table_rules.specs.Endless.{EndlessPromise};
-ghost use Rattle.table_rules.specs.Compilable.{Compilable, MadeTable};
+ghost use Rattle.table_rules.specs.Compilable.{Compilable};
 ghost use Rattle.table_rules.specs.RecordRules.{tableRules};
 ghost use Rattle.message_rules.specs.Verdict.{numberOfRead, read_answer, rows_after};
 ghost use Rattle.message_rules.specs.Promise.{ReadPromise};
@@ -18,26 +17,19 @@ use message::Verdict;
 
 const SUCCESS: u32 = 0;
 
-// Compiles a definition into the lent table, by the default rule or the old one. The value is the table's length, or the
-// refusal's place. Where as much is lent as the longest table has, it is never refused for its length.
+// Compiles a definition into the lent table. The value is the table's length, or the refusal's place.
+// Where as much is lent as the longest table has, it is never refused for its length.
 #[unsafe(no_mangle)]
-pub extern "C" fn lumas_compile(
-    text: &[u8],
-    table: &mut [u8],
-    old_rule: bool,
-    value: &mut usize,
-) -> u32
-    ensures value { result ≡ numberOfCompile (compile_answer old_rule text.now (length table.old)) }
-    ensures value_after { value.new ≡ compile_value (compile_answer old_rule text.now (length table.old)) }
-    ensures table_after { table.new ≡ tableAfter old_rule text.now table.old }
-    ensures value_after_2 { compile_heard result value.new ≡ compile_answer old_rule text.now (length table.old) }
+pub extern "C" fn lumas_compile(text: &[u8], table: &mut [u8], value: &mut usize) -> u32
+    ensures value { result ≡ numberOfCompile (compile_answer text.now (length table.old)) }
+    ensures value_after { value.new ≡ compile_value (compile_answer text.now (length table.old)) }
+    ensures table_after { table.new ≡ tableAfter text.now table.old }
+    ensures value_after_2 { compile_heard result value.new ≡ compile_answer text.now (length table.old) }
     ensures stuck_promise { StuckPromise text.now (compile_heard result value.new) }
     ensures endless_promise { EndlessPromise text.now (compile_heard result value.new) }
-    ensures rule_promise { RulePromise old_rule text.now table.old (compile_heard result value.new) table.new }
-    ensures made_table { MadeTable (compile_heard result value.new) table.new }
     ensures fact { tableMost ≤ length table.old → result ≡ 11 → ⊥ }
 {
-    match definition::compile(text, table, old_rule) {
+    match definition::compile(text, table) {
         Compiled::Table(length) => {
             *value = length;
             SUCCESS

@@ -1,4 +1,3 @@
--- What a record is asked about another one, the sweeps that find finite values, and the marks of number 12.
+-- What a record is asked about another one, and the sweeps that find finite values.
 pub mod Besides
 pub mod Sweeps
-pub mod Ended

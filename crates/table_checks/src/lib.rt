@@ -1,12 +1,11 @@
 // The checks of a definition that read only records. In all of them unpacked holds the table's records, n is how many
 // there are, and i is the number of the record that is judged.
-ghost use Rattle.std.specs.Prelude.{◌≡◌, Bool, true, false, not, ◌&&◌, List, ◌+◌, ◌≤◌, ◌<◌, eqb, length, get_or};
+ghost use Rattle.std.specs.Prelude.{◌≡◌, Bool, true, false, List, ◌≤◌, length, get_or};
 ghost use Rattle.reading_rules.specs.Record.{is_top, AfterParents};
 ghost use Rattle.definition_rules.specs.Finite.{can_do_without, ends_needs, is_endless};
-ghost use Rattle.definition_rules.specs.Faults.{void_many, any_before, parent_kind, beside as isBeside, misplaced_field, misplaced_alternative, misplaced_untagged, numberTag, void_top, plugin_undotted, rule7_broken, root_no_struct, is_required_behind};
+ghost use Rattle.definition_rules.specs.Faults.{void_many, any_before, parent_kind, beside as isBeside, misplaced_field, misplaced_alternative, misplaced_untagged, numberTag, void_top, plugin_undotted, rule7_broken, root_no_struct};
 ghost use Rattle.table_records.specs.Stored.{record_in, records_at};
 ghost use Rattle.table_checks.specs.Besides.{is_such};
-ghost use Rattle.table_checks.specs.Ended.{EndedBefore};
 ghost use Rattle.table_checks.specs.Sweeps.{step_by, is_newly_finite, add_if, step_with, gathered, Over, Swept, NoneMarked, HasFinites, AllFinite};
 
 // What is asked of the other records of a body, or of the other tops.
@@ -355,33 +354,4 @@ pub fn only_structs(table: &[u8], unpacked: &[u32], n: usize) -> bool
         i += 1;
     }
     true
-}
-
-// ---- number 12
-
-// A field of a struct that would have to appear, if nothing before it ended the body.
-fn has_to_appear(table: &[u8], unpacked: &[u32], n: usize, i: usize) -> bool
-    ensures { result ≡ eqb (parent_kind (records_at table.now unpacked.now n) (record_in table.now unpacked.now i).parent) 8 && not (can_do_without (record_in table.now unpacked.now i)) }
-{
-    (parent_kind(table, unpacked, n, i) == numbers::STRUCT) & !can_do_without(table, unpacked, i)
-}
-
-// The field i has to appear, and before it in its struct stands an untagged one that may be absent. ended has a mark for each
-// record with such an untagged one among those before i; where i is one, its struct is marked too.
-pub fn is_required_behind(
-    table: &[u8],
-    unpacked: &[u32],
-    n: usize,
-    i: usize,
-    ended: &mut [bool],
-) -> bool
-    requires { (i < n) × EndedBefore table.now unpacked.now n i ended.old }
-    ensures value { result ≡ is_required_behind (records_at table.now unpacked.now n) i (record_in table.now unpacked.now i) }
-    ensures ended_before { EndedBefore table.now unpacked.now n (i + 1) ended.new }
-{
-    let p = table_records::parent_at(table, unpacked, i);
-    let before = numbers::mark_at(ended, p);
-    let ends = ends_needs(table, unpacked, i);
-    numbers::set_mark(ended, p, before | ends);
-    has_to_appear(table, unpacked, n, i) & before
 }

@@ -27,5 +27,3 @@ pub mod Words
 pub mod Make
 pub mod Values
 pub mod Ten
--- number 12, and the two rules
-pub mod Twelve

@@ -60,8 +60,8 @@ and5 a b c d e h =
     let x = both_true a _ h in let y = both_true b _ x.1 in let z = both_true c _ y.1 in let w = both_true d e z.1 in
     (x.0, y.0, z.0, w.0, w.1)
 
-pub all_empty : (text : List ℕ) (items : List Item) (ns : List Noted) (rs : List Record) → length text ≤ text_limit → faults2 items ≡ [] → DeclarationsPass (declarations_of ns) rs → AllEmpty (checks_of true text items (complete ns) ns rs)
-unfolding AllEmpty Empty checks_of faults3 faults12 pick record_checks
+pub all_empty : (text : List ℕ) (items : List Item) (ns : List Noted) (rs : List Record) → length text ≤ text_limit → faults2 items ≡ [] → DeclarationsPass (declarations_of ns) rs → AllEmpty (checks_of text items (complete ns) ns rs)
+unfolding AllEmpty Empty checks_of faults3 record_checks
 all_empty text items ns rs h e p =
     let c = and5 (none_broken void_many 0 rs) (none_broken (rule7_broken rs) 0 rs) (none_broken (tag_repeated rs) 0 rs) (none_broken root_no_struct 0 rs) (none_broken (is_endless (finites rs)) 0 rs) p.records in
     let nil = nil_places text items in (
@@ -84,7 +84,7 @@ all_empty text items ns rs h e p =
                       nil _ (rw (none_spots root_no_struct (λ s. s.name_at) 0 rs ns c.3, all_spots (dangling (top_names (declarations_of ns))) (λ s. s.type_at) ns p.aims)),
                       (
                         nil _ (none_spots (is_endless (finites rs)) (λ s. s.name_at) 0 rs ns c.4),
-                        (nil [] refl, tt),
+                        tt,
                       ),
                     ),
                   ),
@@ -216,9 +216,9 @@ module _ (rs : List Record) (z : Ruled rs) where
   outcome : (ns : List Noted) → parse_tokens ts ≡ complete ns → outcome_of (print_tokens ts) ≡ complete ns
   outcome ns e = ap (λ x. parse_tokens (text_tokens_of x)) items ∙ (ap parse_tokens (spelled_tokens ts 0) ∙ e)
 
-  text_verdict : (ns : List Noted) → parse_tokens ts ≡ complete ns → declarations_of ns ≡ ds → verdict true (print_tokens ts) ≡ table (encode rs)
+  text_verdict : (ns : List Noted) → parse_tokens ts ≡ complete ns → declarations_of ns ≡ ds → verdict (print_tokens ts) ≡ table (encode rs)
   text_verdict ns e d =
-      clean_table true (print_tokens ts) (rw checks_are (all_empty (print_tokens ts) (spelled 0 ts) ns rs short two (rw d passed)))
+      clean_table (print_tokens ts) (rw checks_are (all_empty (print_tokens ts) (spelled 0 ts) ns rs short two (rw d passed)))
       ∙ ap (λ x. table (encode x)) recs
     where
       recs : records_of_text (print_tokens ts) ≡ rs
@@ -227,12 +227,12 @@ module _ (rs : List Record) (z : Ruled rs) where
       two : faults2 (spelled 0 ts) ≡ []
       two = unfold faults2 in (rw (spelled_bad ts 0, nest_deep ts 0 0 shallow))
 
-      checks_are : checks true (print_tokens ts) ≡ checks_of true (print_tokens ts) (spelled 0 ts) (complete ns) ns rs
+      checks_are : checks (print_tokens ts) ≡ checks_of (print_tokens ts) (spelled 0 ts) (complete ns) ns rs
       checks_are = unfold checks checks_from checks_after in (rw (items, spelled_tokens ts 0, e) (unfold noted_of in (rw (d, made_records))))
 
-  pub text_of : (text : List ℕ) × IsBytes text × (verdict true text ≡ table (encode rs))
+  pub text_of : (text : List ℕ) × IsBytes text × (verdict text ≡ table (encode rs))
   text_of = (print_tokens ts, all_bytes (print_tokens ts) (printed_bytes ts good), told_complete (parse_tokens ts) ds read (λ ns e d. text_verdict ns e d))
 
 -- T8, one way: records that the rules allow have a text
-pub rules_text : (limit : ℕ) (rs : List Record) → limit ≤ 256 → record_rules limit rs ≡ true → (text : List ℕ) × IsBytes text × (verdict true text ≡ table (encode rs))
+pub rules_text : (limit : ℕ) (rs : List Record) → limit ≤ 256 → record_rules limit rs ≡ true → (text : List ℕ) × IsBytes text × (verdict text ≡ table (encode rs))
 rules_text limit rs h e = text_of rs (ruled_of limit rs h e)

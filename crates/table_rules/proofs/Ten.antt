@@ -1,5 +1,5 @@
 -- T6 over texts: number 10 is given exactly when some struct or union has no lawful value, at the first one's name.
-use mathlib.Core.Path.{◌≡◌, refl, ap, sym, subst, ◌∙◌}
+use mathlib.Core.Path.{◌≡◌, refl, ap, sym, ◌∙◌}
 use mathlib.Core.Bool.{Bool, true, false}
 use mathlib.Core.List.{List, [], ◌∷◌}
 use mathlib.Core.Logic.{◌↔◌, inl, inr}
@@ -13,12 +13,11 @@ use Rattle.reading_rules.specs.Record.{Record, record_at}
 use Rattle.definition_rules.specs.Scan.{Item, items_of, place_if}
 use Rattle.definition_rules.specs.Declarations.{Noted, noted, Outcome, declarations_of}
 use Rattle.definition_rules.specs.Records.{top_names, records_of}
-use Rattle.definition_rules.specs.Faults.{record_spots, name_spots, faults10, faults12}
+use Rattle.definition_rules.specs.Faults.{record_spots, name_spots, faults10}
 use Rattle.definition_rules.specs.Finite.{finites, is_endless}
-use Rattle.definition_rules.specs.Compile.{check, Finding, clean, fault, least_of, finding_of, first_fault, token_place, token_places, noted_of, outcome_of, records_of_text, name_place, checks, checks_from, checks_after, checks_of, verdict_of, Verdict, refused, table, verdict, compiled, refusal, answer_with_room, compile_answer, IsPlace, Least}
+use Rattle.definition_rules.specs.Compile.{check, Finding, clean, fault, least_of, finding_of, first_fault, token_place, token_places, noted_of, outcome_of, records_of_text, checks, checks_from, checks_after, checks_of, verdict_of, Verdict, refused, table, verdict, compiled, refusal, answer_with_room, compile_answer, IsPlace, Least}
 use Rattle.definition_rules.proofs.FirstFault.{least_of_lem, pass}
-use Rattle.definition_rules.proofs.TwoRules.{TwoRules, both_refuse, both_take, default_refuses, two_rules}
-use Rattle.table_rules.specs.Endless.{LawfulValue, Compound, FirstEndless, EndlessPromise}
+use Rattle.table_rules.specs.Endless.{LawfulValue, Compound, name_place, FirstEndless, EndlessPromise}
 use Rattle.table_rules.proofs.TextRules.{length_records, noted_length, text_ten, text_rules_records}
 use Rattle.table_rules.proofs.Facts.{Formed}
 use Rattle.table_rules.proofs.Values.{endless_iff, rules_values}
@@ -29,7 +28,7 @@ module _ (text : List ℕ) (items : List Item) (f : ℕ → Record → Bool) whe
   abbrev named : List Noted → ℕ → ℕ
   named ns k = token_place text items (get_or (name_spots ns) k 0)
 
-  pub spots_in_lem : (i : ℕ) (rs : List Record) (ns : List Noted) (q : ℕ) → IsPlace q (token_places text items (record_spots f (λ s. s.name_at) i rs ns)) → (k : ℕ) × (k < length rs) × (f (i + k) (record_at rs k) ≡ true) × (q ≡ named ns k)
+  spots_in_lem : (i : ℕ) (rs : List Record) (ns : List Noted) (q : ℕ) → IsPlace q (token_places text items (record_spots f (λ s. s.name_at) i rs ns)) → (k : ℕ) × (k < length rs) × (f (i + k) (record_at rs k) ≡ true) × (q ≡ named ns k)
   unfolding record_spots place_if token_places IsPlace name_spots record_at
   spots_in_lem i [] ns q h = absurd h
   spots_in_lem i (r ∷ rs) [] q h = absurd h
@@ -43,7 +42,7 @@ module _ (text : List ℕ) (items : List Item) (f : ℕ → Record → Bool) whe
       go true e k (inr h) = k h
       go false e k h = k h
 
-  pub in_spots : (i : ℕ) (rs : List Record) (ns : List Noted) → length rs ≡ length ns → (k : ℕ) → k < length rs → f (i + k) (record_at rs k) ≡ true → IsPlace (named ns k) (token_places text items (record_spots f (λ s. s.name_at) i rs ns))
+  in_spots : (i : ℕ) (rs : List Record) (ns : List Noted) → length rs ≡ length ns → (k : ℕ) → k < length rs → f (i + k) (record_at rs k) ≡ true → IsPlace (named ns k) (token_places text items (record_spots f (λ s. s.name_at) i rs ns))
   unfolding record_spots place_if token_places IsPlace name_spots record_at
   in_spots i [] ns l k h e = absurd (omega arith)
   in_spots i (r ∷ rs) [] l k h e = absurd (omega (arith, l))
@@ -56,7 +55,7 @@ module _ (text : List ℕ) (items : List Item) (f : ℕ → Record → Bool) whe
 
 -- ---- a text refused with 10 or more: its number is 10, and its place the least of that check
 
-tenth : (n p : ℕ) (ps : List ℕ) → first_fault (check 10 ps ∷ check 12 [] ∷ []) ≡ fault n p → (n ≡ 10) × Least p ps
+tenth : (n p : ℕ) (ps : List ℕ) → first_fault (check 10 ps ∷ []) ≡ fault n p → (n ≡ 10) × Least p ps
 unfolding first_fault finding_of
 tenth n p [] e = let z : ◌≡◌ {A = ℕ} 0 1 = cc in absurd (omega arith)
 tenth n p (q ∷ r) e =
@@ -64,8 +63,8 @@ tenth n p (q ∷ r) e =
     let b : least_of q r ≡ p = cc in
     (sym a, rw (← b) (least_of_lem q r))
 
-reaches : (text : List ℕ) (items : List Item) (o : Outcome (List Noted)) (ns : List Noted) (rs : List Record) (n p : ℕ) → first_fault (checks_of true text items o ns rs) ≡ fault n p → 10 ≤ n → (n ≡ 10) × Least p (token_places text items (faults10 rs ns))
-unfolding checks_of faults12 pick token_places
+reaches : (text : List ℕ) (items : List Item) (o : Outcome (List Noted)) (ns : List Noted) (rs : List Record) (n p : ℕ) → first_fault (checks_of text items o ns rs) ≡ fault n p → 10 ≤ n → (n ≡ 10) × Least p (token_places text items (faults10 rs ns))
+unfolding checks_of
 reaches text items o ns rs n p e h =
     let a = pass 1 n p _ _ e (λ z. omega arith) in
     let b = pass 2 n p _ _ a.1 (λ z. omega arith) in
@@ -78,25 +77,25 @@ reaches text items o ns rs n p e h =
     let k = pass 9 n p _ _ j.1 (λ z. omega arith) in
     tenth n p _ k.1
 
-refused_fault : (text : List ℕ) (n p : ℕ) → verdict true text ≡ refused n p → first_fault (checks true text) ≡ fault n p
+refused_fault : (text : List ℕ) (n p : ℕ) → verdict text ≡ refused n p → first_fault (checks text) ≡ fault n p
 unfolding verdict
-refused_fault text n p v = go (first_fault (checks true text)) v
+refused_fault text n p v = go (first_fault (checks text)) v
   where
     go : (f : Finding) → verdict_of f (records_of_text text) ≡ refused n p → f ≡ fault n p
     go clean e = unfold verdict_of in (let z : ◌≡◌ {A = ℕ} 0 1 = cc in absurd (omega arith))
     go (fault m r) e = unfold verdict_of in (let x : m ≡ n = cc in let y : r ≡ p = cc in rw (x, y))
 
-last_check : (text : List ℕ) (n p : ℕ) → verdict true text ≡ refused n p → 10 ≤ n → (n ≡ 10) × Least p (token_places text (items_of text) (faults10 (records_of_text text) (noted_of (outcome_of text))))
+last_check : (text : List ℕ) (n p : ℕ) → verdict text ≡ refused n p → 10 ≤ n → (n ≡ 10) × Least p (token_places text (items_of text) (faults10 (records_of_text text) (noted_of (outcome_of text))))
 last_check text n p v h = reaches text (items_of text) (outcome_of text) (noted_of (outcome_of text)) (records_of_text text) n p (unfold checks checks_from checks_after in (refused_fault text n p v)) h
 
 -- ---- T6
 
-pub records_length : (text : List ℕ) → length (records_of_text text) ≡ length (noted_of (outcome_of text))
+records_length : (text : List ℕ) → length (records_of_text text) ≡ length (noted_of (outcome_of text))
 unfolding records_of
 records_length text = length_records (top_names (declarations_of (noted_of (outcome_of text)))) (declarations_of (noted_of (outcome_of text))) ∙ sym (noted_length (noted_of (outcome_of text)))
 
 -- the endless parameters are those at the check's places
-module _ (text : List ℕ) (p : ℕ) (v : verdict true text ≡ refused 10 p) where
+module _ (text : List ℕ) (p : ℕ) (v : verdict text ≡ refused 10 p) where
   abbrev rs : List Record
   rs = records_of_text text
 
@@ -129,41 +128,25 @@ module _ (text : List ℕ) (p : ℕ) (v : verdict true text ≡ refused 10 p) wh
       omega (arith, a, b, f.named, g.named)
 
 -- a text that compiles has no endless parameter
-no_endless : (text bytes : List ℕ) (place : ℕ) → verdict true text ≡ table bytes → FirstEndless text place → ⊥
+no_endless : (text bytes : List ℕ) (place : ℕ) → verdict text ≡ table bytes → FirstEndless text place → ⊥
 no_endless text bytes place v f =
     f.no_value (rules_values parameter_limit (records_of_text text) (text_rules_records text bytes v) f.parameter f.compound.0 f.compound.1)
 
-endless_old : (text : List ℕ) (room : ℕ) → EndlessPromise text (compile_answer true text room)
+pub endless_promise : (text : List ℕ) (room : ℕ) → EndlessPromise text (compile_answer text room)
 unfolding compile_answer
-endless_old text room free place = by (verdict true text) refl free
+endless_promise text room free place = by (verdict text) refl free
   where
     not_10 : (bytes : List ℕ) (b : Bool) → pick b (refusal 11 (length bytes)) (compiled (length bytes)) ≡ refusal 10 place → ⊥
     not_10 bytes true e = unfold pick in (let z : ◌≡◌ {A = ℕ} 11 10 = cc in omega arith)
     not_10 bytes false e = unfold pick in (let z : ◌≡◌ {A = ℕ} 0 1 = cc in omega arith)
 
-    by : (w : Verdict) → verdict true text ≡ w → ((n p : ℕ) → answer_with_room room w ≡ refusal n p → 10 ≤ n) → (answer_with_room room w ≡ refusal 10 place) ↔ FirstEndless text place
+    by : (w : Verdict) → verdict text ≡ w → ((n p : ℕ) → answer_with_room room w ≡ refusal n p → 10 ≤ n) → (answer_with_room room w ≡ refusal 10 place) ↔ FirstEndless text place
     by (table bytes) v h = unfold answer_with_room in ((λ e. absurd (not_10 bytes (ltb room (length bytes)) e)), λ f. absurd (no_endless text bytes place v f))
     by (refused n p) v h = unfold answer_with_room in (given (last_check text n p v (h n p (unfold answer_with_room in refl))).0)
       where
         given : n ≡ 10 → (refusal n p ≡ refusal 10 place) ↔ FirstEndless text place
         given q =
-            let w : verdict true text ≡ refused 10 p = v ∙ ap (λ m. refused m p) q in (
+            let w : verdict text ≡ refused 10 p = v ∙ ap (λ m. refused m p) q in (
               (λ e. let z : p ≡ place = cc in rw (← z) (first_endless text p w)),
               λ f. rw (q, only_first text p w place f) refl,
             )
-
--- by either rule: what the default rule alone refuses, with 12, has no endless parameter either
-pub endless_promise : (old : Bool) (text : List ℕ) (room : ℕ) → EndlessPromise text (compile_answer old text room)
-endless_promise true text room = endless_old text room
-endless_promise false text room = by (two_rules text)
-  where
-    same : verdict false text ≡ verdict true text → EndlessPromise text (compile_answer false text room)
-    same e = subst (EndlessPromise text) (unfold compile_answer in (ap (answer_with_room room) (sym e))) (endless_old text room)
-
-    not_10 : (p place : ℕ) → verdict false text ≡ refused 12 p → compile_answer false text room ≡ refusal 10 place → ⊥
-    not_10 p place v e = unfold compile_answer answer_with_room in (let w = ap (answer_with_room room) (sym v) ∙ e in let z : ◌≡◌ {A = ℕ} 12 10 = cc in omega arith)
-
-    by : TwoRules text → EndlessPromise text (compile_answer false text room)
-    by (both_refuse n p a b v) = same (v false ∙ sym (v true))
-    by (both_take q v) = same (v false ∙ sym (v true))
-    by (default_refuses p l v w) = λ free place. ((λ e. absurd (not_10 p place v e)), λ f. absurd (no_endless text _ place w f))

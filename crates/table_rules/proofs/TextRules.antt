@@ -23,7 +23,7 @@ use Rattle.definition_rules.specs.Declarations.{declare, tree_declarations, pare
 use Rattle.definition_rules.specs.Finite.{finites, is_endless}
 use Rattle.definition_rules.specs.Table.{up_number, encode, decode, Maybe, none, just, Storable}
 use Rattle.definition_rules.specs.Records.{kind_least, kind_most, limits_of, count_range_of, top_name, top_names, is_named, find_top, or_none, target_of, is_tagless, label_of, record_for, records_for, records_of}
-use Rattle.definition_rules.specs.Faults.{spots_where, record_spots, name_spots, faults4, name_broken, reference_broken, tag_broken_in, tag_broken, faults5, within_kind, count_fine, range_broken, count_broken, kind_of_declaration, kinds_of, is_union_at, is_alternative, is_given, count_on_alternative, void_many, faults6, rule7_broken, faults7, name_key, repeated_names, tag_repeated, faults8, root_no_struct, dangling, faults9, faults10, faults12, Key, key}
+use Rattle.definition_rules.specs.Faults.{spots_where, record_spots, name_spots, faults4, name_broken, reference_broken, tag_broken_in, tag_broken, faults5, within_kind, count_fine, range_broken, count_broken, kind_of_declaration, kinds_of, is_union_at, is_alternative, is_given, count_on_alternative, void_many, faults6, rule7_broken, faults7, name_key, repeated_names, tag_repeated, faults8, root_no_struct, dangling, faults9, faults10, Key, key}
 use Rattle.definition_rules.specs.Compile.{faults2, faults3, noted_of, checks_of, outcome_of, records_of_text, checks_after, checks_from, checks, verdict, verdict_of, clean, refused, table, check, Finding, fault, finding_of, first_fault, token_places, faults1, Empty, AllEmpty}
 use Rattle.table_rules.specs.RecordRules.{is_open, closed_to, in_extension, push_if, may_stand, stands_in, ordered, kinds_of_records, is_single_value, is_top_at, target_fine, shows_name, label_fine, top_fine, record_fine, every_record, none_broken, key_if, shown_names, record_checks, record_rules, rules_of, table_rules}
 use Rattle.definition_rules.proofs.TableLaws.{decode_encode, encode_decode}
@@ -368,7 +368,7 @@ pub record ChecksCleared (items : List Item) (ns : List Noted) (rs : List Record
   pub eight : faults8 rs ns ≡ []
   pub nine : faults9 rs ns ≡ []
 
-cleared : (text : List ℕ) (items : List Item) (o : Outcome (List Noted)) (ns : List Noted) (rs : List Record) → AllEmpty (checks_of true text items o ns rs) → ChecksCleared items ns rs × (faults3 o ≡ []) × (faults10 rs ns ≡ [])
+cleared : (text : List ℕ) (items : List Item) (o : Outcome (List Noted)) (ns : List Noted) (rs : List Record) → AllEmpty (checks_of text items o ns rs) → ChecksCleared items ns rs × (faults3 o ≡ []) × (faults10 rs ns ≡ [])
 unfolding AllEmpty Empty checks_of
 cleared text items o ns rs a =
     let nil = places_nil text items in
@@ -478,7 +478,7 @@ module _ (items : List Item) (ns : List Noted) (e : parse_tokens (text_tokens_of
 
 -- ---- number 10 is given: what the other checks leave
 
-cleared_ten : (text : List ℕ) (items : List Item) (o : Outcome (List Noted)) (ns : List Noted) (rs : List Record) (p : ℕ) → first_fault (checks_of true text items o ns rs) ≡ fault 10 p → ChecksCleared items ns rs × (faults3 o ≡ []) × (faults10 rs ns ≡ [] → ⊥)
+cleared_ten : (text : List ℕ) (items : List Item) (o : Outcome (List Noted)) (ns : List Noted) (rs : List Record) (p : ℕ) → first_fault (checks_of text items o ns rs) ≡ fault 10 p → ChecksCleared items ns rs × (faults3 o ≡ []) × (faults10 rs ns ≡ [] → ⊥)
 unfolding checks_of
 cleared_ten text items o ns rs p e =
     let nil = places_nil text items in
@@ -493,11 +493,11 @@ cleared_ten text items o ns rs p e =
     let j = pass 9 10 p (token_places text items (faults9 rs ns)) _ i.1 (λ z. omega arith) in
     (record { two = b.0; four = nil _ d.0; five = nil _ f.0; six = nil _ g.0; seven = nil _ h.0; eight = nil _ i.0; nine = nil _ j.0 }, nil _ c.0, λ z. last_check (faults10 rs ns) z j.1)
   where
-    last_check : (fs : List ℕ) → fs ≡ [] → first_fault (check 10 (token_places text items fs) ∷ check 12 (token_places text items (faults12 true rs ns)) ∷ []) ≡ fault 10 p → ⊥
+    last_check : (fs : List ℕ) → fs ≡ [] → first_fault (check 10 (token_places text items fs) ∷ []) ≡ fault 10 p → ⊥
     last_check fs z q = none_left (rw z at q)
       where
-        none_left : first_fault (check 10 (token_places text items []) ∷ check 12 (token_places text items (faults12 true rs ns)) ∷ []) ≡ fault 10 p → ⊥
-        none_left q = unfold faults12 pick token_places first_fault finding_of in (let y : ◌≡◌ {A = ℕ} 0 1 = cc in omega arith)
+        none_left : first_fault (check 10 (token_places text items []) ∷ []) ≡ fault 10 p → ⊥
+        none_left q = unfold token_places first_fault finding_of in (let y : ◌≡◌ {A = ℕ} 0 1 = cc in omega arith)
 
 -- ---- T8, the other way
 
@@ -509,14 +509,14 @@ rules_at : (bytes : List ℕ) (l : List Record) → encode l ≡ bytes → decod
 unfolding table_rules rules_of
 rules_at bytes l b d r = ap (rules_of parameter_limit) (ap decode (sym b) ∙ d) ∙ r
 
-pub text_rules : (text bytes : List ℕ) → verdict true text ≡ table bytes → table_rules parameter_limit bytes ≡ true
+pub text_rules : (text bytes : List ℕ) → verdict text ≡ table bytes → table_rules parameter_limit bytes ≡ true
 text_rules text bytes v = by (outcome_of text) refl
   where
-    clean : AllEmpty (checks true text) × (encode (records_of_text text) ≡ bytes)
-    clean = table_clean true text bytes v
+    clean : AllEmpty (checks text) × (encode (records_of_text text) ≡ bytes)
+    clean = table_clean text bytes v
 
-    emptied : (o : Outcome (List Noted)) → outcome_of text ≡ o → AllEmpty (checks_of true text (items_of text) o (noted_of o) (records_of (declarations_of (noted_of o))))
-    emptied o e = subst (λ q. AllEmpty (checks_of true text (items_of text) q (noted_of q) (records_of (declarations_of (noted_of q))))) e (unfold checks checks_from checks_after in clean.0)
+    emptied : (o : Outcome (List Noted)) → outcome_of text ≡ o → AllEmpty (checks_of text (items_of text) o (noted_of o) (records_of (declarations_of (noted_of o))))
+    emptied o e = subst (λ q. AllEmpty (checks_of text (items_of text) q (noted_of q) (records_of (declarations_of (noted_of q))))) e (unfold checks checks_from checks_after in clean.0)
 
     by : (o : Outcome (List Noted)) → outcome_of text ≡ o → table_rules parameter_limit bytes ≡ true
     by (stuck_at i) e = absurd (stuck_some i (cleared text (items_of text) (stuck_at i) (noted_of (stuck_at i)) (records_of (declarations_of (noted_of (stuck_at i)))) (emptied (stuck_at i) e)).1)
@@ -534,11 +534,11 @@ text_rules text bytes v = by (outcome_of text) refl
             rules_at bytes (records_for (top_names (declarations_of ns)) (declarations_of ns)) b d r
 
 -- the records of a text that compiles keep the rules
-pub text_rules_records : (text bytes : List ℕ) → verdict true text ≡ table bytes → record_rules parameter_limit (records_of_text text) ≡ true
+pub text_rules_records : (text bytes : List ℕ) → verdict text ≡ table bytes → record_rules parameter_limit (records_of_text text) ≡ true
 text_rules_records text bytes v = by (outcome_of text) refl
   where
-    emptied : (o : Outcome (List Noted)) → outcome_of text ≡ o → AllEmpty (checks_of true text (items_of text) o (noted_of o) (records_of (declarations_of (noted_of o))))
-    emptied o e = subst (λ q. AllEmpty (checks_of true text (items_of text) q (noted_of q) (records_of (declarations_of (noted_of q))))) e (unfold checks checks_from checks_after in (table_clean true text bytes v).0)
+    emptied : (o : Outcome (List Noted)) → outcome_of text ≡ o → AllEmpty (checks_of text (items_of text) o (noted_of o) (records_of (declarations_of (noted_of o))))
+    emptied o e = subst (λ q. AllEmpty (checks_of text (items_of text) q (noted_of q) (records_of (declarations_of (noted_of q))))) e (unfold checks checks_from checks_after in (table_clean text bytes v).0)
 
     by : (o : Outcome (List Noted)) → outcome_of text ≡ o → record_rules parameter_limit (records_of_text text) ≡ true
     by (stuck_at i) e = absurd (stuck_some i (cleared text (items_of text) (stuck_at i) (noted_of (stuck_at i)) (records_of (declarations_of (noted_of (stuck_at i)))) (emptied (stuck_at i) e)).1)
@@ -556,18 +556,18 @@ text_rules_records text bytes v = by (outcome_of text) refl
 abbrev pub TenLeft : List Record → Type 0
 TenLeft rs = (every_record (record_fine rs (is_union_at (kinds_of_records rs))) rs ≡ true) × (none_broken (rule7_broken rs) 0 rs ≡ true) × (none_broken (tag_repeated rs) 0 rs ≡ true) × (none_broken (is_endless (finites rs)) 0 rs ≡ true → ⊥)
 
-pub text_ten : (text : List ℕ) (p : ℕ) → verdict true text ≡ refused 10 p → TenLeft (records_of_text text)
+pub text_ten : (text : List ℕ) (p : ℕ) → verdict text ≡ refused 10 p → TenLeft (records_of_text text)
 text_ten text p v = by (outcome_of text) refl
   where
-    first_is : first_fault (checks true text) ≡ fault 10 p
-    first_is = go (first_fault (checks true text)) (unfold verdict in v)
+    first_is : first_fault (checks text) ≡ fault 10 p
+    first_is = go (first_fault (checks text)) (unfold verdict in v)
       where
         go : (f : Finding) → verdict_of f (records_of_text text) ≡ refused 10 p → f ≡ fault 10 p
         go clean e = unfold verdict_of in (let z : ◌≡◌ {A = ℕ} 0 1 = cc in absurd (omega arith))
         go (fault m r) e = unfold verdict_of in (let x : m ≡ 10 = cc in let y : r ≡ p = cc in rw (x, y))
 
-    at : (o : Outcome (List Noted)) → outcome_of text ≡ o → first_fault (checks_of true text (items_of text) o (noted_of o) (records_of (declarations_of (noted_of o)))) ≡ fault 10 p
-    at o e = subst (λ q. first_fault (checks_of true text (items_of text) q (noted_of q) (records_of (declarations_of (noted_of q)))) ≡ fault 10 p) e (unfold checks checks_from checks_after in first_is)
+    at : (o : Outcome (List Noted)) → outcome_of text ≡ o → first_fault (checks_of text (items_of text) o (noted_of o) (records_of (declarations_of (noted_of o)))) ≡ fault 10 p
+    at o e = subst (λ q. first_fault (checks_of text (items_of text) q (noted_of q) (records_of (declarations_of (noted_of q)))) ≡ fault 10 p) e (unfold checks checks_from checks_after in first_is)
 
     by : (o : Outcome (List Noted)) → outcome_of text ≡ o → TenLeft (records_of_text text)
     by (stuck_at i) e = absurd (stuck_some i (cleared_ten text (items_of text) (stuck_at i) (noted_of (stuck_at i)) (records_of (declarations_of (noted_of (stuck_at i)))) p (at (stuck_at i) e)).1)
@@ -583,9 +583,9 @@ text_ten text p v = by (outcome_of text) refl
             (g.0, g.1, g.2, λ z. t (none_spots (is_endless (finites (records_for (top_names (declarations_of ns)) (declarations_of ns)))) (λ s. s.name_at) 0 (records_for (top_names (declarations_of ns)) (declarations_of ns)) ns z))
 
 -- T8, over bytes: a table obeys the rules exactly when some text compiles to it
-pub table_text : (bytes : List ℕ) → All Byte bytes → table_rules parameter_limit bytes ≡ true → (text : List ℕ) × IsBytes text × (verdict true text ≡ table bytes)
+pub table_text : (bytes : List ℕ) → All Byte bytes → table_rules parameter_limit bytes ≡ true → (text : List ℕ) × IsBytes text × (verdict text ≡ table bytes)
 table_text bytes h e = by (decode bytes) refl (unfold table_rules in e)
   where
-    by : (m : Maybe (List Record)) → decode bytes ≡ m → rules_of parameter_limit m ≡ true → (text : List ℕ) × IsBytes text × (verdict true text ≡ table bytes)
+    by : (m : Maybe (List Record)) → decode bytes ≡ m → rules_of parameter_limit m ≡ true → (text : List ℕ) × IsBytes text × (verdict text ≡ table bytes)
     by none q e = unfold rules_of in (clash_bool e)
     by (just l) q e = let x = rules_text parameter_limit l (omega arith) (unfold rules_of in e) in (x.0, x.1, x.2 ∙ ap table (encode_decode bytes l h q))

@@ -15,67 +15,51 @@ use Rattle.numbers.specs.Limits.{parameter_limit}
 use Rattle.reading_rules.specs.Record.{Record}
 use Rattle.reading_rules.proofs.CountLaws.{clash_bool}
 use Rattle.definition_rules.specs.Table.{Maybe, none, just, decode}
-use Rattle.definition_rules.specs.Compile.{CompileAnswer, Verdict, refused, table, verdict, compiled, refusal, answer_with_room, compile_answer, table_after}
+use Rattle.definition_rules.specs.Compile.{Verdict, refused, table, verdict, compiled, refusal, answer_with_room, compile_answer, table_after}
 use Rattle.definition_rules.proofs.Theorems.{compiled_lent}
-use Rattle.definition_rules.proofs.TwoRules.{old_table}
-use Rattle.table_rules.specs.Compilable.{CompilesTo, Compilable, MadeTable}
+use Rattle.table_rules.specs.Compilable.{CompilesTo, Compilable}
 use Rattle.table_rules.specs.RecordRules.{record_rules, rules_of, table_rules}
 use Rattle.table_rules.proofs.TextRules.{text_rules, table_text}
 use Rattle.table_rules.proofs.TextBytes.{bytes_all}
 
 -- what a text compiles to with a room that is large enough, and back
-compiles : (old : Bool) (text bytes : List ℕ) → verdict old text ≡ table bytes → CompilesTo old text (length bytes) bytes
-compiles old text bytes v =
+compiles : (text bytes : List ℕ) → verdict text ≡ table bytes → CompilesTo text (length bytes) bytes
+compiles text bytes v =
     record {
       answer = answers (length bytes) (omega arith);
-      after = λ lent q. let x = compiled_lent old text bytes lent v (omega arith) in ap (take (length bytes)) x.1 ∙ take_at bytes (drop (length bytes) lent) (length bytes) refl;
+      after = λ lent q. let x = compiled_lent text bytes lent v (omega arith) in ap (take (length bytes)) x.1 ∙ take_at bytes (drop (length bytes) lent) (length bytes) refl;
     }
   where
-    answers : (room : ℕ) → length bytes ≤ room → compile_answer old text room ≡ compiled (length bytes)
+    answers : (room : ℕ) → length bytes ≤ room → compile_answer text room ≡ compiled (length bytes)
     answers room h = unfold compile_answer answer_with_room pick in (rw (v, le-ltb room (length bytes) h))
 
 -- a refusal is no success
-compiled_table : (old : Bool) (text table' : List ℕ) (room : ℕ) → compile_answer old text room ≡ compiled (length table') → ((bytes : List ℕ) → verdict old text ≡ table bytes → length bytes ≤ room → length bytes ≡ length table' → verdict old text ≡ table table') → verdict old text ≡ table table'
+compiled_table : (text table' : List ℕ) (room : ℕ) → compile_answer text room ≡ compiled (length table') → ((bytes : List ℕ) → verdict text ≡ table bytes → length bytes ≤ room → length bytes ≡ length table' → verdict text ≡ table table') → verdict text ≡ table table'
 unfolding compile_answer
-compiled_table old text table' room e k = by (verdict old text) refl e
+compiled_table text table' room e k = by (verdict text) refl e
   where
-    room_for : (bytes : List ℕ) → verdict old text ≡ table bytes → (b : Bool) → ltb room (length bytes) ≡ b → pick b (refusal 11 (length bytes)) (compiled (length bytes)) ≡ compiled (length table') → verdict old text ≡ table table'
+    room_for : (bytes : List ℕ) → verdict text ≡ table bytes → (b : Bool) → ltb room (length bytes) ≡ b → pick b (refusal 11 (length bytes)) (compiled (length bytes)) ≡ compiled (length table') → verdict text ≡ table table'
     room_for bytes v true q e = unfold pick in (let z : ◌≡◌ {A = ℕ} 0 1 = cc in absurd (omega arith))
     room_for bytes v false q e = unfold pick in (let z : length bytes ≡ length table' = cc in k bytes v (ltb-false room (length bytes) q) z)
 
-    by : (v : Verdict) → verdict old text ≡ v → answer_with_room room v ≡ compiled (length table') → verdict old text ≡ table table'
+    by : (v : Verdict) → verdict text ≡ v → answer_with_room room v ≡ compiled (length table') → verdict text ≡ table table'
     by (refused n p) v e = unfold answer_with_room in (let z : ◌≡◌ {A = ℕ} 0 1 = cc in absurd (omega arith))
     by (table bytes) v e = unfold answer_with_room in (room_for bytes v (ltb room (length bytes)) refl e)
 
-compiles_back : (old : Bool) (text bytes : List ℕ) (room : ℕ) → CompilesTo old text room bytes → verdict old text ≡ table bytes
-compiles_back old text bytes room c = compiled_table old text bytes room c.answer (λ made v h l.
+compiles_back : (text bytes : List ℕ) (room : ℕ) → CompilesTo text room bytes → verdict text ≡ table bytes
+compiles_back text bytes room c = compiled_table text bytes room c.answer (λ made v h l.
     let lent : List ℕ = replicate room 0 in
     let n : length lent ≡ room = length-replicate room 0 in
-    let x = compiled_lent old text made lent v (omega arith) in
-    let t : take (length bytes) (table_after old text lent) ≡ made = ap (take (length bytes)) x.1 ∙ take_at made (drop (length made) lent) (length bytes) l in
+    let x = compiled_lent text made lent v (omega arith) in
+    let t : take (length bytes) (table_after text lent) ≡ made = ap (take (length bytes)) x.1 ∙ take_at made (drop (length made) lent) (length bytes) l in
     v ∙ ap table (sym t ∙ c.after lent n))
 
 -- T8. The rules hold of a table exactly when some text compiles to it
 pub rules_iff : (bytes : List ℕ) → IsBytes bytes → (table_rules parameter_limit bytes ≡ true) ↔ Compilable bytes
 rules_iff bytes h = (
-  (λ e. let x = table_text bytes (bytes_all bytes h) e in (x.0, x.1, length bytes, compiles true x.0 bytes x.2)),
-  λ x. text_rules x.0 bytes (compiles_back true x.0 bytes x.2 x.3),
+  (λ e. let x = table_text bytes (bytes_all bytes h) e in (x.0, x.1, length bytes, compiles x.0 bytes x.2)),
+  λ x. text_rules x.0 bytes (compiles_back x.0 bytes x.2 x.3),
 )
-
--- what a text compiles to, by either rule, is a table that some text compiles to by the old one
-pub made_table : (old : Bool) (text lent : List ℕ) → IsBytes text → MadeTable (compile_answer old text (length lent)) (table_after old text lent)
-made_table old text lent h k e = by (verdict old text) refl (unfold compile_answer in e)
-  where
-    made : (bytes : List ℕ) → verdict old text ≡ table bytes → (b : Bool) → ltb (length lent) (length bytes) ≡ b → pick b (refusal 11 (length bytes)) (compiled (length bytes)) ≡ compiled k → Compilable (take k (table_after old text lent))
-    made bytes v true q e = unfold pick in (let z : ◌≡◌ {A = ℕ} 0 1 = cc in absurd (omega arith))
-    made bytes v false q e =
-        let z : length bytes ≡ k = unfold pick in cc in
-        let t : take k (table_after old text lent) ≡ bytes = ap (take k) (compiled_lent old text bytes lent v (ltb-false (length lent) (length bytes) q)).1 ∙ take_at bytes (drop (length bytes) lent) k (sym z) in
-        rw t (text, h, length bytes, compiles true text bytes (old_table old text bytes v))
-
-    by : (v : Verdict) → verdict old text ≡ v → answer_with_room (length lent) v ≡ compiled k → Compilable (take k (table_after old text lent))
-    by (refused n p) v e = unfold answer_with_room in (let z : ◌≡◌ {A = ℕ} 0 1 = cc in absurd (omega arith))
-    by (table bytes) v e = unfold answer_with_room in (made bytes v (ltb (length lent) (length bytes)) refl e)
 
 -- 20: "no definition compiles to this table"
 pub no_text_iff : (bytes : List ℕ) → IsBytes bytes → (table_rules parameter_limit bytes ≡ false) ↔ (Compilable bytes → ⊥)
@@ -96,5 +80,5 @@ bytes_records bytes e = by (decode bytes) refl (unfold table_rules in e)
     by none q e = unfold rules_of in (clash_bool e)
     by (just rs) q e = (rs, q, unfold rules_of in e)
 
-pub text_records : (text bytes : List ℕ) → verdict true text ≡ table bytes → (rs : List Record) × (decode bytes ≡ just rs) × (record_rules parameter_limit rs ≡ true)
+pub text_records : (text bytes : List ℕ) → verdict text ≡ table bytes → (rs : List Record) × (decode bytes ≡ just rs) × (record_rules parameter_limit rs ≡ true)
 text_records text bytes v = bytes_records bytes (text_rules text bytes v)

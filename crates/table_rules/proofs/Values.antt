@@ -119,5 +119,5 @@ rules_root limit rs e =
     let s = root_struct rs k in
     root_body (schema_of rs) s.0 s.1 v.0 v.1 v.2
 
-pub text_values : (text bytes : List ℕ) → verdict true text ≡ table bytes → (rs : List Record) × (decode bytes ≡ just rs) × ((p : ℕ) → p < length rs → kind_is_compound (record_at rs p).kind ≡ true → LawfulValue rs p)
+pub text_values : (text bytes : List ℕ) → verdict text ≡ table bytes → (rs : List Record) × (decode bytes ≡ just rs) × ((p : ℕ) → p < length rs → kind_is_compound (record_at rs p).kind ≡ true → LawfulValue rs p)
 text_values text bytes v = let x = text_records text bytes v in (x.0, x.1, rules_values parameter_limit x.0 x.2)

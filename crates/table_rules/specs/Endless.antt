@@ -1,11 +1,13 @@
 -- Number 10: "a struct or union with no finite value". What it means, over lawful values, without a word on steps or rounds.
-use Rattle.std.specs.Prelude.{◌≡◌, Bool, true, ◌&&◌, List, [], ◌∷◌, ◌↔◌, ℕ, ◌≤◌, ◌<◌, length}
+use Rattle.std.specs.Prelude.{◌≡◌, Bool, true, ◌&&◌, List, [], ◌∷◌, ◌↔◌, ℕ, ◌≤◌, ◌<◌, length, get_or}
 use Rattle.reading_rules.specs.Token.{Token, is_token}
 use Rattle.reading_rules.specs.Record.{Record, record_at}
 use Rattle.reading_rules.specs.Schema.{schema_of}
 use Rattle.reading_rules.specs.Reading.{value, Tree, leaves, Law}
 use Rattle.definition_rules.specs.Words.{kind_is_compound}
-use Rattle.definition_rules.specs.Compile.{records_of_text, name_place, CompileAnswer, refusal}
+use Rattle.definition_rules.specs.Scan.{items_of}
+use Rattle.definition_rules.specs.Faults.{name_spots}
+use Rattle.definition_rules.specs.Compile.{noted_of, outcome_of, records_of_text, token_place, CompileAnswer, refusal}
 
 unfoldable pub are_tokens : List Token → Bool
 are_tokens [] = true
@@ -18,6 +20,10 @@ LawfulValue rs p = (t : Tree value) × Law (schema_of rs) p t × (are_tokens (le
 -- the p-th parameter of a text is a struct or a union
 abbrev pub Compound : List ℕ → ℕ → Type 0
 Compound text p = (p < length (records_of_text text)) × (kind_is_compound (record_at (records_of_text text) p).kind ≡ true)
+
+-- where its name stands
+unfoldable pub name_place : List ℕ → ℕ → ℕ
+name_place text p = token_place text (items_of text) (get_or (name_spots (noted_of (outcome_of text))) p 0)
 
 -- a struct or union without a lawful value; none that has none is named before this place
 pub record FirstEndless (text : List ℕ) (place : ℕ) : Type 0 where

@@ -27,9 +27,9 @@ struct State {
     on: bool,
 }
 
-fn compile_line(text: &[u8], lent: &mut [u8], old_rule: bool, out: &mut [u8], at: usize) -> usize {
+fn compile_line(text: &[u8], lent: &mut [u8], out: &mut [u8], at: usize) -> usize {
     test_frames::lend_bytes(lent);
-    match definition::compile(text, lent, old_rule) {
+    match definition::compile(text, lent) {
         Compiled::Table(length) => test_frames::put_table(out, at, length, lent),
         Compiled::Refused(number, place) => test_frames::put_no_table(out, at, number, place, lent),
     }
@@ -71,7 +71,7 @@ fn line(
     match kind {
         1 => {
             let n = text::least(room, table.len());
-            compile_line(a, &mut table[..n], false, out, at)
+            compile_line(a, &mut table[..n], out, at)
         }
         2 => {
             let n = text::least(room, numbers.len());
@@ -79,10 +79,6 @@ fn line(
         }
         3 => test_frames::put_yes(out, at, table::table_ok(a)),
         4 => row_line(a, b, room, numbers, out, at),
-        5 => {
-            let n = text::least(room, table.len());
-            compile_line(a, &mut table[..n], true, out, at)
-        }
         _ => text::put_text(out, at, b"unknown\n"),
     }
 }

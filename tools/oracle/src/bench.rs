@@ -1,7 +1,7 @@
 //! Times the readers on the same messages: the plain one, in one pass and in two, and one from a
 //! static library.
 
-use crate::definition::{self, OLD_RULE};
+use crate::definition;
 use crate::generate::Rng;
 use crate::plain;
 use crate::ROW_WIDTH;
@@ -91,8 +91,7 @@ impl Input {
     }
 
     fn of_many(name: &'static str, definition: &[u8], messages: Vec<Vec<u8>>) -> Input {
-        let table = definition::compile(definition, 65_536, OLD_RULE);
-        let table = table.expect("a lawful definition");
+        let table = definition::compile(definition, 65_536).expect("a lawful definition");
         let most = messages.iter().map(Vec::len).max();
         assert!(
             most.is_some_and(|most| most <= 16_384),

@@ -1,9 +1,8 @@
 //! Checks by enumeration: every split of a short token row, every small definition's values.
 
-use crate::definition::{self, DEFAULT_RULE, OLD_RULE};
 use crate::generate::{self, Entry, Frame, Rng, Stream, Token, AMPLE};
 use crate::record::{self, Record};
-use crate::{frames, message, table, text, Refusal, Row, ROW_WIDTH};
+use crate::{definition, message, table, Refusal, Row, ROW_WIDTH};
 
 /// A part of a lawful reading.
 #[derive(Clone, Debug, PartialEq, Eq)]
@@ -612,43 +611,6 @@ impl Forest<'_> {
     }
 }
 
-/// Whether the bodies of a reading hold all that number 12 is about.
-impl Forest<'_> {
-    /// Whether a body, and every body in it, holds each field of its struct that isn't in an
-    /// extension, isn't plugin and has lo over 0.
-    fn is_full(&self, s: usize, body: &Tree) -> bool {
-        let Tree::Body(parts) = body else {
-            return false;
-        };
-        let is_of = |part: &Tree, field: usize| match part {
-            Tree::List(f, _) | Tree::Item(f, _) => *f == field,
-            _ => false,
-        };
-        let held = |field: usize| parts.iter().any(|part| is_of(part, field));
-        self.kids[s].iter().all(|f| !self.required(*f) || held(*f))
-            && parts.iter().all(|part| self.has_full_values(part))
-    }
-
-    fn has_full_values(&self, part: &Tree) -> bool {
-        match part {
-            Tree::List(f, row) => row.iter().all(|value| self.is_full_value(*f, value)),
-            Tree::Item(_, parts) => parts.iter().all(|inner| self.has_full_values(inner)),
-            _ => true,
-        }
-    }
-
-    fn is_full_value(&self, f: usize, value: &Tree) -> bool {
-        match value {
-            Tree::Struct(parts) => {
-                let s = self.records[f].target.map_or(f, usize::from);
-                self.is_full(s, &parts[1])
-            }
-            Tree::Choice(a, parts) => self.is_full_value(*a, &parts[parts.len() - 1]),
-            _ => true,
-        }
-    }
-}
-
 /// A tree's rows, from the tokens' spans.
 struct Rows<'a> {
     spans: &'a [(usize, usize)],
@@ -712,14 +674,12 @@ impl Rows<'_> {
 #[derive(Default)]
 struct Tally {
     hits: [u64; 31],
-    frames: [u64; 6],
+    frames: [u64; 5],
     accepted: u64,
     refused: u64,
     trees: u64,
-    trees_not_full: u64,
     small_ok: u64,
     small_ten: u64,
-    small_twelve: u64,
     good_tables: u64,
     bad_tables: u64,
     differences: u64,
@@ -772,12 +732,6 @@ fn compare(tally: &mut Tally, rng: &mut Rng, entry: &Entry, row: &[Token]) {
     tally.trees += trees.len() as u64;
     if trees.len() > 1 {
         tally.differ("two readings", &bytes, &format!("{trees:?}"));
-    }
-    if !trees.iter().all(|tree| forest.is_full(0, tree)) {
-        tally.trees_not_full += 1;
-        if entry.by_default {
-            tally.differ("a body without a required field", &bytes, "");
-        }
     }
     let answer = message::read(&entry.table, &bytes, AMPLE);
     match (&answer, trees.first()) {
@@ -927,7 +881,7 @@ struct Param {
 
 const TOPS: [&str; 4] = ["r", "s", "t", "u"];
 
-/// A small definition that only numbers 10 and 12 can refuse.
+/// A small definition that only number 10 can refuse.
 struct Small {
     text: String,
     params: Vec<Param>,
@@ -1088,50 +1042,31 @@ impl Small {
         }
         out
     }
-
-    /// The place of the first field with lo over 0, in no extension and no plugin, that some lawful
-    /// body of its struct lacks.
-    fn lacking(&self) -> Option<usize> {
-        let bound = self.params.len() + 1;
-        let mut known = vec![vec![None; bound + 1]; self.params.len()];
-        let mut places = vec![];
-        for param in self.params.iter().filter(|param| param.kind == 8) {
-            for end in 0..param.fields.len() {
-                if self.body(param, end, bound, &mut known) {
-                    let absent = param.fields[end..].iter().map(|f| &self.params[*f]);
-                    let due = absent.filter(|f| f.lo > 0 && !f.free);
-                    places.extend(due.map(|f| f.place));
-                }
-            }
-        }
-        places.into_iter().min()
-    }
-
-    /// The refusals by the old and by the default rule.
-    fn refusals(&self) -> (Option<Refusal>, Option<Refusal>) {
-        let ten = self.endless().map(|place| Refusal::new(10, place));
-        let twelve = self.lacking().map(|place| Refusal::new(12, place));
-        (ten, ten.or(twelve))
-    }
 }
 
 fn check_small(tally: &mut Tally, seed: u64, count: u64) {
     let mut rng = Rng::new(seed ^ 0x5A11);
     for _ in 0..count {
         let small = Small::new(&mut rng);
-        let compile = |rule: bool| definition::compile(small.text.as_bytes(), AMPLE, rule).err();
-        let (old, default) = small.refusals();
-        match default.map(|refusal| refusal.number) {
-            None => tally.small_ok += 1,
-            Some(10) => tally.small_ten += 1,
-            Some(_) => tally.small_twelve += 1,
-        }
-        for (rule, searched) in [(OLD_RULE, old), (DEFAULT_RULE, default)] {
-            let answer = compile(rule);
-            if answer != searched {
-                let more = format!("old rule {rule}: {answer:?}, searched {searched:?}");
-                tally.differ("small definition", small.text.as_bytes(), &more);
+        let answer = definition::compile(small.text.as_bytes(), AMPLE);
+        let same = match (&answer, small.endless()) {
+            (Ok(_), None) => {
+                tally.small_ok += 1;
+                true
             }
+            (Err(refusal), Some(place)) => {
+                tally.small_ten += 1;
+                *refusal == Refusal { number: 10, place }
+            }
+            _ => false,
+        };
+        if !same {
+            let more = format!(
+                "{:?}, searched {:?}",
+                answer.map(|t| t.len()),
+                small.endless()
+            );
+            tally.differ("finite value", small.text.as_bytes(), &more);
         }
     }
 }
@@ -1235,7 +1170,7 @@ fn blind(table: &[u8]) -> bool {
             text.field(i);
         }
     }
-    definition::compile(&text.out, AMPLE, OLD_RULE).is_ok_and(|t| t == table)
+    definition::compile(&text.out, AMPLE).is_ok_and(|t| t == table)
 }
 
 /// The record rules, the decompiled text and the text written blindly agree.
@@ -1249,7 +1184,7 @@ fn check_table(tally: &mut Tally, bytes: &[u8]) {
     }
     let back = text
         .as_ref()
-        .is_some_and(|t| definition::compile(t, AMPLE, OLD_RULE).is_ok_and(|t| t == bytes));
+        .is_some_and(|t| definition::compile(t, AMPLE).is_ok_and(|t| t == bytes));
     if good != back || good != text.is_some() || good != blind(bytes) {
         let answers = format!(
             "rules {good}, text {}, back {back}, blind {}",
@@ -1258,118 +1193,6 @@ fn check_table(tally: &mut Tally, bytes: &[u8]) {
         );
         tally.differ("table", bytes, &answers);
     }
-    check_rules(tally, &text.unwrap_or_default(), AMPLE);
-}
-
-/// A field of a definition, as its tokens show it.
-struct Seen {
-    /// The body it stands in, by the place of the `{`; none for a top or an alternative.
-    body: Option<usize>,
-    /// The place of its name.
-    name: usize,
-    /// Untagged, with lo 0.
-    spare: bool,
-    /// In no extension, no plugin, with lo over 0.
-    must: bool,
-}
-
-impl Seen {
-    /// From a heading's tokens: type, range, name, cardinality, tag, plugin.
-    fn new(heading: &[text::Token], body: Option<usize>, extension: bool) -> Seen {
-        let ranged = heading[1].bytes == b"<";
-        let after = if ranged { &heading[4..] } else { &heading[1..] };
-        let mark = |mark: &[u8]| heading.iter().any(|t| t.bytes == mark);
-        let optional = mark(b"[") && after[2].bytes.starts_with(b"0.");
-        let plugin = after.windows(2).any(|pair| {
-            // A tag may be `plugin` too; a plugin's tag has a dot in it.
-            pair[0].bytes.contains(&b'.') && pair[1].bytes == b"plugin"
-        });
-        Seen {
-            body,
-            name: after[0].place,
-            spare: mark(b"?") && optional,
-            must: !extension && !plugin && !optional,
-        }
-    }
-}
-
-/// A body whose `}` hasn't come.
-struct Open {
-    place: usize,
-    of_struct: bool,
-    group: bool,
-}
-
-/// All parameters of a text that compiles by the old rule, from its tokens alone. A `[` or `]`
-/// where no heading has begun is that of an extension.
-fn seen_fields(text: &[u8]) -> Vec<Seen> {
-    let mut open: Vec<Open> = vec![];
-    let mut heading: Vec<text::Token> = vec![];
-    let mut seen = vec![];
-    for token in text::scan(text).unwrap_or_default() {
-        let begun = !heading.is_empty();
-        match (token.bytes, begun) {
-            (b"{" | b";", true) => {
-                let around = open.last();
-                let body = around.filter(|o| o.of_struct).map(|o| o.place);
-                seen.push(Seen::new(&heading, body, around.is_some_and(|o| o.group)));
-                if token.bytes == b"{" {
-                    open.push(Open {
-                        place: token.place,
-                        of_struct: heading[0].bytes == b"struct",
-                        group: false,
-                    });
-                }
-                heading.clear();
-            }
-            (b"}", _) => drop(open.pop()),
-            (b"[" | b"]", false) => {
-                if let Some(body) = open.last_mut() {
-                    body.group = token.bytes == b"[";
-                }
-            }
-            (b";", false) => {}
-            _ => heading.push(token),
-        }
-    }
-    seen
-}
-
-/// The place of 12 in a text that compiles by the old rule, from every pair of its fields.
-fn behind(text: &[u8]) -> Option<usize> {
-    let seen = seen_fields(text);
-    let pairs = seen.iter().flat_map(|a| seen.iter().map(move |b| (a, b)));
-    let broken = pairs.filter(|(a, b)| {
-        let one_struct = a.body.is_some() && a.body == b.body;
-        one_struct && a.name < b.name && a.spare && b.must
-    });
-    broken.map(|(_, b)| b.name).min()
-}
-
-/// The answer by the default rule is 12 where some pair breaks it and 1 to 10 don't apply, else the
-/// one by the old rule.
-fn check_rules(tally: &mut Tally, text: &[u8], room: usize) {
-    let compile = |room: usize, rule: bool| definition::compile(text, room, rule);
-    let twelve = match compile(AMPLE, OLD_RULE) {
-        Ok(_) => behind(text).map(|place| Refusal::new(12, place)),
-        Err(_) => None,
-    };
-    let wanted = twelve.map_or_else(|| compile(room, OLD_RULE), Err);
-    let answer = compile(room, DEFAULT_RULE);
-    if answer != wanted {
-        let more = format!("{:?}, by pairs {twelve:?}", answer.map(|table| table.len()));
-        tally.differ("number 12", text, &more);
-    }
-}
-
-fn check_compile(tally: &mut Tally, frame: &Frame) {
-    let room = frame.room as usize;
-    let old_rule = frame.kind == frames::COMPILE_OLD;
-    match definition::compile(&frame.a, room, old_rule) {
-        Ok(bytes) => check_table(tally, &bytes),
-        Err(refusal) => tally.hit(&refusal),
-    }
-    check_rules(tally, &frame.a, room);
 }
 
 fn check_frame(tally: &mut Tally, frame: &Frame) {
@@ -1378,13 +1201,16 @@ fn check_frame(tally: &mut Tally, frame: &Frame) {
     }
     let room = frame.room as usize;
     match frame.kind {
-        frames::COMPILE | frames::COMPILE_OLD => check_compile(tally, frame),
-        frames::READ => {
+        1 => match definition::compile(&frame.a, room) {
+            Ok(bytes) => check_table(tally, &bytes),
+            Err(refusal) => tally.hit(&refusal),
+        },
+        2 => {
             if let Err(refusal) = message::read(&frame.a, &frame.b, room) {
                 tally.hit(&refusal);
             }
         }
-        frames::TABLE => check_table(tally, &frame.a),
+        3 => check_table(tally, &frame.a),
         _ => {
             let rows: Vec<u32> = frame
                 .a
@@ -1408,18 +1234,18 @@ fn check_bytes(tally: &mut Tally, frame: &Frame, rows: &[u32], row: usize) {
 }
 
 fn report(tally: &Tally, wanted: bool) -> bool {
-    let numbers: Vec<usize> = (1..=12).chain(20..=30).collect();
-    println!("frames of kind 1 to 5: {:?}", &tally.frames[1..]);
+    let numbers: Vec<usize> = (1..=11).chain(20..=30).collect();
+    println!("frames of kind 1 to 4: {:?}", &tally.frames[1..]);
     for n in &numbers {
         println!("number {n}: {}", tally.hits[*n]);
     }
     println!(
-        "token rows: {} accepted, {} refused, {} readings, {} of them without a required field",
-        tally.accepted, tally.refused, tally.trees, tally.trees_not_full
+        "token rows: {} accepted, {} refused, {} readings",
+        tally.accepted, tally.refused, tally.trees
     );
     println!(
-        "small definitions: {} lawful, {} refused by 10, {} by 12",
-        tally.small_ok, tally.small_ten, tally.small_twelve
+        "small definitions: {} lawful, {} refused by 10",
+        tally.small_ok, tally.small_ten
     );
     println!(
         "tables: {} good, {} bad",

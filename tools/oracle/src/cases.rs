@@ -1,16 +1,13 @@
-//! Worked answers, typed from the papers: one table of questions, each with the answer it must get,
-//! and one of definitions, each with its answers by both rules.
+//! Worked answers, typed from the papers: one table of questions, each with the answer it must get.
 
-use crate::definition::{self, DEFAULT_RULE, OLD_RULE};
 use crate::frames;
 use crate::record::{self, Record, BOOL, INT, STRUCT, UNION, VOID};
-use crate::Row;
+use crate::{definition, Row};
 use std::io::{self, Write};
 use Part::{Compiled, Made, Plain};
 use Want::{Bytes, Count, Length, Refused, Rows, Taken};
 
 /// One question and the answer it must get.
-#[derive(Clone, Copy)]
 pub struct Case {
     pub point: &'static str,
     pub ask: Ask,
@@ -18,29 +15,26 @@ pub struct Case {
 }
 
 /// What is asked.
-#[derive(Clone, Copy)]
 pub enum Ask {
-    /// Compile this text with this many bytes lent, by the old rule or the default one.
-    Compile(Part, u32, bool),
+    /// Compile this text with this many bytes lent.
+    Compile(Part, u32),
     /// Read this table's message with this many numbers lent.
     Read(Part, Part, u32),
-    /// Does some definition compile to this table by the old rule?
+    /// Does some definition compile to this table?
     Table(Part),
     /// The bytes of a row, among these numbers, of this message.
     RowBytes(&'static [u32], &'static [u8], u32),
 }
 
 /// The bytes of a part of a question.
-#[derive(Clone, Copy)]
 pub enum Part {
     Plain(&'static [u8]),
     Made(fn() -> Vec<u8>),
-    /// The table of a definition, by the old rule: "01's cases on E ask for the old rule".
+    /// The table of a definition.
     Compiled(&'static [u8]),
 }
 
 /// The answer wanted; lent bytes that must stay must be kept too.
-#[derive(Clone, Copy)]
 pub enum Want {
     /// A table of so many bytes.
     Length(usize),
@@ -60,9 +54,7 @@ impl Part {
         match self {
             Plain(bytes) => bytes.to_vec(),
             Made(make) => make(),
-            Compiled(text) => {
-                definition::compile(text, ROOM as usize, OLD_RULE).expect("it compiles")
-            }
+            Compiled(text) => definition::compile(text, ROOM as usize).expect("it compiles"),
         }
     }
 }
@@ -71,10 +63,7 @@ impl Case {
     /// The question as a frame.
     pub fn frame(&self) -> Vec<u8> {
         match &self.ask {
-            Ask::Compile(text, room, old_rule) => {
-                let kind = frames::compile_kind(*old_rule);
-                frames::frame(kind, *room, &text.bytes(), b"")
-            }
+            Ask::Compile(text, room) => frames::frame(frames::COMPILE, *room, &text.bytes(), b""),
             Ask::Read(table, message, room) => {
                 frames::frame(frames::READ, *room, &table.bytes(), &message.bytes())
             }
@@ -119,36 +108,10 @@ impl Case {
     }
 }
 
-/// A definition with its answers by both rules.
-struct ByRule {
-    point: &'static str,
-    text: &'static [u8],
-    room: u32,
-    default: Want,
-    old: Want,
-}
-
-impl ByRule {
-    /// The question by each rule.
-    fn cases(&self) -> [Case; 2] {
-        [(DEFAULT_RULE, self.default), (OLD_RULE, self.old)].map(|(old_rule, want)| Case {
-            point: self.point,
-            ask: Ask::Compile(Plain(self.text), self.room, old_rule),
-            want,
-        })
-    }
-}
-
-/// Every case.
-pub fn all() -> Vec<Case> {
-    let by_rule = BY_RULE.iter().flat_map(ByRule::cases);
-    CASES.iter().copied().chain(by_rule).collect()
-}
-
 /// Writes every case's frame to standard output.
 pub fn run() {
     let mut out = io::stdout().lock();
-    for case in all() {
+    for case in CASES {
         out.write_all(&case.frame()).expect("standard output");
     }
 }
@@ -157,12 +120,12 @@ pub fn run() {
 const ROOM: u32 = 65_536;
 
 const fn text(point: &'static str, text: &'static [u8], want: Want) -> Case {
-    let ask = Ask::Compile(Plain(text), ROOM, DEFAULT_RULE);
+    let ask = Ask::Compile(Plain(text), ROOM);
     Case { point, ask, want }
 }
 
 const fn made_text(point: &'static str, text: fn() -> Vec<u8>, want: Want) -> Case {
-    let ask = Ask::Compile(Made(text), ROOM, DEFAULT_RULE);
+    let ask = Ask::Compile(Made(text), ROOM);
     Case { point, ask, want }
 }
 
@@ -212,26 +175,6 @@ const fn row_bytes(
     Case { point, ask, want }
 }
 
-const fn by_rule(point: &'static str, text: &'static [u8], default: Want, old: Want) -> ByRule {
-    by_rule_in(point, text, ROOM, default, old)
-}
-
-const fn by_rule_in(
-    point: &'static str,
-    text: &'static [u8],
-    room: u32,
-    default: Want,
-    old: Want,
-) -> ByRule {
-    ByRule {
-        point,
-        text,
-        room,
-        default,
-        old,
-    }
-}
-
 /// The parent of the root's row.
 const R: u32 = 4_294_967_295;
 
@@ -277,9 +220,9 @@ const FIRST_ROWS: [Row; 5] = [
     [3, 0, 27, 30, 1],
 ];
 
-/// Every case of one rule, one a line where it fits.
+/// Every case, one a line where it fits.
 #[rustfmt::skip]
-static CASES: &[Case] = &[
+pub static CASES: &[Case] = &[
     // Checked by hand.
     text("D", D, Length(139)),
     read("D's first case", D, FIRST_MESSAGE, Rows(&FIRST_ROWS)),
@@ -403,18 +346,19 @@ static CASES: &[Case] = &[
     text("unreachable", b"struct r { b x[0..1]; }; struct b { b y; };", Refused(10, 32)),
     text("no alternatives", b"struct r { u x[0..1]; }; union u { };", Refused(10, 31)),
     text("untagged, required", b"struct X { X x[1..*] as ?; };", Refused(10, 7)),
+    text("after an untagged one", b"struct r { r x[0..1] as ?; r y; };", Length(75)),
     text("in an extension", b"struct r { [ r y; ] };", Length(50)),
     text("plugin", b"struct r { r y as a.b plugin; };", Length(52)),
     text("alternative in an extension", b"struct r { u x; }; union u { [ int a; ] };", Length(100)),
     text("plugin alternative", b"struct r { u x; }; union u { int a as b.c plugin; };", Length(102)),
     Case {
         point: "D with 138 bytes lent",
-        ask: Ask::Compile(Plain(D), 138, DEFAULT_RULE),
+        ask: Ask::Compile(Plain(D), 138),
         want: Refused(11, 139),
     },
     Case {
         point: "D with 139 bytes lent",
-        ask: Ask::Compile(Plain(D), 139, DEFAULT_RULE),
+        ask: Ask::Compile(Plain(D), 139),
         want: Length(139),
     },
     // 2: the table.
@@ -433,7 +377,6 @@ static CASES: &[Case] = &[
     table("a trailing byte", trailing_byte, Taken(false)),
     table("the empty table", Vec::new, Taken(false)),
     table("D", || Compiled(D).bytes(), Taken(true)),
-    table("E, made by the old rule", || Compiled(E).bytes(), Taken(true)),
     table("257 records", || flat_table(257), Taken(false)),
     table("256 records", || flat_table(256), Taken(true)),
     table("outside after inside", outside_after_inside, Taken(false)),
@@ -743,74 +686,6 @@ static CASES: &[Case] = &[
     made_message("long chain", U, long_chain, Count(3_279)),
 ];
 
-/// Required fields behind an optional one (02, request 6): the answer by the default rule, then the
-/// one by the old rule.
-#[rustfmt::skip]
-static BY_RULE: &[ByRule] = &[
-    by_rule("E", E, Refused(12, 56), Length(87)),
-    by_rule("an untagged field behind", b"struct s { int a[0..1] as ?; int b as ?; int c; };", Refused(12, 33), Length(100)),
-    by_rule("an optional field behind", b"struct s { int a[0..1] as ?; int b[0..1]; };", Length(75), Length(75)),
-    by_rule("an extension behind", b"struct s { int a[0..1] as ?; [ int b; ] };", Length(75), Length(75)),
-    by_rule("a plugin field behind", b"struct s { int a[0..1] as ?; int b as x.y plugin; };", Length(77), Length(77)),
-    by_rule("a void behind", b"struct s { int a[0..1] as ?; void v; };", Refused(12, 34), Length(75)),
-    by_rule("behind a tagged optional field", b"struct s { int a[0..1]; int c; };", Length(75), Length(75)),
-    by_rule("behind a required untagged field", b"struct s { int a as ?; int b[0..1]; int c; };", Length(100), Length(100)),
-    by_rule("in an inner struct", b"struct s { struct t { int a[0..1] as ?; int b; }; };", Refused(12, 44), Length(100)),
-    by_rule("an inner struct behind", b"struct s { int a[0..1] as ?; struct t { int b; }; };", Refused(12, 36), Length(100)),
-    by_rule("the struct itself behind", b"struct s { int a[0..1] as ?; s c; };", Refused(12, 31), Length(75)),
-    by_rule("10 before 12", b"struct s { int a[0..1] as ?; int b; union u { }; };", Refused(10, 42), Refused(10, 42)),
-    by_rule_in("E, no byte lent", E, 0, Refused(12, 56), Refused(11, 87)),
-    // At the edges of 12.
-    by_rule_in("E, a byte too few lent", E, 86, Refused(12, 56), Refused(11, 87)),
-    by_rule_in("E, its bytes lent", E, 87, Refused(12, 56), Length(87)),
-    by_rule("both are the struct itself", b"struct r { r x[0..1] as ?; r y; };", Refused(12, 29), Length(75)),
-    by_rule("two pairs, the first in the text", b"struct s { int a[0..1] as ?; int b; }; struct t { int c[0..1] as ?; int d; };", Refused(12, 33), Length(150)),
-    by_rule("a pair in the second top only", b"struct s { int a[0..1] as ?; }; struct t { int c[0..1] as ?; int d; };", Refused(12, 65), Length(125)),
-    by_rule("the inner pair's place is the smaller", b"struct s { int a[0..1] as ?; struct t[0..1] { int c[0..1] as ?; int d; }; int b; };", Refused(12, 68), Length(150)),
-    by_rule("the outer pair's place is the smaller", b"struct s { int a[0..1] as ?; struct t { int c[0..1] as ?; int d; }; };", Refused(12, 36), Length(125)),
-    by_rule("two fields behind, the first", b"struct s { int a[0..1] as ?; int b; int c; };", Refused(12, 33), Length(100)),
-    by_rule("an optional field between", b"struct s { int a[0..1] as ?; int o[0..*]; int b; };", Refused(12, 46), Length(100)),
-    by_rule("a plugin field between", b"struct s { int a[0..1] as ?; int p as x.y plugin; int b; };", Refused(12, 54), Length(102)),
-    by_rule("an extension behind both", b"struct s { int a[0..1] as ?; int b; [ int c; ] };", Refused(12, 33), Length(100)),
-    by_rule("two groups behind", b"struct s { int a[0..1] as ?; [ int b; int c; ] [ int d[2..*]; ] };", Length(125), Length(125)),
-    by_rule("a plugin field with lo 2", b"struct s { int a[0..1] as ?; int b[2..3] as x.y plugin; };", Length(77), Length(77)),
-    by_rule("a plugin field in an extension", b"struct s { int a[0..1] as ?; [ int b as x.y plugin; ] };", Length(77), Length(77)),
-    by_rule("a plugin void", b"struct s { int a[0..1] as ?; void v as x.y plugin; };", Length(77), Length(77)),
-    by_rule("an optional void", b"struct s { int a[0..1] as ?; void v[0..1]; };", Length(75), Length(75)),
-    by_rule("a void with 1..1", b"struct s { int a[0..1] as ?; void v[1..1]; };", Refused(12, 34), Length(75)),
-    by_rule("lo 2 is over 0", b"struct s { int a[0..1] as ?; int b[2..*]; };", Refused(12, 33), Length(75)),
-    by_rule("any hi with lo 0", b"struct s { int a[0..65534] as ?; int b; };", Refused(12, 37), Length(75)),
-    by_rule("no limit with lo 0", b"struct s { int a[0..*] as ?; int b; };", Refused(12, 33), Length(75)),
-    by_rule("a pair in a union's struct", b"struct s { union u { struct t { int a[0..1] as ?; int b; }; }; };", Refused(12, 54), Length(125)),
-    by_rule("a pair in a struct in an extension", b"struct s { [ struct t { int a[0..1] as ?; int b; }; ] };", Refused(12, 46), Length(100)),
-    by_rule("a pair in a plugin struct", b"struct s { struct t as x.y plugin { int a[0..1] as ?; int b; }; };", Refused(12, 58), Length(102)),
-    by_rule("a pair in the untagged field itself", b"struct s { struct t[0..1] as ? { int a[0..1] as ?; int b; }; };", Refused(12, 55), Length(100)),
-    by_rule("a field inside the untagged one", b"struct s { struct t[0..1] as ? { int b; }; };", Length(75), Length(75)),
-    by_rule("a field of the struct around", b"struct s { struct t { int a[0..1] as ?; }; int b; };", Length(100), Length(100)),
-    by_rule("a field of an optional inner struct", b"struct s { int a[0..1] as ?; struct t[0..1] { int b; }; };", Length(100), Length(100)),
-    by_rule("a field of the next top", b"struct s { int a[0..1] as ?; }; struct t { int b; };", Length(100), Length(100)),
-    by_rule("alternatives behind an untagged int", b"struct s { union u { int a as ?; int b; void v; }; };", Length(125), Length(125)),
-    by_rule("alternatives of an optional union", b"struct s { int a[0..1] as ?; union u[0..1] { int b; void v; }; };", Length(125), Length(125)),
-    by_rule("a union behind", b"struct s { int a[0..1] as ?; union u { int b; void v; }; };", Refused(12, 35), Length(125)),
-    by_rule("untagged fields with lo 0 only", b"struct s { int a[0..1] as ?; int b[0..2] as ?; int c[0..*] as ?; };", Length(100), Length(100)),
-    by_rule("behind three untagged fields with lo 0", b"struct s { int a[0..1] as ?; int b[0..2] as ?; int c[0..*] as ?; int d; };", Refused(12, 69), Length(125)),
-    by_rule("the second untagged field has lo 0", b"struct s { int a as ?; int b[0..1] as ?; int c; };", Refused(12, 45), Length(100)),
-    by_rule("a required untagged field before only", b"struct s { int a[2..3] as ?; int b[0..1] as ?; };", Length(75), Length(75)),
-    by_rule("between two untagged fields with lo 0", b"struct s { int a[0..1] as ?; int b as ?; int c[0..1] as ?; int d; };", Refused(12, 33), Length(125)),
-    by_rule("references", b"struct s { t a[0..1] as ?; t b; }; int t;", Refused(12, 29), Length(100)),
-    by_rule("an optional reference behind", b"struct s { t a[0..1] as ?; t b[0..1]; }; int t;", Length(100), Length(100)),
-    by_rule("at the name, not the tag", b"struct s { int a[0..1] as ?; int b as c; };", Refused(12, 33), Length(75)),
-    by_rule("no root needs it", b"struct r { }; struct t { int a[0..1] as ?; int b; };", Refused(12, 47), Length(100)),
-    by_rule("2 before 12", b"struct s { int a[0..1] as ?; int b; }; @", Refused(2, 39), Refused(2, 39)),
-    by_rule("3 before 12", b"struct s { int a[0..1] as ?; int b; }", Refused(3, 37), Refused(3, 37)),
-    by_rule("5 before 12", b"struct s { int a[0..1] as ?; int b; int 9; };", Refused(5, 40), Refused(5, 40)),
-    by_rule("6 before 12", b"struct s { int a[0..1] as ?; int b; int c[2..1]; };", Refused(6, 42), Refused(6, 42)),
-    by_rule("7 before 12", b"struct s { int a[0..1] as ?; int b; int c as ?; };", Refused(7, 40), Refused(7, 40)),
-    by_rule("8 before 12", b"struct s { int a[0..1] as ?; int b; int b; };", Refused(8, 40), Refused(8, 40)),
-    by_rule("9 before 12", b"struct s { int a[0..1] as ?; int b; t c; };", Refused(9, 36), Refused(9, 36)),
-    by_rule("10 before 12, to its left", b"struct s { u x[0..1]; t y; }; union u { }; struct t { int a[0..1] as ?; int b; };", Refused(10, 36), Refused(10, 36)),
-];
-
 fn nested(depth: usize) -> Vec<u8> {
     [b"struct s{".repeat(depth), b"};".repeat(depth)].concat()
 }
@@ -1008,7 +883,7 @@ mod tests {
     #[test]
     fn every_case_gets_its_answer() {
         let mut differ = 0;
-        for case in all() {
+        for case in CASES {
             let line = line_of(&case.frame());
             if !case.agrees(&line) {
                 let (beginning, end) = case.line();
@@ -1016,7 +891,7 @@ mod tests {
                 differ += 1;
             }
         }
-        println!("{} cases", all().len());
+        println!("{} cases", CASES.len());
         assert_eq!(differ, 0, "answers differ");
     }
 

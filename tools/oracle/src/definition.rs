@@ -1,4 +1,4 @@
-//! A definition and its refusals, 1 to 12.
+//! A definition and its refusals, 1 to 11.
 
 use crate::finite::finite;
 use crate::forms::{self, Param, Tag};
@@ -10,14 +10,9 @@ use std::collections::{HashMap, HashSet};
 /// "more than 256 parameters" are refused.
 pub const MOST_PARAMS: usize = 256;
 
-/// "ask for the old rule by a yes or no argument": no, then 12 is given where it applies.
-pub const DEFAULT_RULE: bool = false;
-/// Yes: 12 is never given. "Number 20 still speaks of compiling under the old rule."
-pub const OLD_RULE: bool = true;
-
-/// The compiled table of a definition, with `room` bytes lent, by the old rule or the default one.
-pub fn compile(text: &[u8], room: usize, old_rule: bool) -> Result<Vec<u8>, Refusal> {
-    let table = record::encode(&records(text, old_rule)?);
+/// The compiled table of a definition, with `room` bytes lent.
+pub fn compile(text: &[u8], room: usize) -> Result<Vec<u8>, Refusal> {
+    let table = record::encode(&records(text)?);
     // 11: "table longer than the lent buffer", at the "bytes needed".
     if table.len() > room {
         return Err(Refusal::new(11, table.len()));
@@ -26,15 +21,14 @@ pub fn compile(text: &[u8], room: usize, old_rule: bool) -> Result<Vec<u8>, Refu
 }
 
 /// Compiles into a lent buffer. "Success gives the table's length; bytes beyond it stay."
-pub fn compile_into(text: &[u8], lent: &mut [u8], old_rule: bool) -> Result<usize, Refusal> {
-    let table = compile(text, lent.len(), old_rule)?;
+pub fn compile_into(text: &[u8], lent: &mut [u8]) -> Result<usize, Refusal> {
+    let table = compile(text, lent.len())?;
     lent[..table.len()].copy_from_slice(&table);
     Ok(table.len())
 }
 
-/// The records of a definition. "The lowest number that applies is given, at its smallest place",
-/// but for 12: "the check falls between 10 and 11".
-pub fn records(text: &[u8], old_rule: bool) -> Result<Vec<Record>, Refusal> {
+/// The records of a definition. "The lowest number that applies is given, at its smallest place."
+pub fn records(text: &[u8]) -> Result<Vec<Record>, Refusal> {
     // 1: "over 65,535 bytes".
     if text.len() > text::LIMIT {
         return Err(Refusal::new(1, text::LIMIT));
@@ -50,9 +44,6 @@ pub fn records(text: &[u8], old_rule: bool) -> Result<Vec<Record>, Refusal> {
     smallest(9, without_target(&params))?;
     let records = build(&params);
     smallest(10, endless(&params, &records))?;
-    if !old_rule {
-        smallest(12, required_behind(&params, &records, &bodies))?;
-    }
     Ok(records)
 }
 
@@ -220,19 +211,6 @@ fn endless(params: &[Param], records: &[Record]) -> Vec<usize> {
     let numbers = 0..records.len();
     let endless = numbers.filter(|&number| records[number].has_body() && !finite[number]);
     endless.map(|number| params[number].name.place).collect()
-}
-
-/// 12: "a struct has an untagged field with lo 0 and after it a field that would otherwise have to
-/// appear", at "that later field's name".
-fn required_behind(params: &[Param], records: &[Record], bodies: &[Vec<usize>]) -> Vec<usize> {
-    let mut places = Vec::new();
-    for (record, body) in records.iter().zip(bodies) {
-        let fields = body.iter().filter(|_| record.kind == STRUCT);
-        let behind = fields.skip_while(|&&field| !records[field].may_end_body());
-        let required = behind.filter(|&&field| records[field].must_appear());
-        places.extend(required.map(|&field| params[field].name.place));
-    }
-    places
 }
 
 /// The records of parameters that 3 to 9 let pass.

@@ -36,7 +36,10 @@ fn step(records: &[Record], body: &[usize], has: &[bool], number: usize) -> bool
 /// The fields a struct can't do without: not those after an untagged one whose lo is 0, nor
 /// "a field whose lo is 0, a field directly in an extension or a plugin field".
 fn needed<'a>(records: &'a [Record], body: &'a [usize]) -> impl Iterator<Item = usize> + 'a {
-    let fields = body.iter().copied();
-    let reached = fields.take_while(|&field| !records[field].may_end_body());
-    reached.filter(|&field| records[field].must_appear())
+    let ends = |&&field: &&usize| !(records[field].untagged && records[field].lo_count == 0);
+    let needs = |&field: &usize| {
+        let record = &records[field];
+        record.lo_count > 0 && !record.extension && !record.plugin
+    };
+    body.iter().take_while(ends).copied().filter(needs)
 }

@@ -3,16 +3,14 @@
 //! A frame, all numbers little-endian: kind u8, room u32, a u32, b u32 (two lengths), then a bytes
 //! and b bytes.
 //!
-//! - Kind 1, compile by the default rule: a is the text, and a table of room bytes is lent, each
-//!   0xA5 before. The line is `ok LENGTH HEX` or `refused NUMBER PLACE`, then ` kept` or
-//!   ` touched`.
+//! - Kind 1, compile: a is the text, and a table of room bytes is lent, each 0xA5 before. The line
+//!   is `ok LENGTH HEX` or `refused NUMBER PLACE`, then ` kept` or ` touched`.
 //! - Kind 2, read: a is the table, b the message, and room numbers are lent, each 0xA5A5A5A5 before.
 //!   The line is `ok COUNT n n n n n ..` with five numbers a row, or `refused NUMBER PLACE`, then
 //!   ` kept` or ` touched`.
-//! - Kind 3, table: does some definition compile to the table a by the old rule? `yes` or `no`.
+//! - Kind 3, table: does some definition compile to the table a? `yes` or `no`.
 //! - Kind 4, row bytes: a is rows as u32s, b the message, room the row's number. `bytes HEX`, or
 //!   `bytes` alone for the empty part.
-//! - Kind 5, compile by the old rule, which leaves number 12 aside: all else is as in kind 1.
 //!
 //! `kept` says that each lent byte or number that must stay is as it was: all of them after a
 //! refusal, those beyond the table or the rows after success. HEX is lowercase. In kind 4 one to
@@ -20,11 +18,10 @@
 //! is read and ignored.
 //!
 //! A frame whose room, a or b is over 100,000 gets `too long`, whatever its kind, and its bytes
-//! are skipped. An unknown kind, which is 0 or 6 and more, gets `unknown`. Where the input ends
-//! inside a frame, skipped bytes included, the line is `short` and the program ends.
+//! are skipped. An unknown kind gets `unknown`. Where the input ends inside a frame, skipped bytes
+//! included, the line is `short` and the program ends.
 
-use crate::definition::{self, DEFAULT_RULE, OLD_RULE};
-use crate::{message, table, Refusal, ROW_WIDTH};
+use crate::{definition, message, table, Refusal, ROW_WIDTH};
 use std::fmt::Write as _;
 use std::io::{self, BufRead, Read, Write};
 
@@ -32,16 +29,6 @@ pub const COMPILE: u8 = 1;
 pub const READ: u8 = 2;
 pub const TABLE: u8 = 3;
 pub const ROW_BYTES: u8 = 4;
-pub const COMPILE_OLD: u8 = 5;
-
-/// The kind of frame that compiles by the old rule or the default one.
-pub const fn compile_kind(old_rule: bool) -> u8 {
-    if old_rule {
-        COMPILE_OLD
-    } else {
-        COMPILE
-    }
-}
 
 /// The most that room, a and b may be.
 pub const LIMIT: u32 = 100_000;
@@ -140,8 +127,7 @@ fn skip(input: &mut impl BufRead, count: u64) -> io::Result<Next> {
 /// The answer to one whole frame.
 fn line(frame: &Frame) -> String {
     match frame.kind {
-        COMPILE => compile_line(&frame.a, frame.room, DEFAULT_RULE),
-        COMPILE_OLD => compile_line(&frame.a, frame.room, OLD_RULE),
+        COMPILE => compile_line(&frame.a, frame.room),
         READ => read_line(&frame.a, &frame.b, frame.room),
         TABLE if table::table_ok(&frame.a) => "yes".to_string(),
         TABLE => "no".to_string(),
@@ -150,9 +136,9 @@ fn line(frame: &Frame) -> String {
     }
 }
 
-fn compile_line(text: &[u8], room: usize, old_rule: bool) -> String {
+fn compile_line(text: &[u8], room: usize) -> String {
     let mut lent = vec![LENT; room];
-    let answer = definition::compile_into(text, &mut lent, old_rule);
+    let answer = definition::compile_into(text, &mut lent);
     let mut line = String::new();
     match answer {
         Ok(length) => {
@@ -244,25 +230,6 @@ mod tests {
         let wanted =
             format!("ok 25 {table} kept\nunknown\nbytes\nno\ntoo long\nrefused 20 0 kept\n");
         assert_eq!(lines(&input), wanted);
-    }
-
-    #[test]
-    fn kinds_1_and_5_compile_by_their_rules() {
-        let text = b"struct r{int a[0..1]as?;int b;};";
-        for (room, answer) in [(0, "refused 11 75"), (74, "refused 11 75"), (75, "ok 75 ")] {
-            assert_eq!(
-                lines(&frame(COMPILE, room, text, b"")),
-                "refused 12 28 kept\n"
-            );
-            let line = lines(&frame(COMPILE_OLD, room, text, b""));
-            assert!(
-                line.starts_with(answer) && line.ends_with(" kept\n"),
-                "{line}"
-            );
-        }
-        for kind in (0..=u8::MAX).filter(|kind| !(1..=5).contains(kind)) {
-            assert_eq!(lines(&frame(kind, 75, text, b"")), "unknown\n");
-        }
     }
 
     #[test]

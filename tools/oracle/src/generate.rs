@@ -3,9 +3,8 @@
 use std::io::{self, BufWriter, Write};
 
 use crate::cases::{self, Ask, Case};
-use crate::definition::{self, DEFAULT_RULE, OLD_RULE};
 use crate::record::{self, Record};
-use crate::{frames, message, ROW_WIDTH};
+use crate::{definition, message, ROW_WIDTH};
 
 /// A room no answer of these frames can fill.
 pub const AMPLE: usize = 1 << 30;
@@ -54,7 +53,7 @@ impl Rng {
     }
 }
 
-/// One request: 1 compile, 2 read, 3 is it a table, 4 row bytes, 5 compile by the old rule.
+/// One request: 1 compile, 2 read, 3 is it a table, 4 row bytes.
 #[derive(Clone, Debug, PartialEq, Eq)]
 pub struct Frame {
     pub kind: u8,
@@ -786,8 +785,6 @@ fn mutate_table(rng: &mut Rng, table: &[u8]) -> Vec<u8> {
 /// A good table with what a message writer needs of it.
 pub struct Entry {
     pub table: Vec<u8>,
-    /// Whether its definition compiles by the default rule too.
-    pub by_default: bool,
     pub records: Vec<Record>,
     pub kids: Vec<Vec<usize>>,
     heights: Vec<u32>,
@@ -795,10 +792,8 @@ pub struct Entry {
 }
 
 impl Entry {
-    /// The entry of a definition that compiles by the old rule, which is the rule of reading.
-    pub fn of(text: &[u8]) -> Option<Self> {
-        let table = definition::compile(text, AMPLE, OLD_RULE).ok()?;
-        let by_default = definition::compile(text, AMPLE, DEFAULT_RULE).is_ok();
+    /// The entry of a table that a definition compiled to.
+    pub fn new(table: Vec<u8>) -> Self {
         let records = record::decode(&table).expect("a compiled table");
         let mut kids = vec![vec![]; records.len()];
         for (i, r) in records.iter().enumerate() {
@@ -808,7 +803,6 @@ impl Entry {
         }
         let mut entry = Entry {
             table,
-            by_default,
             records,
             kids,
             heights: vec![],
@@ -825,11 +819,12 @@ impl Entry {
         for r in &entry.records {
             entry.vocabulary.push(r.name.clone());
         }
-        Some(entry)
+        entry
     }
 
     fn must(&self, i: usize) -> bool {
-        self.records[i].must_appear()
+        let r = &self.records[i];
+        r.lo_count > 0 && !r.extension && !r.plugin
     }
 
     /// How deep the least value is, from the heights so far.
@@ -837,9 +832,13 @@ impl Entry {
         let r = &self.records[i];
         let inner = match r.kind {
             8 => {
+                let skipped = |k: &&usize| {
+                    let f = &self.records[**k];
+                    !(f.untagged && f.lo_count == 0)
+                };
                 let needed = self.kids[i]
                     .iter()
-                    .take_while(|k| !self.records[**k].may_end_body())
+                    .take_while(skipped)
                     .filter(|k| self.must(**k));
                 needed.map(|k| self.heights[*k]).max().unwrap_or(0)
             }
@@ -1226,8 +1225,7 @@ pub struct Stream {
     rng: Rng,
     pool: Vec<Entry>,
     wide: Entry,
-    /// Frames that come before any other, the last one first.
-    due: Vec<Frame>,
+    hand: Vec<Frame>,
 }
 
 const POOL: usize = 300;
@@ -1236,19 +1234,20 @@ impl Stream {
     pub fn new(seed: u64) -> Self {
         let mut pool = vec![];
         for text in FIXED {
-            pool.push(Entry::of(text.as_bytes()).expect("a lawful definition"));
+            let table = definition::compile(text.as_bytes(), AMPLE).expect("a lawful definition");
+            pool.push(Entry::new(table));
         }
         Stream {
             rng: Rng::new(seed),
             pool,
             wide: wide_entry(),
-            due: cases::all().iter().rev().map(hand_frame).collect(),
+            hand: cases::CASES.iter().rev().map(hand_frame).collect(),
         }
     }
 
     /// The next frame.
     pub fn frame(&mut self) -> Frame {
-        if let Some(frame) = self.due.pop() {
+        if let Some(frame) = self.hand.pop() {
             return frame;
         }
         match self.rng.below(20) {
@@ -1262,8 +1261,11 @@ impl Stream {
     /// One of the pool's tables; now and then a new one.
     pub fn entry(&mut self) -> usize {
         if self.rng.one_in(if self.pool.len() < 60 { 3 } else { 25 }) {
-            let text = pool_text(&mut self.rng);
-            if let Some(entry) = Entry::of(&text) {
+            let size = self.rng.pick(&[3, 6, 6, 10, 20]);
+            let list = definition_tokens(&mut self.rng, 0, size);
+            let text = text(&mut self.rng, &list);
+            if let Ok(table) = definition::compile(&text, AMPLE) {
+                let entry = Entry::new(table);
                 if self.pool.len() < POOL {
                     self.pool.push(entry);
                 } else {
@@ -1282,11 +1284,10 @@ impl Stream {
         (&mut self.rng, &self.pool[at])
     }
 
-    /// A text to compile by one of the rules; now and then the next frame has it by the other.
     fn compile_frame(&mut self) -> Frame {
         let rng = &mut self.rng;
         let a = definition_text(rng);
-        let room = match definition::compile(&a, AMPLE, OLD_RULE) {
+        let room = match definition::compile(&a, AMPLE) {
             Ok(table) => {
                 let n = table.len();
                 let some = n + rng.below(50);
@@ -1294,19 +1295,12 @@ impl Stream {
             }
             Err(_) => rng.pick(&[0, 1, 100, 500]),
         };
-        let old_rule = rng.one_in(3);
-        let frame = Frame {
-            kind: frames::compile_kind(old_rule),
+        Frame {
+            kind: 1,
             room: room as u32,
             a,
             b: vec![],
-        };
-        if rng.one_in(3) {
-            let kind = frames::compile_kind(!old_rule);
-            let again = frame.clone();
-            self.due.push(Frame { kind, ..again });
         }
-        frame
     }
 
     fn read_frame(&mut self) -> Frame {
@@ -1405,10 +1399,7 @@ impl Stream {
 /// A hand case's question.
 fn hand_frame(case: &Case) -> Frame {
     let (kind, room, a, b) = match &case.ask {
-        Ask::Compile(text, room, old_rule) => {
-            let kind = frames::compile_kind(*old_rule);
-            (kind, *room, text.bytes(), vec![])
-        }
+        Ask::Compile(text, room) => (1, *room, text.bytes(), vec![]),
         Ask::Read(table, message, room) => (2, *room, table.bytes(), message.bytes()),
         Ask::Table(table) => (3, 0, table.bytes(), vec![]),
         Ask::RowBytes(rows, message, row) => (4, *row, row_numbers(rows), message.to_vec()),
@@ -1448,20 +1439,10 @@ fn damage_rows(rng: &mut Rng, rows: &mut Vec<u32>, len: u32) {
     }
 }
 
-/// The text of a definition for the pool, lawful in most cases.
-fn pool_text(rng: &mut Rng) -> Vec<u8> {
-    if rng.one_in(5) {
-        return behind_text(rng);
-    }
-    let size = rng.pick(&[3, 6, 6, 10, 20]);
-    let list = definition_tokens(rng, 0, size);
-    text(rng, &list)
-}
-
 /// A definition's text of one of many sorts.
 fn definition_text(rng: &mut Rng) -> Vec<u8> {
     let size = rng.pick(&[3, 6, 6, 10, 10, 25]);
-    match rng.below(112) {
+    match rng.below(100) {
         0..=29 => {
             let list = definition_tokens(rng, 0, size);
             text(rng, &list)
@@ -1477,7 +1458,6 @@ fn definition_text(rng: &mut Rng) -> Vec<u8> {
         92..=95 => loop_text(rng),
         96 => wide_text(rng),
         97 if rng.one_in(4) => long_text(rng),
-        100..=111 => behind_text(rng),
         _ => {
             let vocabulary = definition_vocabulary();
             let count = rng.below(12);
@@ -1578,164 +1558,6 @@ fn loop_text(rng: &mut Rng) -> Vec<u8> {
         list.extend(tokens(&["}", ";"]));
     }
     text(rng, &list)
-}
-
-/// Writes definitions around number 12: untagged fields with lo 0, and after them fields that have
-/// to appear or just don't have to.
-struct Behind<'a> {
-    rng: &'a mut Rng,
-    /// One in so many fields after an untagged one with lo 0 has to appear; none at 0.
-    required: usize,
-    /// The fields so far, which number their names.
-    fields: usize,
-    out: Vec<Token>,
-}
-
-/// Where a field stands: among a struct's untagged or tagged ones, in an extension, or in a union.
-#[derive(Clone, Copy, PartialEq, Eq)]
-enum Spot {
-    Untagged,
-    Tagged,
-    Extension,
-    Alternative,
-}
-
-/// The deepest struct or union of these definitions.
-const DEEPEST: usize = 4;
-
-impl Behind<'_> {
-    fn put(&mut self, list: &[&str]) {
-        self.out.extend(tokens(list));
-    }
-
-    /// A struct's body: untagged fields, tagged ones, extensions.
-    fn body(&mut self, depth: usize) {
-        self.put(&["{"]);
-        let free = self.rng.pick(&[0, 1, 1, 1, 2, 2, 3]);
-        let tagged = self.rng.pick(&[0, 0, 1, 1, 2, 3]);
-        let mut behind = false;
-        for i in 0..free + tagged {
-            let often = if behind { self.required } else { 2 };
-            let must = self.rng.one_in(often);
-            let untagged = i < free;
-            let spot = if untagged {
-                Spot::Untagged
-            } else {
-                Spot::Tagged
-            };
-            self.field(spot, must, depth);
-            behind |= untagged && !must;
-        }
-        while self.rng.one_in(4) {
-            self.put(&["["]);
-            for _ in 0..1 + self.rng.below(2) {
-                let must = !self.rng.one_in(4);
-                self.field(Spot::Extension, must, depth);
-            }
-            self.put(&["]"]);
-        }
-        self.put(&["}"]);
-    }
-
-    /// A union's body: an untagged int or none, and one or two alternatives.
-    fn choices(&mut self, depth: usize) {
-        self.put(&["{"]);
-        if self.rng.one_in(3) {
-            self.put(&["int", "n", "as", "?", ";"]);
-        }
-        for _ in 0..1 + self.rng.below(2) {
-            self.field(Spot::Alternative, true, depth);
-        }
-        self.put(&["}"]);
-    }
-
-    fn field(&mut self, spot: Spot, must: bool, depth: usize) {
-        let kind = if depth < DEEPEST && self.rng.one_in(4) {
-            self.rng.pick(&["struct", "struct", "union"])
-        } else if spot != Spot::Untagged && self.rng.one_in(5) {
-            "void"
-        } else {
-            let all = [
-                "int", "int", "int", "bool", "bool", "date", "t", "t", "t", "t", "t", "r",
-            ];
-            self.rng.pick(&all)
-        };
-        let name = format!("f{}", self.fields);
-        self.fields += 1;
-        self.put(&[kind, &name]);
-        self.options(spot, must, kind == "void", &name);
-        match kind {
-            "struct" => self.body(depth + 1),
-            "union" => self.choices(depth + 1),
-            _ => {}
-        }
-        self.put(&[";"]);
-    }
-
-    /// Cardinality, tag and `plugin`. A tagged field that may be absent is a plugin, or its lo is 0.
-    fn options(&mut self, spot: Spot, must: bool, void: bool, name: &str) {
-        let plugin = match spot {
-            Spot::Untagged => false,
-            Spot::Tagged => !must && self.rng.one_in(2),
-            Spot::Extension | Spot::Alternative => self.rng.one_in(8),
-        };
-        let counts: &[&str] = match (must || plugin, void) {
-            (true, true) => &["", "", "1..1"],
-            (true, false) => &["", "", "1..1", "1..*", "2..3"],
-            (false, true) => &["0..1"],
-            (false, false) => &["0..1", "0..1", "0..2", "0..*"],
-        };
-        let count = self.rng.pick(counts);
-        if spot != Spot::Alternative && !count.is_empty() {
-            self.put(&["[", count, "]"]);
-        }
-        let tag = name.replace('f', "g");
-        if spot == Spot::Untagged {
-            self.put(&["as", "?"]);
-        } else if plugin {
-            self.put(&["as", &format!("{tag}.p"), "plugin"]);
-        } else if self.rng.one_in(4) {
-            self.put(&["as", &tag]);
-        }
-    }
-}
-
-/// Tops with a fault of 5 to 10.
-const LOWER_FAULTS: [&str; 9] = [
-    "int 9q ;",
-    "int < 5..3 > q ;",
-    "void q ;",
-    "struct q { int f ; bool g as ? ; } ;",
-    "int r ;",
-    "struct q { int f ; bool f ; } ;",
-    "struct q { zz f ; } ;",
-    "struct q { q f ; } ;",
-    "union q { } ;",
-];
-
-/// A definition around number 12; one in six has a fault of a lower number too.
-fn behind_text(rng: &mut Rng) -> Vec<u8> {
-    let required = rng.pick(&[0, 0, 2, 3, 6]);
-    let mut tops = vec![];
-    let mut fields = 0;
-    for name in &["r", "s", "u"][..1 + rng.below(3)] {
-        let mut writer = Behind {
-            rng,
-            required,
-            fields,
-            out: tokens(&["struct", name]),
-        };
-        writer.body(1);
-        writer.put(&[";"]);
-        fields = writer.fields;
-        tops.push(writer.out);
-    }
-    tops.push(tokens(&["int", "t", ";"]));
-    if rng.one_in(6) {
-        let fault: Vec<&str> = rng.pick(&LOWER_FAULTS).split(' ').collect();
-        tops.insert(1 + rng.below(tops.len()), tokens(&fault));
-    }
-    text(rng, &tops.concat())
 }
 
 /// About 256 parameters.
@@ -1921,7 +1743,8 @@ fn wide_entry() -> Entry {
         text.extend(format!("{kind} f{}[0..1];", i * 3).bytes());
     }
     text.extend(b"};");
-    Entry::of(&text).expect("a lawful definition")
+    let table = definition::compile(&text, AMPLE).expect("a lawful definition");
+    Entry::new(table)
 }
 
 /// Fields of a root with many: in the table's order, from another on and round, backwards or mixed; now and then one twice,
@@ -1994,7 +1817,7 @@ mod tests {
     #[test]
     fn a_stream_begins_with_every_worked_case() {
         let mut stream = Stream::new(1);
-        for case in cases::all() {
+        for case in cases::CASES {
             let mut bytes = vec![];
             stream.frame().write(&mut bytes).unwrap();
             assert_eq!(bytes, case.frame(), "{}", case.point);

@@ -14,7 +14,7 @@ const NO_ROW: u32 = u32::MAX;
 
 /// The rows of a message, with `room` numbers lent.
 pub fn read(table: &[u8], message: &[u8], room: usize) -> Result<Vec<Row>, Refusal> {
-    // 20: "no definition compiles to this table", "under the old rule".
+    // 20: "no definition compiles to this table".
     let records = table::taken(table).ok_or(Refusal::new(20, 0))?;
     // 21: "over 16,384 bytes".
     if message.len() > LIMIT {
@@ -66,7 +66,7 @@ impl<'a> Body<'a> {
                 body.untagged.push(field);
             } else {
                 body.tagged.push((&record.name, field));
-                body.required += usize::from(record.must_appear());
+                body.required += usize::from(is_required(record));
             }
         }
         body.tagged.sort_unstable();
@@ -79,6 +79,12 @@ impl<'a> Body<'a> {
             .binary_search_by(|(own, _)| (*own).cmp(tag))
             .ok()
     }
+}
+
+/// "A field, untagged or tagged, that isn't directly in an extension, isn't plugin and has lo over
+/// 0 must appear".
+fn is_required(record: &Record) -> bool {
+    record.lo_count > 0 && !record.extension && !record.plugin
 }
 
 /// What a word chooses where a union is due.
@@ -168,7 +174,7 @@ impl<'a> Reader<'a> {
             let field = self.bodies[number].untagged[index];
             if !self.body_ends(in_braces) {
                 self.list(field, row)?;
-            } else if self.records[field].must_appear() {
+            } else if is_required(&self.records[field]) {
                 return self.refuse(27);
             } else {
                 // "if its lo is 0, the body is then complete and nothing later is required"
@@ -202,7 +208,7 @@ impl<'a> Reader<'a> {
             }
             seen[index] = true;
             let field = self.bodies[number].tagged[index].1;
-            missing -= usize::from(self.records[field].must_appear());
+            missing -= usize::from(is_required(&self.records[field]));
             self.item(field, row, token)?;
         }
         if missing > 0 {

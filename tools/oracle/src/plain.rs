@@ -31,7 +31,7 @@ pub fn read_twice(table: &[u8], message: &[u8], rows: &mut [u32]) -> Result<usiz
     })
 }
 
-/// Whether some definition compiles to this table by the old rule.
+/// Whether some definition compiles to this table.
 pub fn table_ok(table: &[u8]) -> bool {
     with_schema(table, |schema| schema.is_some())
 }
@@ -467,7 +467,7 @@ impl Record {
     }
 }
 
-/// A table that some definition compiles to by the old rule.
+/// A table that some definition compiles to.
 #[derive(Clone, Copy)]
 struct Schema<'a> {
     table: &'a [u8],
@@ -1323,9 +1323,8 @@ fn token_fault(message: &[u8], from: usize, open: usize) -> Option<usize> {
 #[cfg(test)]
 mod tests {
     use super::*;
-    use crate::definition::{self, OLD_RULE};
     use crate::generate::Stream;
-    use crate::{frames, message, table};
+    use crate::{definition, frames, message, table};
 
     type Reading = fn(&[u8], &[u8], &mut [u32]) -> Result<usize, Refusal>;
 
@@ -1364,7 +1363,7 @@ mod tests {
     }
 
     fn compiled(text: &str) -> Vec<u8> {
-        definition::compile(text.as_bytes(), 65_536, OLD_RULE).expect("a lawful definition")
+        definition::compile(text.as_bytes(), 65_536).expect("a lawful definition")
     }
 
     #[test]

@@ -46,17 +46,6 @@ impl Record {
         matches!(self.kind, STRUCT | UNION)
     }
 
-    /// "A field, untagged or tagged, that isn't directly in an extension, isn't plugin and has lo
-    /// over 0 must appear, unless the body was complete before it."
-    pub fn must_appear(&self) -> bool {
-        self.lo_count > 0 && !self.extension && !self.plugin
-    }
-
-    /// Whether the body is complete where this field is absent: untagged, and "its lo is 0".
-    pub fn may_end_body(&self) -> bool {
-        self.untagged && self.lo_count == 0
-    }
-
     /// "Flags: 1 untagged, 2 directly in an extension, 4 plugin."
     fn flags(&self) -> u16 {
         u16::from(self.untagged) + 2 * u16::from(self.extension) + 4 * u16::from(self.plugin)

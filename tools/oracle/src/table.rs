@@ -1,5 +1,4 @@
-//! The tables that some definition compiles to by the old rule: the record rules, and a text for
-//! each table.
+//! The tables that some definition compiles to: the record rules, and a text for each table.
 
 use crate::definition::MOST_PARAMS;
 use crate::finite::finite;
@@ -7,8 +6,7 @@ use crate::record::{self, Record, INT, NO_LIMIT, REFERENCE, STRUCT, UNION, UNQUO
 use crate::text::{is_digits, is_name, is_tag, MOST_OPEN};
 use std::collections::HashSet;
 
-/// Whether some definition compiles to these bytes: the record rules. "Number 20 still speaks of
-/// compiling under the old rule, so tables made last year stay readable."
+/// Whether some definition compiles to these bytes: the record rules.
 pub fn table_ok(table: &[u8]) -> bool {
     taken(table).is_some()
 }
@@ -180,8 +178,8 @@ fn every_body_finite(records: &[Record]) -> bool {
         .all(|(record, finite)| finite || !record.has_body())
 }
 
-/// A definition's text that compiles to these bytes by the old rule, where the record rules hold:
-/// explicit tags everywhere, one group for each extension field, fresh names for tagged fields.
+/// A definition's text that compiles to these bytes, where the record rules hold: explicit tags
+/// everywhere, one group for each extension field, fresh names for tagged fields.
 pub fn decompile(table: &[u8]) -> Option<Vec<u8>> {
     taken(table).map(|records| write(&records))
 }
@@ -302,8 +300,8 @@ impl Writer<'_> {
 #[cfg(test)]
 mod tests {
     use super::*;
-    use crate::cases::{self, Ask};
-    use crate::definition::{compile, OLD_RULE};
+    use crate::cases::{Ask, CASES};
+    use crate::definition::compile;
 
     /// A small seeded generator.
     struct Random(u64);
@@ -323,8 +321,8 @@ mod tests {
 
     /// The tables that the cases' definitions compile to, but for the very long.
     fn compiled() -> Vec<Vec<u8>> {
-        let tables = cases::all().into_iter().filter_map(|case| match case.ask {
-            Ask::Compile(text, _, _) => compile(&text.bytes(), 65_536, OLD_RULE).ok(),
+        let tables = CASES.iter().filter_map(|case| match &case.ask {
+            Ask::Compile(text, _) => compile(&text.bytes(), 65_536).ok(),
             Ask::Read(table, _, _) => Some(table.bytes()).filter(|table| !table.is_empty()),
             _ => None,
         });
@@ -399,8 +397,7 @@ mod tests {
     /// The rules take a table exactly when the recipe's text compiles to it.
     fn check(table: &[u8]) -> bool {
         let text = attempt(table);
-        let compiled = |text: &Vec<u8>| compile(text, 65_536, OLD_RULE).ok();
-        let back = text.as_ref().and_then(compiled);
+        let back = text.as_ref().and_then(|text| compile(text, 65_536).ok());
         let taken = table_ok(table);
         let shown = || String::from_utf8_lossy(text.as_deref().unwrap_or(b"")).into_owned();
         assert_eq!(
