@@ -1,6 +1,8 @@
 // lumas: compiles definitions, reads messages by them, shows tables and says what refusals mean.
 // Results go to standard output, refusals and other messages to people to standard error, and the exit
 // status as one digit to descriptor 3, where bin/lumas reads it: a program itself can't give one.
+#![tactic(auto)]
+
 mod messages;
 mod words;
 
@@ -13,7 +15,7 @@ use words::{WORD, Words, words_of};
 
 const STATUS_FILENO: i32 = 3;
 
-#[derive(Drop)]
+#[derive(Clone, Copy)]
 enum Command {
     Compile,
     Read,

@@ -4,7 +4,7 @@
 pub const WORD: usize = 16;
 
 // Where the first two words stand that are no options, how many there are, and what the options say.
-#[derive(Drop)]
+#[derive(Clone, Copy)]
 pub struct Words {
     pub first: usize,
     pub second: usize,

@@ -1,8 +1,10 @@
 // Files and arguments, and a word on standard error where one can't be had.
+#![tactic(auto)]
+
 use libc::{SEEK_END, STDIN_FILENO};
 
 // A file's first bytes, as many as the buffer holds, or none since it can't be read.
-#[derive(Drop)]
+#[derive(Clone, Copy)]
 pub enum Loaded {
     Bytes(usize),
     Failed,

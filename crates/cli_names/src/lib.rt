@@ -1,7 +1,9 @@
 // A table for people to read: the records of a definition's table, with a field's name beside its tag where the two differ.
 // No message is read by it; it is shown.
+#![tactic(auto)]
+
 ghost use Rattle.text.specs.Text.{Wrote};
-ghost use Rattle.cli_names.specs.Labels.{shownLabel};
+ghost use Rattle.cli_names.specs.Labels.{shown_label};
 
 use definition_forms::Formed;
 use table_walk::Walk;
@@ -11,7 +13,7 @@ const LABEL_MOST: usize = 255;
 
 // "NAME (TAG)", or the label alone where it is the name.
 fn put_label(out: &mut [u8], at: usize, name: &[u8], label: &[u8]) -> usize
-    ensures { Wrote (shownLabel name.now label.now) out.old at out.new result }
+    ensures { Wrote (shown_label name.now label.now) out.old at out.new result }
 {
     if classes::same_bytes(name, label) {
         return text::put_text(out, at, label);

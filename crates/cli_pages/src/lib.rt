@@ -1,4 +1,6 @@
 // What goes to standard output and to standard error, and the status that the program ends with.
+#![tactic(auto)]
+
 use libc::{STDERR_FILENO, STDOUT_FILENO};
 
 pub const ACCEPTED: u8 = b'0';
@@ -17,7 +19,7 @@ pub const MANY: usize = 32_768;
 // ---- results, to standard output
 
 // How many bytes wait to be written out, and whether all others could be.
-#[derive(Drop)]
+#[derive(Clone, Copy)]
 pub struct Page {
     pub at: usize,
     pub ok: bool,

@@ -1,10 +1,12 @@
 // Lines and columns of a place in a text. A place in it, or its end, is asked for: another has no line.
+#![tactic(auto)]
+
 ghost use Rattle.std.specs.Prelude.{◌≡◌, ◌≤◌, length};
-ghost use Rattle.cli_places.specs.Lines.{InText, breakOf, line_of, line_start, line_end, column_of, text_end};
+ghost use Rattle.cli_places.specs.Lines.{InText, break_of, line_of, line_start, line_end, column_of, text_end};
 
 // 1 for the byte that ends a line.
 fn breaks(b: u8) -> usize
-    ensures { (result ≡ breakOf b) × (result ≤ 1) }
+    ensures { (result ≡ break_of b) × (result ≤ 1) }
 {
     if b == b'\n' {
         return 1;

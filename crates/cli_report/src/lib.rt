@@ -1,5 +1,7 @@
 // What a person reads of an answer: a refusal with its line, and rows and records as tables.
 // All is written into lent bytes at a place, by the functions of `text`; each function answers the next place.
+#![tactic(auto)]
+
 mod refusals;
 mod tables;
 

@@ -2,7 +2,7 @@
 ghost use Rattle.std.specs.Prelude.{◌≡◌, true, ◌-◌, ◌<◌, ◌^◌, max, length};
 ghost use Rattle.text.specs.Text.{Wrote};
 ghost use Rattle.cli_places.specs.Lines.{InText, text_end};
-ghost use Rattle.cli_report.specs.Shown.{shown_byte, blankFor, shown_text, blanksFor, mark_text, view_text, where_text, in_text, in_table, needed_text, refusal_text, unknown_line};
+ghost use Rattle.cli_report.specs.Shown.{shown_byte, blank_for, shown_text, blanks_for, mark_text, view_text, where_text, in_text, in_table, needed_text, refusal_text, unknown_line};
 
 use cli_places::{column_of, line_end, line_of, line_start, text_end};
 use cli_wording::put_refused;
@@ -43,7 +43,7 @@ pub fn put_shown(out: &mut [u8], at: usize, bytes: &[u8]) -> usize
 
 // A blank as wide as a byte is shown.
 fn blank(b: u8) -> u8
-    ensures { result ≡ blankFor b }
+    ensures { result ≡ blank_for b }
 {
     if b == b'\t' {
         return b;
@@ -53,7 +53,7 @@ fn blank(b: u8) -> u8
 
 // As many blanks, as wide as the bytes are shown.
 fn put_blanks(out: &mut [u8], at: usize, bytes: &[u8]) -> usize
-    ensures { Wrote (blanksFor bytes.now) out.old at out.new result }
+    ensures { Wrote (blanks_for bytes.now) out.old at out.new result }
 {
     let mut i = 0;
     let mut o = at;

@@ -3,7 +3,7 @@
 ghost use Rattle.std.specs.Prelude.{◌<◌};
 ghost use Rattle.numbers.specs.Limits.{row_width};
 ghost use Rattle.text.specs.Text.{Wrote};
-ghost use Rattle.cli_report.specs.Shown.{int_text, boundsText};
+ghost use Rattle.cli_report.specs.Shown.{int_text, bounds_text};
 
 use crate::refusals::put_shown;
 use cli_wording::{put_kind, put_line};
@@ -118,7 +118,7 @@ pub fn put_int(out: &mut [u8], at: usize, n: u32) -> usize
 
 // "LEAST..MOST".
 pub fn put_bounds(out: &mut [u8], at: usize, least: u32, most: u32) -> usize
-    ensures { Wrote (boundsText least most) out.old at out.new result }
+    ensures { Wrote (bounds_text least most) out.old at out.new result }
 {
     let o = put_int(out, at, least);
     let o = text::put_text(out, o, b"..");

@@ -1,11 +1,13 @@
 // compile, show and check.
+#![tactic(auto)]
+
 use cli_files::{Loaded, load, save};
 use cli_pages::{ACCEPTED, MANY, UNUSABLE, ended, flushed, refuse, say, started, unusable};
 use definition::Compiled;
 use table_walk::Walk;
 
 // The length of a table and of the same table with names, or the status to end with.
-#[derive(Drop)]
+#[derive(Clone, Copy)]
 pub enum Source {
     Table(usize, usize),
     Ended(u8),

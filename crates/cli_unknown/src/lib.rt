@@ -1,24 +1,26 @@
 // The unknown items of a message that was accepted, found by its rows. A word of a known part is a field's tag before `=` and
 // a value, or begins a row's span: a value, a void's tag, a union's choice. No row but the root's begins in an unknown item.
+#![tactic(auto)]
+
 use cli_report::row_number;
 use message_tokens::Cursor;
 use message_unknown::Passed;
 
 // Where the search goes on: the next token, and the next row that may begin there.
-#[derive(Drop)]
+#[derive(Clone, Copy)]
 pub struct Reached {
     pub at: usize,
     pub row: usize,
 }
 
 // An unknown item's word from a place to a place, and what is behind the item.
-#[derive(Drop)]
+#[derive(Clone, Copy)]
 pub enum Item {
     Unknown(usize, usize, Reached),
     Finished,
 }
 
-#[derive(Drop)]
+#[derive(Clone, Copy)]
 enum Turn {
     On(Reached),
     Out(Item),

@@ -2,6 +2,8 @@
 // are missing.
 // The reader answers a number and a place. To tell whose value or body it is, the message is cut at the place, its braces
 // are closed, and it is read again by a relaxed table, whose rows say so. Up to the place both tables read the same.
+#![tactic(auto)]
+
 ghost use Rattle.std.specs.Prelude.{◌≡◌};
 ghost use Rattle.text.specs.Text.{Wrote};
 ghost use Rattle.table_records.specs.Stored.{record_in};

@@ -1,7 +1,9 @@
 // Numbers in words, and the lines that say how a file was taken.
+#![tactic(auto)]
+
 ghost use Rattle.std.specs.Prelude.{◌≡◌, ◌≤◌, length, drop};
 ghost use Rattle.text.specs.Text.{Wrote};
-ghost use Rattle.cli_wording.specs.Lines.{first_line, behindLine, line_at};
+ghost use Rattle.cli_wording.specs.Lines.{first_line, behind_line, line_at};
 ghost use Rattle.cli_wording.specs.Sayings.{is_refusal, meaning, place_meaning, kind_name, meaning_line, explanation, counted, accepted_line, size_line};
 
 use text::put_text;
@@ -92,7 +94,7 @@ const KINDS: [u8; 69] = *b"\
 // Where the line behind the one of a place begins, or the end.
 fn next_line(s: &[u8], from: usize) -> usize
     requires { from ≤ length s.now }
-    ensures { (drop result s.now ≡ behindLine (drop from s.now)) × (result ≤ length s.now) }
+    ensures { (drop result s.now ≡ behind_line (drop from s.now)) × (result ≤ length s.now) }
 {
     let end = cli_places::line_end(s, from);
     if end < s.len() {
@@ -103,7 +105,7 @@ fn next_line(s: &[u8], from: usize) -> usize
 
 // Where a line begins, counted from 0.
 fn line_from(s: &[u8], n: usize) -> usize
-    ensures { (line_at n s.now ≡ firstLine (drop result s.now)) × (result ≤ length s.now) }
+    ensures { (line_at n s.now ≡ first_line (drop result s.now)) × (result ≤ length s.now) }
 {
     let mut from = 0;
     let mut i = 0;
@@ -135,7 +137,7 @@ pub fn put_meaning(out: &mut [u8], at: usize, number: u32) -> usize
 
 // What a refusal's place is.
 fn put_place_meaning(out: &mut [u8], at: usize, number: u32) -> usize
-    ensures { Wrote (placeMeaning number) out.old at out.new result }
+    ensures { Wrote (place_meaning number) out.old at out.new result }
 {
     if number < REFUSALS_END {
         return put_line(out, at, &PLACE_MEANINGS, number as usize);
@@ -145,7 +147,7 @@ fn put_place_meaning(out: &mut [u8], at: usize, number: u32) -> usize
 
 // A kind as definitions write it.
 pub fn put_kind(out: &mut [u8], at: usize, kind: u32) -> usize
-    ensures { Wrote (kindName kind) out.old at out.new result }
+    ensures { Wrote (kind_name kind) out.old at out.new result }
 {
     if kind < 11 {
         return put_line(out, at, &KINDS, kind as usize);
@@ -155,7 +157,7 @@ pub fn put_kind(out: &mut [u8], at: usize, kind: u32) -> usize
 
 // "refused NUMBER: MEANING", and the line's end.
 pub fn put_refused(out: &mut [u8], at: usize, number: u32) -> usize
-    ensures { Wrote (meaningLine number) out.old at out.new result }
+    ensures { Wrote (meaning_line number) out.old at out.new result }
 {
     let o = put_text(out, at, b"refused ");
     let o = text::put_decimal(out, o, number as u64);
@@ -189,7 +191,7 @@ fn put_count(out: &mut [u8], at: usize, count: usize, what: &[u8]) -> usize
 
 // "FILE: accepted, 5 rows".
 pub fn put_accepted(out: &mut [u8], at: usize, file: &[u8], count: usize) -> usize
-    ensures { Wrote (acceptedLine file.now count) out.old at out.new result }
+    ensures { Wrote (accepted_line file.now count) out.old at out.new result }
 {
     let o = put_text(out, at, file);
     let o = put_text(out, o, b": accepted, ");
@@ -206,7 +208,7 @@ pub fn put_size(
     count: usize,
     bytes: usize,
 ) -> usize
-    ensures { Wrote (sizeLine file.now how.now count bytes) out.old at out.new result }
+    ensures { Wrote (size_line file.now how.now count bytes) out.old at out.new result }
 {
     let o = put_text(out, at, file);
     let o = put_text(out, o, how);

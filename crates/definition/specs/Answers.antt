@@ -12,13 +12,13 @@ use Rattle.definition.specs.declared.Stop.{Stop}
 use Rattle.definition.specs.declared.Stop.TheVariants.{Clear, Fault}
 
 -- "Answer: number and place"; "Success gives the table's length"
-abbrev pub answerOfCompile : Compiled → CompileAnswer
-answerOfCompile (Table n) = compiled n
-answerOfCompile (Refused n p) = refusal n p
+abbrev pub answer_of_compile : Compiled → CompileAnswer
+answer_of_compile (Table n) = compiled n
+answer_of_compile (Refused n p) = refusal n p
 
-abbrev pub stopFinding : Stop → Finding
-stopFinding Clear = clean
-stopFinding (Fault n p) = fault n p
+abbrev pub stop_finding : Stop → Finding
+stop_finding Clear = clean
+stop_finding (Fault n p) = fault n p
 
 -- 7 to 10, over declarations with places in the text
 unfoldable pub checks7to10 : List Record → List Noted → List Check

@@ -1,28 +1,30 @@
 // The definition compiler: from a definition's text to its table.
+#![tactic(auto)]
+
 ghost use Rattle.std.specs.Prelude.{◌≡◌, List, ℕ, ◌≤◌, ◌<◌, length};
 ghost use Rattle.numbers.specs.Limits.{parameter_limit, text_limit};
 ghost use Rattle.reading_rules.specs.Record.{Record, Before, AfterParents};
-ghost use Rattle.definition_rules.specs.Table.{numberUp, just, decode};
-ghost use Rattle.definition_rules.specs.Compile.{first_fault, answer_with_room, lent_after, compile_answer, tableAfter};
+ghost use Rattle.definition_rules.specs.Table.{number_up, just, decode};
+ghost use Rattle.definition_rules.specs.Compile.{first_fault, answer_with_room, lent_after, compile_answer, table_after};
 ghost use Rattle.definition_rules.specs.Stuck.{StuckPromise};
 ghost use Rattle.table_rules.specs.Endless.{EndlessPromise};
 ghost use Rattle.definition_cells.specs.Cells.{cell_at, noted_from, parent_cell};
 ghost use Rattle.table_records.specs.Stored.{records_at, Laid};
-ghost use Rattle.definition.specs.Answers.{answerOfCompile, stopFinding, checks7to10, verdict_from};
+ghost use Rattle.definition.specs.Answers.{answer_of_compile, stop_finding, checks7to10, verdict_from};
 
 use definition_cells::Place;
 use definition_forms::Formed;
 use table_walk::Walk;
 
 // Success with the table's length, or a refusal with its number and place.
-#[derive(Drop)]
+#[derive(Clone, Copy)]
 pub enum Compiled {
     Table(usize),
     Refused(u32, usize),
 }
 
 // What checks find: nothing, or a number and a place.
-#[derive(Drop)]
+#[derive(Clone, Copy)]
 enum Stop {
     Clear,
     Fault(u32, usize),
@@ -64,7 +66,7 @@ fn blank_marks() -> [bool; numbers::PARAMETER_LIMIT]
 // Numbers 7 to 10, over the declarations and the records that were written for them.
 fn record_fault(text: &[u8], cells: &[u32], table: &[u8], unpacked: &[u32], n: usize) -> Stop
     requires { (n ≤ parameter_limit) × Laid table.now unpacked.now n }
-    ensures { AfterParents (records_at table.now unpacked.now n) → stopFinding result ≡ first_fault (checks7to10 (records_at table.now unpacked.now n) (noted_from text.now cells.now n 0)) }
+    ensures { AfterParents (records_at table.now unpacked.now n) → stop_finding result ≡ first_fault (checks7to10 (records_at table.now unpacked.now n) (noted_from text.now cells.now n 0)) }
 {
     let mut have = blank_marks();
     match definition_faults::least_fault(cells, table, unpacked, &have, n, 7) {
@@ -100,7 +102,7 @@ fn record_fault(text: &[u8], cells: &[u32], table: &[u8], unpacked: &[u32], n: u
 // The same, over the table in which the records were written. A table of these records is walked to its end.
 fn written_fault(text: &[u8], cells: &[u32], table: &[u8], n: usize) -> Stop
     requires { n ≤ parameter_limit }
-    ensures { (rs : List Record) → decode table.now ≡ just rs → length rs ≡ n → AfterParents rs → stopFinding result ≡ first_fault (checks7to10 rs (noted_from text.now cells.now n 0)) }
+    ensures { (rs : List Record) → decode table.now ≡ just rs → length rs ≡ n → AfterParents rs → stop_finding result ≡ first_fault (checks7to10 rs (noted_from text.now cells.now n 0)) }
 {
     let mut unpacked = blank_records();
     match table_walk::unpack(table, &mut unpacked) {
@@ -113,8 +115,8 @@ fn written_fault(text: &[u8], cells: &[u32], table: &[u8], n: usize) -> Stop
 // so that the lent table is touched only when nothing can be refused any more.
 fn compile_declarations(text: &[u8], cells: &[u32], n: usize, table: &mut [u8]) -> Compiled
     requires n_le_parameter_limit { (n ≤ parameter_limit) × (length text.now ≤ text_limit) }
-    requires by_index { (i : ℕ) → i < n → Before i (numberUp (cell_at cells.now i parent_cell)) }
-    ensures result_value { answerOfCompile result ≡ answer_with_room (length table.old) (verdict_from text.now cells.now n) }
+    requires by_index { (i : ℕ) → i < n → Before i (number_up (cell_at cells.now i parent_cell)) }
+    ensures result_value { answer_of_compile result ≡ answer_with_room (length table.old) (verdict_from text.now cells.now n) }
     ensures table_after { table.new ≡ lent_after (verdict_from text.now cells.now n) table.old }
 {
     match definition_checks::broken_form(text, cells, n) {
@@ -148,10 +150,10 @@ fn compile_declarations(text: &[u8], cells: &[u32], n: usize, table: &mut [u8]) 
 // 1 and 2 is refused with 3 exactly when its tokens don't fit the forms, at the first that can't go on; one free of every
 // fault before 10 is refused as endless exactly when one of its structs or unions has no lawful value, at its name.
 pub fn compile(text: &[u8], table: &mut [u8]) -> Compiled
-    ensures result_value { answerOfCompile result ≡ compile_answer text.now (length table.old) }
-    ensures table_after { table.new ≡ tableAfter text.now table.old }
-    ensures stuck_promise { StuckPromise text.now (answerOfCompile result) }
-    ensures endless_promise { EndlessPromise text.now (answerOfCompile result) }
+    ensures result_value { answer_of_compile result ≡ compile_answer text.now (length table.old) }
+    ensures table_after { table.new ≡ table_after text.now table.old }
+    ensures stuck_promise { StuckPromise text.now (answer_of_compile result) }
+    ensures endless_promise { EndlessPromise text.now (answer_of_compile result) }
 {
     if numbers::TEXT_LIMIT < text.len() {
         return Compiled::Refused(1, numbers::TEXT_LIMIT);

@@ -1,11 +1,13 @@
 // The automaton that reads a definition's forms: what each token does, the open bodies, the declaration at hand,
 // and its numbers in a lent row.
+#![tactic(auto)]
+
 ghost use Rattle.std.specs.Prelude.{◌≡◌, [], ◌∷◌, ◌+◌, ◌-◌, ◌*◌, ◌<◌};
 ghost use Rattle.std.proofs.lemmas.List.Edits.{sets};
 ghost use Rattle.definition_cells.specs.Cells.{cell_width};
 ghost use Rattle.numbers.specs.Limits.{parameter_limit};
-ghost use Rattle.definition_automaton.specs.Acts.{end_act, plugin_act, as_act, name_act, type_act, closing_act, bodyAct, start_act, run_act, mark_act, typed_act, tag_act, act_of, next_mode};
-ghost use Rattle.definition_automaton.specs.States.{started, entry_of, body_after, contextNumber, context_of, parentNumber, extension_flag, with_body, field_done_of, pushed_of, popped_of, over_of, more_of, counted_of, mode_moved, after_of};
+ghost use Rattle.definition_automaton.specs.Acts.{end_act, plugin_act, as_act, name_act, type_act, closing_act, body_act, start_act, run_act, mark_act, typed_act, tag_act, act_of, next_mode};
+ghost use Rattle.definition_automaton.specs.States.{started, entry_of, body_after, context_number, context_of, parent_number, extension_flag, with_body, field_done_of, pushed_of, popped_of, over_of, more_of, counted_of, mode_moved, after_of};
 ghost use Rattle.definition_automaton.specs.Noting.{none, typed_of, ranged_of, rangeless_of, named_of, carded_of, tagged_of, untagged_of, plugged_of, pending_by, run_cells, rest_cells, cells_of, notes, note_cells};
 
 // ---- numbers by name
@@ -145,7 +147,7 @@ const ACTS: u32 = 20;
 
 // Where the automaton stands: the mode, the open bodies (their parameters' numbers and how far each body is),
 // the declarations so far, the place of the 257th name.
-#[derive(Drop)]
+#[derive(Clone, Copy)]
 pub struct State {
     pub mode: u32,
     pub depth: usize,
@@ -156,7 +158,7 @@ pub struct State {
 }
 
 // A run of the text.
-#[derive(Drop)]
+#[derive(Clone, Copy)]
 pub struct Span {
     pub start: u32,
     pub end: u32,
@@ -164,7 +166,7 @@ pub struct Span {
 
 // What was read of a declaration, its numbers as in its cells: its runs; whether a range, a cardinality, plugin is given;
 // which tag; the kind of its type's run.
-#[derive(Drop)]
+#[derive(Clone, Copy)]
 pub struct Pending {
     pub typed: Span,
     pub range: Span,
@@ -265,7 +267,7 @@ fn closing(context: u32, a: u32) -> u32
 
 // `}`, and `[` and `]` of a group.
 fn body_act(context: u32, k: u32) -> u32
-    ensures { result ≡ bodyAct context k }
+    ensures { result ≡ body_act context k }
 {
     if k == BRACE_CLOSES {
         return closing(context, CLOSE_BODY);
@@ -423,7 +425,7 @@ fn body_after(m: u32) -> u32
 }
 
 fn context_number(m: u32) -> u32
-    ensures { result ≡ contextNumber m }
+    ensures { result ≡ context_number m }
 {
     if m < CLOSED_PART {
         return m + 1;
@@ -474,7 +476,7 @@ impl State {
 
     // The number of the parameter whose body is open.
     fn parent(self) -> u32
-        ensures { result ≡ parentNumber self }
+        ensures { result ≡ parent_number self }
     {
         let d = self.depth;
         if d == 0 {

@@ -1,7 +1,9 @@
 // The declarations of a definition, kept as numbers in a lent row; the layout is in specs/Cells.
+#![tactic(auto)]
+
 ghost use Rattle.std.specs.Prelude.{◌≡◌};
 ghost use Rattle.definition_cells.specs.Cells.{cell_at, run_at};
-ghost use Rattle.definition_cells.specs.Places.{at_if, lesser as lesserOf};
+ghost use Rattle.definition_cells.specs.Places.{at_if, lesser as lesser_of};
 
 // How many numbers a declaration has, and all declarations.
 pub const WIDTH: usize = 16;
@@ -74,7 +76,7 @@ pub fn run<'a>(text: &'a [u8], cells: &[u32], i: usize, k: usize) -> &'a [u8]
 }
 
 // The place of a fault, if there is one.
-#[derive(Drop)]
+#[derive(Clone, Copy)]
 pub enum Place {
     Nowhere,
     At(usize),
@@ -91,7 +93,7 @@ pub fn at_if(hit: bool, at: u32) -> Place
 
 // The lesser of two places.
 pub fn lesser(a: Place, b: Place) -> Place
-    ensures { result ≡ lesserOf a b }
+    ensures { result ≡ lesser_of a b }
 {
     match a {
         Place::Nowhere => b,
@@ -103,7 +105,7 @@ pub fn lesser(a: Place, b: Place) -> Place
 }
 
 fn lesser_of_two(p: usize, q: usize) -> Place
-    ensures { result ≡ lesserOf (Place.At p) (Place.At q) }
+    ensures { result ≡ lesser_of (Place.At p) (Place.At q) }
 {
     if p <= q {
         return Place::At(p);

@@ -1,9 +1,11 @@
 // The checks of a definition that go by declarations: forms of names and tags (5), ranges (6), names twice (8), references (9).
+#![tactic(auto)]
+
 ghost use Rattle.std.specs.Prelude.{◌≡◌, not, ◌&&◌, [], leb};
 ghost use Rattle.numbers.specs.Answers.{range_of};
 ghost use Rattle.definition_rules.specs.Declarations.{declarations_of};
 ghost use Rattle.definition_rules.specs.Records.{top_names, records_of};
-ghost use Rattle.definition_rules.specs.Faults.{name_broken, reference_broken, tag_broken, within_kind, count_fine, is_new_key, range_broken, spots_where, repeated_names, dangling as danglingOf, faults5, faults6};
+ghost use Rattle.definition_rules.specs.Faults.{name_broken, reference_broken, tag_broken, within_kind, count_fine, is_new_key, range_broken, spots_where, repeated_names, dangling as dangling_of, faults5, faults6};
 ghost use Rattle.definition_cells.specs.Cells.{noted_at, noted_from};
 ghost use Rattle.definition_cells.specs.Places.{spot_of, least_place, least_from};
 ghost use Rattle.definition_checks.specs.Checks.{form_fault, on_alternative, card_broken, range_fault, key_at, keys_below, same_key_at, repeat_fault, dangling_fault, declaration_fault};
@@ -269,7 +271,7 @@ pub fn repeated_name(text: &[u8], cells: &[u32], n: usize) -> Place
 
 // Number 9, references: the least place of a reference to no top.
 pub fn dangling(text: &[u8], cells: &[u32], n: usize) -> Place
-    ensures { result ≡ least_place (spots_where (danglingOf (top_names (declarations_of (noted_from text.now cells.now n 0)))) (λ s. s.type_at) (noted_from text.now cells.now n 0)) }
+    ensures { result ≡ least_place (spots_where (dangling_of (top_names (declarations_of (noted_from text.now cells.now n 0)))) (λ s. s.type_at) (noted_from text.now cells.now n 0)) }
 {
     least_fault(text, cells, n, 9)
 }

@@ -1,1 +1,2 @@
 // That a definition's text is cut into tokens in one way only (T1); no code.
+#![tactic(auto)]

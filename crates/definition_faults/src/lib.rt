@@ -1,4 +1,6 @@
 // The least places of the faults that records alone show: numbers 7, 9 for the root and 10; 8 for tags.
+#![tactic(auto)]
+
 ghost use Rattle.std.specs.Prelude.{◌≡◌, ◌<◌};
 ghost use Rattle.definition_cells.specs.Places.{least_from};
 ghost use Rattle.table_records.specs.Stored.{Laid};

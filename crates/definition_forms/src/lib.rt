@@ -1,4 +1,6 @@
 // The forms of a definition: refusals 3 and 4, and the declarations noted in a lent row of numbers.
+#![tactic(auto)]
+
 ghost use Rattle.std.specs.Prelude.{◌≡◌, [], ◌*◌, ◌≤◌, length};
 ghost use Rattle.definition_cells.specs.Cells.{cell_width};
 ghost use Rattle.numbers.specs.Limits.{text_limit, parameter_limit};
@@ -12,7 +14,7 @@ use definition_automaton::{Span, State};
 use definition_scanner::{Cursor, Lexeme};
 
 // The token that stands next, by its kind, and where it starts and ends.
-#[derive(Drop)]
+#[derive(Clone, Copy)]
 pub struct Seen {
     pub kind: u32,
     pub start: usize,
@@ -20,7 +22,7 @@ pub struct Seen {
 }
 
 // Stuck at a place (3), more than 256 parameters (4, the place of the 257th name), or so many declarations.
-#[derive(Drop)]
+#[derive(Clone, Copy)]
 pub enum Formed {
     Stuck(usize),
     Over(usize),

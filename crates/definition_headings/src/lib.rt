@@ -1,4 +1,6 @@
 // What a declaration's heading says: kind, limits, counts, label, target.
+#![tactic(auto)]
+
 ghost use Rattle.std.specs.Prelude.{◌≡◌};
 ghost use Rattle.numbers.specs.Range.{low_of, high_of};
 ghost use Rattle.numbers.specs.Answers.{range_of};

@@ -1,9 +1,11 @@
 // The tokens of a definition's text, one after the other, and refusal 2.
+#![tactic(auto)]
+
 ghost use Rattle.std.specs.Prelude.{◌≡◌, ◌&&◌, ◌+◌, ◌<◌, ◌≤◌, eqb, length, drop, get_or};
 ghost use Rattle.numbers.specs.Limits.{depth_limit};
 ghost use Rattle.classes.specs.Lists.{run_of};
 ghost use Rattle.classes.specs.Bytes.{is_run_byte};
-ghost use Rattle.definition_rules.specs.Scan.{items_of, bracesAfter, is_deep_brace};
+ghost use Rattle.definition_rules.specs.Scan.{items_of, braces_after, is_deep_brace};
 ghost use Rattle.definition_rules.specs.Compile.{faults2};
 ghost use Rattle.definition_scanner.specs.Lexed.{LineEnded, CommentClosed, LexTurned, Lexed};
 ghost use Rattle.definition_cells.specs.Places.{least_place};
@@ -12,13 +14,13 @@ ghost use Rattle.definition_scanner.specs.First.{ScanStep};
 use definition_cells::Place;
 
 // Where in the text one stands.
-#[derive(Drop)]
+#[derive(Clone, Copy)]
 pub struct Cursor {
     pub at: usize,
 }
 
 // A run with its start, or a mark with its place, each with the cursor past it; a bad byte, or a comment without end; the end.
-#[derive(Drop)]
+#[derive(Clone, Copy)]
 pub enum Lexeme {
     Run(usize, Cursor),
     Mark(u8, usize, Cursor),
@@ -27,20 +29,20 @@ pub enum Lexeme {
 }
 
 // A byte's turn: a blank or a comment is passed, anything else is told.
-#[derive(Drop)]
+#[derive(Clone, Copy)]
 enum Turn {
     On(usize),
     Out(Lexeme),
 }
 
-#[derive(Drop)]
+#[derive(Clone, Copy)]
 enum Comment {
     Ends(usize),
     Endless,
 }
 
 // A token's turn in the search for faults: the cursor past it and the braces that are open, or the answer.
-#[derive(Drop)]
+#[derive(Clone, Copy)]
 enum Step {
     On(Cursor, usize),
     Out(Place),
@@ -190,7 +192,7 @@ fn too_deep(deep: usize, b: u8) -> bool
 // The braces open after a mark: opened less closed, never under 0.
 fn open_after(deep: usize, b: u8) -> usize
     requires { deep < 65536 }
-    ensures { result ≡ bracesAfter deep b }
+    ensures { result ≡ braces_after deep b }
 {
     if b == b'{' {
         return deep + 1;

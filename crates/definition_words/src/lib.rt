@@ -1,4 +1,6 @@
 // Runs of a definition: the kind that a type run names, keywords, the forms of names and tags.
+#![tactic(auto)]
+
 ghost use Rattle.std.specs.Prelude.{◌≡◌, [], ◌∷◌};
 ghost use Rattle.classes.specs.Bytes.{is_name_byte, is_tag_byte};
 ghost use Rattle.classes.specs.Lists.{every, same_bytes};

@@ -1,9 +1,11 @@
 // Writes the records of the declarations into a table, and copies a table out.
+#![tactic(auto)]
+
 ghost use Rattle.std.specs.Prelude.{◌≡◌, [], ◌+◌, ◌≤◌, ◌%◌, eqb, length, take};
 ghost use Rattle.std.proofs.lemmas.List.Edits.{sets};
 ghost use Rattle.numbers.specs.Limits.{text_limit, parameter_limit};
 ghost use Rattle.numbers.specs.LittleEndian.{put16, put32, signed};
-ghost use Rattle.definition_rules.specs.Table.{bit as bit_of, flagsNumber};
+ghost use Rattle.definition_rules.specs.Table.{bit as bit_of, flags_number};
 ghost use Rattle.definition_cells.specs.Cells.{cell_at, tagged_cell, plugged_cell, extended_cell};
 ghost use Rattle.definition_headings.specs.Heads.{label_at};
 ghost use Rattle.definition_writer.specs.Written.{record_written, records_written, low16, cut_bytes, WroteRecords};
@@ -56,7 +58,7 @@ const PLUGIN: usize = numbers::PLUGIN as usize;
 
 // Untagged, directly in an extension, plugin.
 fn flags(cells: &[u32], i: usize) -> usize
-    ensures { result ≡ flagsNumber (eqb (cell_at cells.now i tagged_cell) 1) (eqb (cell_at cells.now i extended_cell) 1) (eqb (cell_at cells.now i plugged_cell) 1) }
+    ensures { result ≡ flags_number (eqb (cell_at cells.now i tagged_cell) 1) (eqb (cell_at cells.now i extended_cell) 1) (eqb (cell_at cells.now i plugged_cell) 1) }
 {
     let untagged = bit(
         definition_cells::cell(cells, i, definition_cells::TAGGED) == definition_cells::TAGLESS,

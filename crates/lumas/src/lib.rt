@@ -1,16 +1,18 @@
 // The functions for programs in C and Rust (include/lumas.h). None keeps anything between calls.
 //
 // A number is the paper's, 0 for success, and one value goes with it through the last pointer.
+#![tactic(auto)]
+
 ghost use Rattle.std.specs.Prelude.{◌≡◌, true, ◌↔◌, ◌≤◌, length};
 ghost use Rattle.numbers.specs.Limits.{parameter_limit};
-ghost use Rattle.definition_rules.specs.Compile.{numberOfCompile, compile_answer, tableAfter};
+ghost use Rattle.definition_rules.specs.Compile.{number_of_compile, compile_answer, table_after};
 ghost use Rattle.definition_rules.specs.Stuck.{StuckPromise};
 ghost use Rattle.table_rules.specs.Endless.{EndlessPromise};
 ghost use Rattle.table_rules.specs.Compilable.{Compilable};
-ghost use Rattle.table_rules.specs.RecordRules.{tableRules};
-ghost use Rattle.message_rules.specs.Verdict.{numberOfRead, read_answer, rows_after};
+ghost use Rattle.table_rules.specs.RecordRules.{table_rules};
+ghost use Rattle.message_rules.specs.Verdict.{number_of_read, read_answer, rows_after};
 ghost use Rattle.message_rules.specs.Promise.{ReadPromise};
-ghost use Rattle.lumas.specs.Told.{tableMost, compile_value, compile_heard, read_value, read_heard, RowPart};
+ghost use Rattle.lumas.specs.Told.{table_most, compile_value, compile_heard, read_value, read_heard, RowPart};
 
 use definition::Compiled;
 use message::Verdict;
@@ -21,13 +23,13 @@ const SUCCESS: u32 = 0;
 // Where as much is lent as the longest table has, it is never refused for its length.
 #[unsafe(no_mangle)]
 pub extern "C" fn lumas_compile(text: &[u8], table: &mut [u8], value: &mut usize) -> u32
-    ensures value { result ≡ numberOfCompile (compile_answer text.now (length table.old)) }
+    ensures value { result ≡ number_of_compile (compile_answer text.now (length table.old)) }
     ensures value_after { value.new ≡ compile_value (compile_answer text.now (length table.old)) }
-    ensures table_after { table.new ≡ tableAfter text.now table.old }
+    ensures table_after { table.new ≡ table_after text.now table.old }
     ensures value_after_2 { compile_heard result value.new ≡ compile_answer text.now (length table.old) }
     ensures stuck_promise { StuckPromise text.now (compile_heard result value.new) }
     ensures endless_promise { EndlessPromise text.now (compile_heard result value.new) }
-    ensures fact { tableMost ≤ length table.old → result ≡ 11 → ⊥ }
+    ensures fact { table_most ≤ length table.old → result ≡ 11 → ⊥ }
 {
     match definition::compile(text, table) {
         Compiled::Table(length) => {
@@ -44,7 +46,7 @@ pub extern "C" fn lumas_compile(text: &[u8], table: &mut [u8], value: &mut usize
 // Whether some definition compiles to the table.
 #[unsafe(no_mangle)]
 pub extern "C" fn lumas_table_ok(table: &[u8]) -> bool
-    ensures value { result ≡ tableRules parameter_limit table.now }
+    ensures value { result ≡ table_rules parameter_limit table.now }
     ensures variant { (result ≡ true) ↔ Compilable table.now }
 {
     table::table_ok(table)
@@ -58,7 +60,7 @@ pub extern "C" fn lumas_read(
     rows: &mut [u32],
     value: &mut usize,
 ) -> u32
-    ensures value { result ≡ numberOfRead (read_answer table.now message.now (length rows.old)) }
+    ensures value { result ≡ number_of_read (read_answer table.now message.now (length rows.old)) }
     ensures value_after { value.new ≡ read_value (read_answer table.now message.now (length rows.old)) }
     ensures rows_after { rows.new ≡ rows_after table.now message.now rows.old }
     ensures value_after_2 { read_heard result value.new ≡ read_answer table.now message.now (length rows.old) }

@@ -1,4 +1,6 @@
 // A message read by a compiled table, and a row's bytes.
+#![tactic(auto)]
+
 ghost use Rattle.std.specs.Prelude.{◌≡◌, [], ◌≤◌, ◌<◌, length};
 ghost use Rattle.numbers.specs.Limits.{message_limit, parameter_limit};
 ghost use Rattle.table_records.specs.Stored.{records_at};
@@ -16,7 +18,7 @@ use message_tokens::Scanned;
 use table_walk::Walk;
 
 // The rows' count, or a number and a place.
-#[derive(Drop)]
+#[derive(Clone, Copy)]
 pub enum Verdict {
     Accepted(usize),
     Refused(u32, usize),

@@ -1,9 +1,11 @@
 // What a reader decides where a field or an item of a body may stand: what starts there, or whether the body ends.
 // s is the message from base on. It is short, as `Room` asks, so that no sum of places overflows.
+#![tactic(auto)]
+
 ghost use Rattle.std.specs.Prelude.{◌≡◌, ◌+◌, ◌≤◌, length};
 ghost use Rattle.numbers.specs.Limits.{message_limit};
 ghost use Rattle.table_tags.specs.Search.{Searchable};
-ghost use Rattle.message_bodies.specs.Bodies.{endNumberAt, end_at, StartAt, ItemAt, KnownAt, UnknownAt};
+ghost use Rattle.message_bodies.specs.Bodies.{end_number_at, end_at, StartAt, ItemAt, KnownAt, UnknownAt};
 
 use message_frame::Frame;
 use message_tokens::Cursor;
@@ -25,7 +27,7 @@ fn end_at(kind: u8, inside: bool, complete: bool, other: u32) -> u32
 
 // 23 where the body can't end here, whether complete or not.
 fn end_number(barred: bool, complete: bool) -> u32
-    ensures { result ≡ endNumberAt barred complete }
+    ensures { result ≡ end_number_at barred complete }
 {
     if barred {
         return 23;
@@ -36,7 +38,7 @@ fn end_number(barred: bool, complete: bool) -> u32
     27
 }
 
-#[derive(Drop)]
+#[derive(Clone, Copy)]
 pub enum Start {
     List,
     End,
@@ -66,7 +68,7 @@ pub fn field_at(table: &[u8], unpacked: &[u32], n: usize, s: &[u8], f: Frame, in
 }
 
 // An item: a void's tag from a place on; a field whose list is due; an unknown one, passed over.
-#[derive(Drop)]
+#[derive(Clone, Copy)]
 pub enum Item {
     End,
     Void(usize, usize, Cursor),

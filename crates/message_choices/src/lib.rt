@@ -1,16 +1,18 @@
 // What a reader decides where a union's value starts: which alternative it is, and whether a value of it is due.
 // s is the message from base on. It is short, as `Room` asks, so that no sum of places overflows.
+#![tactic(auto)]
+
 ghost use Rattle.std.specs.Prelude.{◌≡◌, ◌+◌, ◌≤◌, length};
 ghost use Rattle.numbers.specs.Limits.{message_limit};
 ghost use Rattle.table_tags.specs.Search.{Searchable};
-ghost use Rattle.message_choices.specs.Choices.{ChoiceAt, ChosenAt, bareAt, start_of};
+ghost use Rattle.message_choices.specs.Choices.{ChoiceAt, ChosenAt, bare_at, start_of};
 
 use message_frame::Frame;
 use message_tokens::Cursor;
 use table_tags::Found;
 
 // A step down a chain of choices, with the alternative and its word's start: its value is due past the cursor, or it is whole.
-#[derive(Drop)]
+#[derive(Clone, Copy)]
 pub enum Choice {
     Deeper(usize, usize, Cursor),
     Last(usize, usize, Cursor),
@@ -63,7 +65,7 @@ fn alternative(
 
 // The untagged int of the union u that the word is judged as.
 fn bare_for(table: &[u8], unpacked: &[u32], n: usize, u: usize, word: &[u8]) -> Found
-    ensures { bareAt table.now unpacked.now n u word.now result }
+    ensures { bare_at table.now unpacked.now n u word.now result }
 {
     if numbers::is_int_like(word) {
         return message_lookup::bare(table, unpacked, n, u);

@@ -1,4 +1,6 @@
 // Where a reader of a message stands and what it answers, and the number of a token that no value starts with.
+#![tactic(auto)]
+
 ghost use Rattle.std.specs.Prelude.{◌≡◌};
 ghost use Rattle.message_frame.specs.AtToken.{unfit_of};
 
@@ -6,7 +8,7 @@ use message_tokens::Cursor;
 
 // Where a reader stands: at in s, the next row, the parameter that is read, the row above, the value's index (its place in
 // its list), how many braces may still open.
-#[derive(Drop)]
+#[derive(Clone, Copy)]
 pub struct Frame {
     pub base: usize,
     pub at: usize,
@@ -18,7 +20,7 @@ pub struct Frame {
 }
 
 // What was read, up to the cursor, and the next row; or a number and a place.
-#[derive(Drop)]
+#[derive(Clone, Copy)]
 pub enum Got {
     Done(Cursor, usize),
     Refused(u32, usize),

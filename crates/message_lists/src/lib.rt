@@ -1,5 +1,7 @@
 // What a reader decides after a value of a list, and of an int in plain digits at once, the row of which it writes.
 // s is the message from base on. It is short, and the rows so far are few (`Room`), so that no sum of places overflows.
+#![tactic(auto)]
+
 ghost use Rattle.std.specs.Prelude.{◌≡◌, ◌+◌, ◌≤◌, ◌<◌, length, true};
 ghost use Rattle.numbers.specs.Limits.{message_limit};
 ghost use Rattle.message_lookup.specs.Questions.{schema_at};
@@ -13,7 +15,7 @@ use message_lookup::Ints;
 use message_rows::Row;
 use message_tokens::{Cursor, Digits};
 
-#[derive(Drop)]
+#[derive(Clone, Copy)]
 pub enum After {
     More(Cursor),
     Last,
@@ -55,7 +57,7 @@ pub fn after_value(
 
 // The value of a list of ints, where it is plain digits. On: a comma follows at once, and another value may;
 // the cursor past the comma, and the next row. Value: the cursor past the digits, and the next row. Slow: nothing is written.
-#[derive(Drop)]
+#[derive(Clone, Copy)]
 pub enum Quick {
     On(Cursor, usize),
     Value(Cursor, usize),

@@ -1,11 +1,13 @@
 // The questions that a reading asks of a table: each is answered from its n unpacked records; a number past them is the
 // blank record's.
+#![tactic(auto)]
+
 ghost use Rattle.std.specs.Prelude.{◌≡◌, true, false, ℕ, ◌+◌, ◌-◌, ◌<◌, length, set};
 ghost use Rattle.classes.specs.Bytes.{between};
 ghost use Rattle.numbers.specs.Limits.{bias};
 ghost use Rattle.calendar.specs.Calendar.{date_form, date_within, time_form, time_within};
 ghost use Rattle.reading_rules.specs.Token.{word, string};
-ghost use Rattle.reading_rules.specs.Value.{is_bool, form_then_range, valueNumber};
+ghost use Rattle.reading_rules.specs.Value.{is_bool, form_then_range, value_number};
 ghost use Rattle.reading_rules.specs.Schema.{is_void, is_untagged_of, is_tagged_of, first};
 ghost use Rattle.reading_rules.specs.Parse.{may_grow};
 ghost use Rattle.table_records.specs.Stored.{record_in, records_at};
@@ -22,7 +24,7 @@ const ZERO: usize = numbers::BIAS as usize;
 const LARGEST: usize = numbers::INT_MOST as usize;
 
 // How a parameter's values are read.
-#[derive(Drop)]
+#[derive(Clone, Copy)]
 pub enum Shape {
     Void,
     Simple,
@@ -103,7 +105,7 @@ pub fn may_grow(hi: usize, c: usize) -> bool
 
 // What a list of ints takes, in packed digits: from least to most; fewer than hi values may have one more. Without on it is
 // another list, or takes no natural number.
-#[derive(Drop)]
+#[derive(Clone, Copy)]
 pub struct Ints {
     pub on: bool,
     pub least: u64,
@@ -329,7 +331,7 @@ fn judge_time(text: &[u8]) -> u32
 
 // The value rule of each kind, for a word.
 fn judge_word(table: &[u8], unpacked: &[u32], q: usize, text: &[u8]) -> u32
-    ensures { result ≡ valueNumber (record_in table.now unpacked.now q) (word text.now) }
+    ensures { result ≡ value_number (record_in table.now unpacked.now q) (word text.now) }
 {
     let kind = table_records::kind_at(table, unpacked, q);
     match kind {
@@ -347,7 +349,7 @@ fn judge_word(table: &[u8], unpacked: &[u32], q: usize, text: &[u8]) -> u32
 
 // The same for a string, without its quotes: only an ascii takes one.
 fn judge_string(table: &[u8], unpacked: &[u32], q: usize, text: &[u8]) -> u32
-    ensures { result ≡ valueNumber (record_in table.now unpacked.now q) (string text.now) }
+    ensures { result ≡ value_number (record_in table.now unpacked.now q) (string text.now) }
 {
     form_then_range(
         table_records::kind_at(table, unpacked, q) == numbers::ASCII,

@@ -1,6 +1,8 @@
 // The readers of a message: body, list and value call each other, and fill rows into a lent slice.
 // s is the message from base on, or a part of it that starts after a brace. It is short, and the rows so far are few
 // (`Room`), so that no sum of places overflows.
+#![tactic(auto)]
+
 ghost use Rattle.std.specs.Prelude.{◌≡◌, true, false, List, [], ℕ, ◌+◌, ◌≤◌, ◌<◌, length};
 ghost use Rattle.numbers.specs.Limits.{message_limit};
 ghost use Rattle.reading_rules.specs.Parse.{struct_at, whole_list, lists_at, body_at};
@@ -288,7 +290,7 @@ fn plain_value(
 
 // A value of a list: On, with the comma behind it and another to come; Done, up to the cursor, and the next row; or refused.
 // A cursor that shares its place with no tag stays in one register, so no `Got` stands in it.
-#[derive(Drop)]
+#[derive(Clone, Copy)]
 enum Taken {
     On(Cursor, usize),
     Done(Cursor, usize),
@@ -389,7 +391,7 @@ fn list(table: &[u8], unpacked: &[u32], n: usize, s: &[u8], rows: &mut [u32], f:
 // What stands next in a body: the list of the field q, due at the cursor, after which the untagged fields from record i on
 // are left; an item that is read, up to the cursor, the next row, and the record that the next tag is looked for from; the
 // body's end; or refused.
-#[derive(Drop)]
+#[derive(Clone, Copy)]
 enum Part {
     List(usize, Cursor, usize),
     On(Cursor, usize, usize),

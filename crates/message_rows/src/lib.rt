@@ -1,4 +1,6 @@
 // The rows of a reading, written into a lent slice. A number past the slice's end is not written.
+#![tactic(auto)]
+
 ghost use Rattle.std.specs.Prelude.{◌≡◌, [], ◌∷◌, ◌-◌, ◌*◌, ◌<◌, set};
 ghost use Rattle.std.proofs.lemmas.List.Edits.{sets};
 ghost use Rattle.numbers.specs.Limits.{row_width};
@@ -6,7 +8,7 @@ ghost use Rattle.message_rules.specs.Rows.{cells};
 ghost use Rattle.message_rows.specs.Filled.{Small, row_of, with_ends};
 
 // Parameter, parent row, start, end, index.
-#[derive(Drop)]
+#[derive(Clone, Copy)]
 pub struct Row {
     pub parameter: usize,
     pub parent: usize,

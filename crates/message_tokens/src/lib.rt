@@ -1,4 +1,6 @@
 // The tokens of a message, read by a cursor over its bytes, and number 22.
+#![tactic(auto)]
+
 ghost use Rattle.std.specs.Prelude.{◌≡◌, ℕ, ◌+◌, ◌-◌, ◌*◌, ◌/◌, ◌^◌, ◌<◌, ◌≤◌, true, false, length, bit_xor, slice_index};
 ghost use Rattle.numbers.specs.Limits.{open_limit};
 ghost use Rattle.classes.specs.Bytes.{is_blank, is_word_byte, is_plain, is_string_byte};
@@ -10,13 +12,13 @@ ghost use Rattle.message_tokens.specs.Digits.{Led, DigitsEnd, DigitsAt, joined, 
 ghost use Rattle.message_tokens.specs.Turn.{ScanTurn, Plains, PlainEnd};
 
 // A place in a message or in a part of one.
-#[derive(Drop)]
+#[derive(Clone, Copy)]
 pub struct Cursor {
     pub at: usize,
 }
 
 // What stands next: a token's start and the cursor past it.
-#[derive(Drop)]
+#[derive(Clone, Copy)]
 pub enum Lexeme {
     Word(usize, Cursor),
     Text(usize, Cursor),
@@ -145,7 +147,7 @@ pub const OPENING: u8 = 5;
 pub const CLOSING: u8 = 6;
 
 // What stands next, by a number: where it starts, and the cursor past it. Without a token it starts at the end.
-#[derive(Drop)]
+#[derive(Clone, Copy)]
 pub struct Head {
     pub kind: u8,
     pub start: usize,
@@ -232,7 +234,7 @@ impl Cursor {
 }
 
 // A word of digits without leading zero, its end and its digits packed: Before where a comma stands at the end.
-#[derive(Drop)]
+#[derive(Clone, Copy)]
 pub enum Digits {
     Other,
     Before(usize, u64),
@@ -408,13 +410,13 @@ impl Cursor {
 }
 
 // Whether number 22 is due, and where.
-#[derive(Drop)]
+#[derive(Clone, Copy)]
 pub enum Scanned {
     Clean,
     Fault(usize),
 }
 
-#[derive(Drop)]
+#[derive(Clone, Copy)]
 enum Turn {
     On(Cursor, usize),
     Out(Scanned),

@@ -1,19 +1,21 @@
 // Unknown parts of a message, passed over: braces, a value, a list.
 // s is the message from base on. It is short, so that no sum of places overflows.
+#![tactic(auto)]
+
 ghost use Rattle.std.specs.Prelude.{ℕ, ◌+◌, ◌≤◌, length};
 ghost use Rattle.numbers.specs.Limits.{message_limit};
-ghost use Rattle.message_unknown.specs.Passing.{bracesFrom, unknown_from, unknowns_from, PassesTo, BraceTurn, WordTurn, ValueTurn, ListTurn};
+ghost use Rattle.message_unknown.specs.Passing.{braces_from, unknown_from, unknowns_from, PassesTo, BraceTurn, WordTurn, ValueTurn, ListTurn};
 
 use message_tokens::Cursor;
 
 // Past a part, or a number and a place.
-#[derive(Drop)]
+#[derive(Clone, Copy)]
 pub enum Passed {
     Past(Cursor),
     Refused(u32, usize),
 }
 
-#[derive(Drop)]
+#[derive(Clone, Copy)]
 enum Turn {
     On(Cursor, usize),
     Out(Passed),
@@ -44,7 +46,7 @@ fn brace_turn(s: &[u8], base: usize, u: Cursor, k: usize) -> Turn
 // Past the closing brace of unknown braces: s starts after the opening one.
 pub fn braces(s: &[u8], base: usize) -> Passed
     requires { base + length s.now ≤ message_limit }
-    ensures { PassesTo (bracesFrom base s.now 0 0) base s.now 0 result }
+    ensures { PassesTo (braces_from base s.now 0 0) base s.now 0 result }
 {
     let mut u = Cursor { at: 0 };
     let mut k: usize = 0;
@@ -64,7 +66,7 @@ pub fn braces(s: &[u8], base: usize) -> Passed
 // The same from a brace that ends at past: the part after it is handed on.
 fn braces_at(s: &[u8], base: usize, past: Cursor) -> Passed
     requires { (base + length s.now ≤ message_limit) × (past.at ≤ length s.now) }
-    ensures { PassesTo (bracesFrom base s.now past.at 0) base s.now past.at result }
+    ensures { PassesTo (braces_from base s.now past.at 0) base s.now past.at result }
 {
     let e = past.at;
     match braces(&s[e..], base + e) {

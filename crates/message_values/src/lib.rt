@@ -1,5 +1,7 @@
 // What a reader decides at a value's token and at a struct's braces: each function renders a row of the decision table.
 // s is the message from base on. It is short, and the rows so far are few (`Room`), so that no sum of places overflows.
+#![tactic(auto)]
+
 ghost use Rattle.std.specs.Prelude.{◌≡◌, ◌+◌, ◌-◌, ◌≤◌, ◌<◌, length};
 ghost use Rattle.numbers.specs.Limits.{message_limit};
 ghost use Rattle.reading_rules.specs.Parse.{simple_at};
@@ -93,7 +95,7 @@ pub fn simple(
 
 // ---- structs
 
-#[derive(Drop)]
+#[derive(Clone, Copy)]
 pub enum Opened {
     In(usize, Cursor),
     Refused(u32, usize),

@@ -1,11 +1,13 @@
 // The check behind number 20: whether some definition compiles to a table.
+#![tactic(auto)]
+
 ghost use Rattle.std.specs.Prelude.{◌≡◌, ◌+◌, ◌*◌, ◌≤◌, ◌<◌, length, true, ◌↔◌};
 ghost use Rattle.numbers.specs.Limits.{parameter_limit};
 ghost use Rattle.reading_rules.specs.Record.{AfterParents};
 ghost use Rattle.definition_rules.specs.Faults.{tag_repeated};
 ghost use Rattle.definition_rules.specs.Finite.{is_endless};
 ghost use Rattle.table_rules.specs.Compilable.{Compilable};
-ghost use Rattle.table_rules.specs.RecordRules.{none_broken, record_checks, record_rules, tableRules};
+ghost use Rattle.table_rules.specs.RecordRules.{none_broken, record_checks, record_rules, table_rules};
 ghost use Rattle.table_records.specs.Stored.{record_cells, record_in, records_at, Laid};
 ghost use Rattle.table_walk.specs.Walked.{Enough};
 ghost use Rattle.table.specs.Checks.{is_broken, Checked};
@@ -164,7 +166,7 @@ pub fn checked(table: &[u8], unpacked: &mut [u32]) -> Walk
 
 fn passes(table: &[u8], unpacked: &mut [u32]) -> bool
     requires { Enough (length table.now) (length unpacked.old) }
-    ensures { result ≡ tableRules parameter_limit table.now }
+    ensures { result ≡ table_rules parameter_limit table.now }
 {
     match checked(table, unpacked) {
         Walk::Count(_) => true,
@@ -195,7 +197,7 @@ pub fn many_cells() -> [u32; table_records::ALL_CELLS]
 // Some definition compiles to the table: the record rules hold, which is to say that there are a text and a room with which
 // compiling gives these very bytes.
 pub fn table_ok(table: &[u8]) -> bool
-    ensures value { result ≡ tableRules parameter_limit table.now }
+    ensures value { result ≡ table_rules parameter_limit table.now }
     ensures variant { (result ≡ true) ↔ Compilable table.now }
 {
     if table.len() <= FEW_BYTES {

@@ -1,15 +1,17 @@
 // The checks of a definition that read only records. In all of them unpacked holds the table's records, n is how many
 // there are, and i is the number of the record that is judged.
+#![tactic(auto)]
+
 ghost use Rattle.std.specs.Prelude.{◌≡◌, Bool, true, false, List, ◌≤◌, length, get_or};
 ghost use Rattle.reading_rules.specs.Record.{is_top, AfterParents};
 ghost use Rattle.definition_rules.specs.Finite.{can_do_without, ends_needs, is_endless};
-ghost use Rattle.definition_rules.specs.Faults.{void_many, any_before, parent_kind, beside as isBeside, misplaced_field, misplaced_alternative, misplaced_untagged, numberTag, void_top, plugin_undotted, rule7_broken, root_no_struct};
+ghost use Rattle.definition_rules.specs.Faults.{void_many, any_before, parent_kind, beside as is_beside, misplaced_field, misplaced_alternative, misplaced_untagged, number_tag, void_top, plugin_undotted, rule7_broken, root_no_struct};
 ghost use Rattle.table_records.specs.Stored.{record_in, records_at};
 ghost use Rattle.table_checks.specs.Besides.{is_such};
 ghost use Rattle.table_checks.specs.Sweeps.{step_by, is_newly_finite, add_if, step_with, gathered, Over, Swept, NoneMarked, HasFinites, AllFinite};
 
 // What is asked of the other records of a body, or of the other tops.
-#[derive(Drop)]
+#[derive(Clone, Copy)]
 enum Such {
     Any,
     Tagged,
@@ -26,7 +28,7 @@ pub fn is_top(table: &[u8], unpacked: &[u32], i: usize) -> bool
 
 // j stands in i's body, or both are tops.
 pub fn beside(table: &[u8], unpacked: &[u32], i: usize, j: usize) -> bool
-    ensures { result ≡ isBeside (record_in table.now unpacked.now i) (record_in table.now unpacked.now j) }
+    ensures { result ≡ is_beside (record_in table.now unpacked.now i) (record_in table.now unpacked.now j) }
 {
     table_records::parent_at(table, unpacked, j) == table_records::parent_at(table, unpacked, i)
 }
@@ -128,7 +130,7 @@ fn misplaced_untagged(table: &[u8], unpacked: &[u32], n: usize, i: usize) -> boo
 
 // An alternative whose tag looks like an int, beside an untagged one.
 fn number_tag(table: &[u8], unpacked: &[u32], n: usize, i: usize) -> bool
-    ensures { result ≡ numberTag (records_at table.now unpacked.now n) i (record_in table.now unpacked.now i) }
+    ensures { result ≡ number_tag (records_at table.now unpacked.now n) i (record_in table.now unpacked.now i) }
 {
     if parent_kind(table, unpacked, n, i) != numbers::UNION {
         return false;

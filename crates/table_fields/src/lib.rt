@@ -1,9 +1,11 @@
 // The rules for one record, and for the names that a table shows.
+#![tactic(auto)]
+
 ghost use Rattle.std.specs.Prelude.{◌≡◌, not, ◌&&◌, ◌+◌, ◌-◌, ◌<◌};
 ghost use Rattle.definition_rules.specs.Faults.{is_union_at, same_key, is_new_key};
-ghost use Rattle.table_rules.specs.RecordRules.{kinds_of_records, is_single_value, counts_fine, range_fine, is_top_at, target_fine, shows_name, labelFine, top_fine, record_fine, every_record, shown_names, all_new};
+ghost use Rattle.table_rules.specs.RecordRules.{kinds_of_records, is_single_value, counts_fine, range_fine, is_top_at, target_fine, shows_name, label_fine, top_fine, record_fine, every_record, shown_names, all_new};
 ghost use Rattle.table_records.specs.Stored.{record_in, records_from, records_at};
-ghost use Rattle.table_fields.specs.Keys.{labelKey};
+ghost use Rattle.table_fields.specs.Keys.{label_key};
 
 // The largest count.
 const COUNT_LIMIT: usize = numbers::COUNT_LIMIT as usize;
@@ -82,7 +84,7 @@ fn shows_name(table: &[u8], unpacked: &[u32], i: usize) -> bool
 }
 
 fn label_fine(table: &[u8], unpacked: &[u32], i: usize) -> bool
-    ensures { result ≡ labelFine (record_in table.now unpacked.now i) }
+    ensures { result ≡ label_fine (record_in table.now unpacked.now i) }
 {
     let label = table_records::label_at(table, unpacked, i);
     if shows_name(table, unpacked, i) {
@@ -142,7 +144,7 @@ pub fn every_fine(table: &[u8], unpacked: &[u32], n: usize) -> bool
 
 // j shows the name that i shows, in the same body or both as tops.
 fn same_name(table: &[u8], unpacked: &[u32], i: usize, j: usize) -> bool
-    ensures { result ≡ (shows_name (record_in table.now unpacked.now j) && same_key (labelKey (record_in table.now unpacked.now i)) (labelKey (record_in table.now unpacked.now j))) }
+    ensures { result ≡ (shows_name (record_in table.now unpacked.now j) && same_key (label_key (record_in table.now unpacked.now i)) (label_key (record_in table.now unpacked.now j))) }
 {
     if !shows_name(table, unpacked, j) {
         return false;
@@ -158,7 +160,7 @@ fn same_name(table: &[u8], unpacked: &[u32], i: usize, j: usize) -> bool
 
 // No record from a place on shows the name of i.
 fn is_new(table: &[u8], unpacked: &[u32], n: usize, i: usize, from: usize) -> bool
-    ensures { result ≡ is_new_key (labelKey (record_in table.now unpacked.now i)) (shown_names (records_from table.now unpacked.now (n - from) from)) }
+    ensures { result ≡ is_new_key (label_key (record_in table.now unpacked.now i)) (shown_names (records_from table.now unpacked.now (n - from) from)) }
 {
     let mut j = from;
     while j < n {
@@ -173,7 +175,7 @@ fn is_new(table: &[u8], unpacked: &[u32], n: usize, i: usize, from: usize) -> bo
 // The name that i shows is shown again after it.
 fn shown_again(table: &[u8], unpacked: &[u32], n: usize, i: usize) -> bool
     requires { i < n }
-    ensures { result ≡ (shows_name (record_in table.now unpacked.now i) && not (is_new_key (labelKey (record_in table.now unpacked.now i)) (shown_names (records_from table.now unpacked.now (n - (i + 1)) (i + 1))))) }
+    ensures { result ≡ (shows_name (record_in table.now unpacked.now i) && not (is_new_key (label_key (record_in table.now unpacked.now i)) (shown_names (records_from table.now unpacked.now (n - (i + 1)) (i + 1))))) }
 {
     if !shows_name(table, unpacked, i) {
         return false;

@@ -1,12 +1,14 @@
 // The order of a table's records: preorder, at most 8 bodies deep, extensions last.
 // An open body is 2 q, and 2 q + 1 once a field in an extension was met, with q its number.
+#![tactic(auto)]
+
 ghost use Rattle.std.specs.Prelude.{◌≡◌, true, [], ◌≤◌, ◌<◌, ◌/◌, length};
 ghost use Rattle.numbers.specs.Limits.{depth_limit, parameter_limit};
 ghost use Rattle.reading_rules.specs.Record.{same_up};
 ghost use Rattle.definition_rules.specs.Words.{kind_is_compound};
-ghost use Rattle.definition_rules.specs.Table.{numberUp};
+ghost use Rattle.definition_rules.specs.Table.{number_up};
 ghost use Rattle.definition_rules.specs.Declarations.{parent_of};
-ghost use Rattle.table_rules.specs.RecordRules.{is_open, closed_to, in_extension, push_if, may_stand, stands_in, ordered as isOrdered};
+ghost use Rattle.table_rules.specs.RecordRules.{is_open, closed_to, in_extension, push_if, may_stand, stands_in, ordered as is_ordered};
 ghost use Rattle.table_records.specs.Stored.{record_in, records_at};
 ghost use Rattle.table_order.specs.Open.{frames_of};
 
@@ -17,14 +19,14 @@ fn number(x: u32) -> usize
 }
 
 fn is_open(x: u32, p: usize) -> bool
-    ensures { result ≡ is_open (numberUp p) (x / 2) }
+    ensures { result ≡ is_open (number_up p) (x / 2) }
 {
     (p != numbers::NONE16) & (number(x) == p)
 }
 
 // How many bodies stay open once all inside p's are closed.
 fn closed_to(bodies: &[u32], depth: usize, p: usize) -> usize
-    ensures { (frames_of bodies.now result ≡ closed_to (numberUp p) (frames_of bodies.now depth)) × (result ≤ depth) }
+    ensures { (frames_of bodies.now result ≡ closed_to (number_up p) (frames_of bodies.now depth)) × (result ≤ depth) }
 {
     let mut d = depth;
     while 0 < d {
@@ -44,7 +46,7 @@ fn is_compound(k: u32) -> bool
 
 // The innermost open body is p's; outside all, p is none.
 fn is_parent(bodies: &[u32], depth: usize, p: usize) -> bool
-    ensures { result ≡ same_up (parent_of (frames_of bodies.now depth)) (numberUp p) }
+    ensures { result ≡ same_up (parent_of (frames_of bodies.now depth)) (number_up p) }
 {
     if depth == 0 {
         return p == numbers::NONE16;
@@ -121,7 +123,7 @@ fn no_bodies() -> [u32; numbers::DEPTH_LIMIT]
 // The bound keeps a record's number in a u32.
 pub fn ordered(table: &[u8], unpacked: &[u32], n: usize) -> bool
     requires { n ≤ parameter_limit }
-    ensures { result ≡ isOrdered [] 0 (records_at table.now unpacked.now n) }
+    ensures { result ≡ is_ordered [] 0 (records_at table.now unpacked.now n) }
 {
     let mut bodies = no_bodies();
     let mut depth: usize = 0;

@@ -1,11 +1,13 @@
 // Records of a compiled table. A table's records are unpacked once: their numbers are kept in lent cells, and read from
 // there; specs/Stored says which cell holds what. Where a record's cells are not all there, or the record is past the
 // limit, they count as 0.
+#![tactic(auto)]
+
 ghost use Rattle.std.specs.Prelude.{◌≡◌, ◌+◌, ◌*◌, ◌≤◌, ◌<◌, length};
 ghost use Rattle.numbers.specs.Limits.{parameter_limit};
 ghost use Rattle.numbers.specs.LittleEndian.{le16, le_int};
 ghost use Rattle.reading_rules.specs.Schema.{is_under};
-ghost use Rattle.definition_rules.specs.Table.{upNumber};
+ghost use Rattle.definition_rules.specs.Table.{up_number};
 ghost use Rattle.table_records.specs.Stored.{record_cells, cell_in, kept_in, record_in, Unpacked};
 
 // The cells of a record: where its bytes begin, and its numbers in their order.
@@ -141,7 +143,7 @@ pub fn kind_at(table: &[u8], unpacked: &[u32], i: usize) -> u32
 
 // The parent's number, 65,535 for a top.
 pub fn parent_at(table: &[u8], unpacked: &[u32], i: usize) -> usize
-    ensures { result ≡ upNumber (record_in table.now unpacked.now i).parent }
+    ensures { result ≡ up_number (record_in table.now unpacked.now i).parent }
 {
     numbers::u32_as_usize(cell(unpacked, i, PARENT))
 }

@@ -1,4 +1,6 @@
 // The search for a tag, from record to record by the lengths at their heads; and tags that stand twice.
+#![tactic(auto)]
+
 ghost use Rattle.std.specs.Prelude.{◌≡◌, ◌+◌, ◌-◌, ◌<◌, length};
 ghost use Rattle.reading_rules.specs.Schema.{is_tagged_as, first_where};
 ghost use Rattle.definition_rules.specs.Faults.{tag_repeated};
@@ -7,7 +9,7 @@ ghost use Rattle.table_tags.specs.Search.{found_of, searched, Searchable};
 ghost use Rattle.table_tags.specs.Keys.{tag_marks, tag_key, MarkedBefore};
 
 // What a search finds.
-#[derive(Drop)]
+#[derive(Clone, Copy)]
 pub enum Found {
     Nowhere,
     At(usize),

@@ -1,9 +1,11 @@
 // The walk over a table's records, by their lengths.
+#![tactic(auto)]
+
 ghost use Rattle.std.specs.Prelude.{◌≡◌, ◌<◌, length};
 ghost use Rattle.table_walk.specs.Walked.{length_at, Enough, Walked};
 
 // How many records a table has, or that its bytes are no whole records, or over 256.
-#[derive(Drop)]
+#[derive(Clone, Copy)]
 pub enum Walk {
     Count(usize),
     Bad,

@@ -1,4 +1,6 @@
 // Answers the frames of standard input, a line for each on standard output.
+#![tactic(auto)]
+
 ghost use Rattle.std.specs.Prelude.{◌≤◌, length};
 
 use definition::Compiled;
@@ -16,7 +18,7 @@ const INPUT: usize = 400_000;
 const OUTPUT: usize = 1_200_000;
 
 // Where the program stands.
-#[derive(Drop)]
+#[derive(Clone, Copy)]
 struct State {
     // The input's bytes that are there and not answered yet.
     from: usize,

@@ -1,6 +1,8 @@
 // Frames of the test program's input, and the lines that answer them.
 //
 // A frame, all numbers little-endian: kind u8, room u32, a u32, b u32, then a bytes and b bytes.
+#![tactic(auto)]
+
 ghost use Rattle.std.specs.Prelude.{◌≡◌, ◌+◌, ◌*◌, min, max, length, replicate};
 ghost use Rattle.std.proofs.lemmas.List.Edits.{sets};
 ghost use Rattle.test_frames.specs.Frame.{frame_head, length_of, front_by};
@@ -8,7 +10,7 @@ ghost use Rattle.test_frames.specs.Lent.{kept_from, Words};
 ghost use Rattle.classes.specs.Lists.{part};
 ghost use Rattle.numbers.specs.Limits.{row_width};
 ghost use Rattle.text.specs.Text.{Wrote, each, spaced};
-ghost use Rattle.test_frames.specs.Lines.{kept_text, refused_text, tableLine, rows_line, refused_line, yes_line, bytesLine};
+ghost use Rattle.test_frames.specs.Lines.{kept_text, refused_text, table_line, rows_line, refused_line, yes_line, bytes_line};
 
 // The bytes of a frame's head.
 const HEAD_BYTES: usize = 13;
@@ -21,7 +23,7 @@ const LENT_NUMBER: u32 = 0xA5A5_A5A5;
 
 // ---- frames
 
-#[derive(Drop)]
+#[derive(Clone, Copy)]
 pub struct Head {
     pub kind: u8,
     pub room: u32,
@@ -30,7 +32,7 @@ pub struct Head {
 }
 
 // What stands at the front of the input.
-#[derive(Drop)]
+#[derive(Clone, Copy)]
 pub enum Front {
     // Not the whole frame.
     Part,
@@ -209,7 +211,7 @@ fn put_refused(out: &mut [u8], at: usize, number: u32, place: usize) -> usize
 
 // The line of a table of some length in the lent bytes.
 pub fn put_table(out: &mut [u8], at: usize, length: usize, lent: &[u8]) -> usize
-    ensures { Wrote (tableLine length lent.now) out.old at out.new result }
+    ensures { Wrote (table_line length lent.now) out.old at out.new result }
 {
     let o = text::put_text(out, at, b"ok");
     let o = text::put_number(out, o, length as u64);
@@ -267,7 +269,7 @@ pub fn put_yes(out: &mut [u8], at: usize, yes: bool) -> usize
 
 // The line of a row's bytes.
 pub fn put_bytes(out: &mut [u8], at: usize, bytes: &[u8]) -> usize
-    ensures { Wrote (bytesLine bytes.now) out.old at out.new result }
+    ensures { Wrote (bytes_line bytes.now) out.old at out.new result }
 {
     if bytes.len() == 0 {
         return text::put_text(out, at, b"bytes\n");

@@ -1,4 +1,6 @@
 // Text written into a lent row of bytes at a place. What would lie past its end is dropped.
+#![tactic(auto)]
+
 ghost use Rattle.std.specs.Prelude.{◌≡◌, [], ◌∷◌, ◌+◌, ◌<◌, ◌^◌, ◌-◌, min, max};
 ghost use Rattle.io.specs.Digits.{hex_digit_ascii};
 ghost use Rattle.text.specs.Text.{Wrote, each, hex_byte, decimal, spaced};

@@ -1,0 +1,10 @@
+use mathlib.Core.Path.{◌≡◌}
+use Prim.Native.Nat.{◌-◌}
+use lib.ListN.{length}
+use Rattle.cli_report.proofs.tables.put_record_line.Given as goal
+
+abbrev pub invariant-loop-column : goal.invariant-loop-column
+invariant-loop-column l = length l.column ≡ length l.initial.out
+
+abbrev pub decreases-loop-column : goal.decreases-loop-column
+decreases-loop-column l = 7 - l.initial.o

@@ -1,0 +1,12 @@
+use Rattle.std.proofs.Common.{◌≡◌, ◌-◌, ◌≤◌, length}
+use Rattle.numbers.specs.Limits.{open_limit}
+use Rattle.message_rules.specs.Scan.{cut, scan_fault}
+use Rattle.message_tokens.specs.Cursor.{cut_at}
+use Rattle.message_tokens.specs.Scanned.{fault_from}
+use Rattle.message_tokens.proofs.scan_fault.Given as goal
+
+abbrev pub invariant-loop-v : goal.invariant-loop-v
+invariant-loop-v l = (scan_fault (cut l.message) ≡ fault_from l.deep (cut_at 0 l.message l.initial.deep.at)) × (l.deep ≤ open_limit)
+
+abbrev pub decreases-loop-v : goal.decreases-loop-v
+decreases-loop-v l = length l.message - l.initial.deep.at

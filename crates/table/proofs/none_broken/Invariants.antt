@@ -1,0 +1,12 @@
+use mathlib.Core.Path.{◌≡◌}
+use Prim.Native.Nat.{◌-◌}
+use Rattle.table_rules.specs.RecordRules.{none_broken}
+use Rattle.table_records.specs.Stored.{records_from, records_at}
+use Rattle.table.specs.Checks.{is_broken}
+use Rattle.table.proofs.none_broken.Given as goal
+
+abbrev pub invariant-loop-i : goal.invariant-loop-i
+invariant-loop-i l = none_broken (is_broken (records_at l.table l.unpacked l.n)) 0 (records_at l.table l.unpacked l.n) ≡ none_broken (is_broken (records_at l.table l.unpacked l.n)) l.i (records_from l.table l.unpacked (l.n - l.i) l.i)
+
+abbrev pub decreases-loop-i : goal.decreases-loop-i
+decreases-loop-i l = l.n - l.i
