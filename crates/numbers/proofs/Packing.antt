@@ -32,7 +32,7 @@ ordered : {n p m q : ℕ} → Packed n p → Packed m q → KeepsOrder n p m q
 ordered r none = record { less = λ h. absurd (omega arith); same = λ e. sym ((zero_first r).same (sym e)) }
 ordered none (more d k r) = zero_first (more d k r)
 ordered (more {n = n} {p = p} d h r) (more {n = m} {p = q} e k t) =
-    let z = ordered r t in
+    let z = ordered {n = n} {p = p} {m = m} {q = q} r t in
     record {
       less = λ l. either p q (λ i. let j = z.less i in omega arith) (λ i. let j = z.same (omega arith) in omega arith);
       same = λ l. let j = z.same (omega arith) in omega arith;

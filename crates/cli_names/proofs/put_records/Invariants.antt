@@ -4,7 +4,7 @@ use lib.ListN.{length}
 use Rattle.cli_names.proofs.put_records.Given as goal
 
 abbrev pub invariant-loop-i : goal.invariant-loop-i
-invariant-loop-i l = length l.initial.o ≡ length l.initial.out
+invariant-loop-i l = length l.out ≡ length l.initial.out
 
 abbrev pub decreases-loop-i : goal.decreases-loop-i
-decreases-loop-i l = l.unpacked - l.i
+decreases-loop-i l = l.n - l.i

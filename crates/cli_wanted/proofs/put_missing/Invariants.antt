@@ -4,7 +4,7 @@ use lib.ListN.{length}
 use Rattle.cli_wanted.proofs.put_missing.Given as goal
 
 abbrev pub invariant-loop-k : goal.invariant-loop-k
-invariant-loop-k l = length l.o ≡ length l.initial.out
+invariant-loop-k l = length l.out ≡ length l.initial.out
 
 abbrev pub decreases-loop-k : goal.decreases-loop-k
-decreases-loop-k l = l.unpacked - l.k
+decreases-loop-k l = l.n - l.k

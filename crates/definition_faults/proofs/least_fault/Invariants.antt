@@ -5,7 +5,7 @@ use Rattle.definition_faults.specs.RecordFaults.{record_fault}
 use Rattle.definition_faults.proofs.least_fault.Given as goal
 
 abbrev pub invariant-loop-i : goal.invariant-loop-i
-invariant-loop-i l = (least_from (record_fault l.cells l.table l.unpacked l.have l.n l.rule) l.n 0 ≡ lesser l.initial.i (least_from (record_fault l.cells l.table l.unpacked l.have l.n l.rule) (l.n - l.i) l.i)) × (l.i ≤ l.n)
+invariant-loop-i l = (least_from (record_fault l.cells l.table l.unpacked l.have l.n l.rule) l.n 0 ≡ lesser l.best (least_from (record_fault l.cells l.table l.unpacked l.have l.n l.rule) (l.n - l.i) l.i)) × (l.i ≤ l.n)
 
 abbrev pub decreases-loop-i : goal.decreases-loop-i
 decreases-loop-i l = l.n - l.i

@@ -9,7 +9,7 @@ use Rattle.definition_forms.proofs.Loop.{Inv}
 use Rattle.definition_forms.proofs.forms.Given as goal
 
 abbrev pub invariant-loop-x : goal.invariant-loop-x
-invariant-loop-x l = (faults2 (items_of l.text) ≡ [] → Inv l.text l.initial.st l.st l.initial.p l.p) × ((at : ℕ) × Sees l.text at l.st) × (4096 ≤ length l.initial.st) × (length l.initial.st ≡ length l.initial.cells) × (length l.text ≤ 65535)
+invariant-loop-x l = (faults2 (items_of l.text) ≡ [] → Inv l.text l.cells l.x l.st l.p) × ((at : ℕ) × Sees l.text at l.x) × (4096 ≤ length l.cells) × (length l.cells ≡ length l.initial.cells) × (length l.text ≤ 65535)
 
 abbrev pub decreases-loop-x : goal.decreases-loop-x
-decreases-loop-x l = length l.text - l.st.start
+decreases-loop-x l = length l.text - l.x.start

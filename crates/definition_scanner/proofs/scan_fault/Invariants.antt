@@ -7,7 +7,7 @@ use Rattle.definition_scanner.specs.First.{faults_from}
 use Rattle.definition_scanner.proofs.scan_fault.Given as goal
 
 abbrev pub invariant-loop-d : goal.invariant-loop-d
-invariant-loop-d l = (faults2 (items_of l.text) ≡ faults_from l.text l.initial.deep.at l.deep) × (l.deep ≤ 8)
+invariant-loop-d l = (faults2 (items_of l.text) ≡ faults_from l.text l.c.at l.deep) × (l.deep ≤ 8)
 
 abbrev pub decreases-loop-d : goal.decreases-loop-d
-decreases-loop-d l = length l.text - l.initial.deep.at
+decreases-loop-d l = length l.text - l.c.at

@@ -8,7 +8,7 @@ use Rattle.table_checks.specs.Sweeps.{body_over}
 use Rattle.table_checks.proofs.begin.Given as goal
 
 abbrev pub invariant-loop-i : goal.invariant-loop-i
-invariant-loop-i l = ((have : List Bool) (k : ℕ) → k < l.i → get_or l.initial.i k false ≡ body_over have k (record_in l.table l.unpacked k) k []) × (length l.initial.i ≡ length l.initial.rest)
+invariant-loop-i l = ((have : List Bool) (k : ℕ) → k < l.i → get_or l.rest k false ≡ body_over have k (record_in l.table l.unpacked k) k []) × (length l.rest ≡ length l.initial.rest)
 
 abbrev pub decreases-loop-i : goal.decreases-loop-i
 decreases-loop-i l = l.n - l.i

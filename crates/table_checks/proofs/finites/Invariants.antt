@@ -7,7 +7,7 @@ use Rattle.table_checks.proofs.Sweeping.{SweptSoFar}
 use Rattle.table_checks.proofs.finites.Given as goal
 
 abbrev pub invariant-loop-k : goal.invariant-loop-k
-invariant-loop-k l = (AfterParents (records_at l.table l.unpacked l.n) → SweptSoFar (records_at l.table l.unpacked l.n) l.k l.rest) × (l.k ≤ l.n) × (length l.rest ≡ length l.initial.have) × (length l.initial.k ≡ length l.have)
+invariant-loop-k l = (AfterParents (records_at l.table l.unpacked l.n) → SweptSoFar (records_at l.table l.unpacked l.n) l.k l.have) × (l.k ≤ l.n) × (length l.have ≡ length l.initial.have) × (length l.rest ≡ length l.initial.rest)
 
 abbrev pub decreases-loop-k : goal.decreases-loop-k
 decreases-loop-k l = l.n - l.k

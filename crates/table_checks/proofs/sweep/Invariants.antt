@@ -7,7 +7,7 @@ use Rattle.table_checks.proofs.Sweeping.{Part}
 use Rattle.table_checks.proofs.sweep.Given as goal
 
 abbrev pub invariant-loop-i : goal.invariant-loop-i
-invariant-loop-i l = ((w : AfterParents (records_at l.table l.unpacked l.n)) → Part l.table l.unpacked l.n w l.initial.have l.i l.initial.more l.more l.initial.i) × (l.i ≤ l.n) × (length l.initial.more ≡ length l.initial.have) × (length l.more ≡ length l.have)
+invariant-loop-i l = ((w : AfterParents (records_at l.table l.unpacked l.n)) → Part l.table l.unpacked l.n w l.initial.have l.i l.have l.rest l.more) × (l.i ≤ l.n) × (length l.have ≡ length l.initial.have) × (length l.rest ≡ length l.initial.rest)
 
 abbrev pub decreases-loop-i : goal.decreases-loop-i
 decreases-loop-i l = l.i

@@ -4,7 +4,7 @@ use lib.ListN.{length}
 use Rattle.cli_report.proofs.tables.put_row_columns.Given as goal
 
 abbrev pub invariant-loop-column : goal.invariant-loop-column
-invariant-loop-column l = length l.column ≡ length l.initial.out
+invariant-loop-column l = length l.out ≡ length l.initial.out
 
 abbrev pub decreases-loop-column : goal.decreases-loop-column
-decreases-loop-column l = 6 - l.initial.o
+decreases-loop-column l = 6 - l.column

@@ -4,7 +4,7 @@ use lib.ListN.{length}
 use Rattle.cli_report.proofs.tables.record_width.Given as goal
 
 abbrev pub invariant-loop-i : goal.invariant-loop-i
-invariant-loop-i l = length l.width ≡ 160
+invariant-loop-i l = length l.cell ≡ 160
 
 abbrev pub decreases-loop-i : goal.decreases-loop-i
 decreases-loop-i l = l.n - l.i

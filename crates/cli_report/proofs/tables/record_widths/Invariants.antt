@@ -4,7 +4,7 @@ use lib.ListN.{length}
 use Rattle.cli_report.proofs.tables.record_widths.Given as goal
 
 abbrev pub invariant-loop-column : goal.invariant-loop-column
-invariant-loop-column l = length l.initial.column ≡ length l.initial.widths
+invariant-loop-column l = length l.widths ≡ length l.initial.widths
 
 abbrev pub decreases-loop-column : goal.decreases-loop-column
 decreases-loop-column l = 7 - l.column

@@ -4,7 +4,7 @@ use lib.ListN.{length}
 use Rattle.cli_report.proofs.tables.row_width.Given as goal
 
 abbrev pub invariant-loop-row : goal.invariant-loop-row
-invariant-loop-row l = length l.width ≡ 160
+invariant-loop-row l = length l.cell ≡ 160
 
 abbrev pub decreases-loop-row : goal.decreases-loop-row
 decreases-loop-row l = l.count - l.row

@@ -3,7 +3,7 @@ use lib.ListN.{length}
 use Rattle.cli_wanted.proofs.again.put_closings.Given as goal
 
 abbrev pub invariant-loop-left : goal.invariant-loop-left
-invariant-loop-left l = length l.left ≡ length l.initial.cut
+invariant-loop-left l = length l.cut ≡ length l.initial.cut
 
 abbrev pub decreases-loop-left : goal.decreases-loop-left
-decreases-loop-left l = l.initial.o
+decreases-loop-left l = l.left

@@ -4,7 +4,7 @@ use lib.ListN.{length}
 use Rattle.cli_wanted.proofs.relaxed.relax_records.Given as goal
 
 abbrev pub invariant-loop-i : goal.invariant-loop-i
-invariant-loop-i l = length l.at ≡ length l.initial.relaxed
+invariant-loop-i l = length l.relaxed ≡ length l.initial.relaxed
 
 abbrev pub decreases-loop-i : goal.decreases-loop-i
-decreases-loop-i l = l.unpacked - l.i
+decreases-loop-i l = l.n - l.i
