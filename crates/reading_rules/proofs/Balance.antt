@@ -21,13 +21,13 @@ counts [] k e = (omega (arith, eqb-true k 0 e), λ n. go n)
     go : (n : ℕ) → closed (take n []) ≤ k + opened (take n [])
     go zero = omega arith
     go (suc n) = omega arith
-counts (word w ∷ ts) k e = let g = counts ts k e in (g.0, λ n. elim n [ zero ↦ omega arith | suc m ↦ g.1 m ])
-counts (string w ∷ ts) k e = let g = counts ts k e in (g.0, λ n. elim n [ zero ↦ omega arith | suc m ↦ g.1 m ])
-counts (equals ∷ ts) k e = let g = counts ts k e in (g.0, λ n. elim n [ zero ↦ omega arith | suc m ↦ g.1 m ])
-counts (comma ∷ ts) k e = let g = counts ts k e in (g.0, λ n. elim n [ zero ↦ omega arith | suc m ↦ g.1 m ])
-counts (opening ∷ ts) k e = let g = counts ts (suc k) e in (omega arith, λ n. elim n [ zero ↦ omega arith | suc m ↦ omega (arith, g.1 m) ])
+counts (word w ∷ ts) k e = let g = counts ts k e in (g.0, λ n. elim n as (λ n. closed (take n (word w ∷ ts)) ≤ k + opened (take n (word w ∷ ts))) [ zero ↦ omega arith | suc m ↦ g.1 m ])
+counts (string w ∷ ts) k e = let g = counts ts k e in (g.0, λ n. elim n as (λ n. closed (take n (string w ∷ ts)) ≤ k + opened (take n (string w ∷ ts))) [ zero ↦ omega arith | suc m ↦ g.1 m ])
+counts (equals ∷ ts) k e = let g = counts ts k e in (g.0, λ n. elim n as (λ n. closed (take n (equals ∷ ts)) ≤ k + opened (take n (equals ∷ ts))) [ zero ↦ omega arith | suc m ↦ g.1 m ])
+counts (comma ∷ ts) k e = let g = counts ts k e in (g.0, λ n. elim n as (λ n. closed (take n (comma ∷ ts)) ≤ k + opened (take n (comma ∷ ts))) [ zero ↦ omega arith | suc m ↦ g.1 m ])
+counts (opening ∷ ts) k e = let g = counts ts (suc k) e in (omega arith, λ n. elim n as (λ n. closed (take n (opening ∷ ts)) ≤ k + opened (take n (opening ∷ ts))) [ zero ↦ omega arith | suc m ↦ omega (arith, g.1 m) ])
 counts (closing ∷ ts) zero e = clash_bool e
-counts (closing ∷ ts) (suc k) e = let g = counts ts k e in (omega arith, λ n. elim n [ zero ↦ omega arith | suc m ↦ omega (arith, g.1 m) ])
+counts (closing ∷ ts) (suc k) e = let g = counts ts k e in (omega arith, λ n. elim n as (λ n. closed (take n (closing ∷ ts)) ≤ (suc k) + opened (take n (closing ∷ ts))) [ zero ↦ omega arith | suc m ↦ omega (arith, g.1 m) ])
 
 counted : (ts : List Token) (k : ℕ) → EvenFrom ts k → balanced_from ts k ≡ true
 unfolding balanced_from opened closed
