@@ -213,7 +213,7 @@ module _ {text cells : List ℕ} {x : Seen} {s : State} {p : Pending} (i : Inv t
   here = act ∙ ap (λ c. act_of s.mode c p.kind x.kind) (context_is s.mode s.numbers s.bodies s.count s.over s.depth i.sized.low)
 
   facts : KindFacts (run_in text p.typed) p.kind
-  facts = subst (KindFacts (run_in text p.typed)) (sym i.kind-is) (kind_facts (run_in text p.typed))
+  facts = subst (KindFacts (run_in text p.typed)) (sym i.kind_is) (kind_facts (run_in text p.typed))
 
   braced : Braced x.kind a ≡ true
   braced = subst (λ b. Braced x.kind b ≡ true) (sym act) (act_braced (context_of s) p.kind x.kind s.mode)
@@ -231,7 +231,7 @@ module _ {text cells : List ℕ} {x : Seen} {s : State} {p : Pending} (i : Inv t
         calm = sym (bad_item (live_from text i.at) (live_from text x.end) x.start (mark x.kind) e) ∙ i.calm;
         room = λ q. shallower (opens x.kind a braced q) n.0;
         shallow = λ z. deeper z (eqb x.kind 123) (eqb x.kind 125) refl refl;
-        kind_after = kind_stays text p a x.kind (span x.start x.end) i.kind-is (λ q. absurd (omega (arith, types x.kind a braced q, mark_small x.kind b)));
+        kind_after = kind_stays text p a x.kind (span x.start x.end) i.kind_is (λ q. absurd (omega (arith, types x.kind a braced q, mark_small x.kind b)));
       }
     where
       shallower : x.kind ≡ 123 → is_deep_brace i.deep x.kind ≡ false → s.depth < 8
@@ -255,7 +255,7 @@ module _ {text cells : List ℕ} {x : Seen} {s : State} {p : Pending} (i : Inv t
         calm = sym (bad_item (live_from text i.at) (live_from text x.end) x.start (run (part text x.start x.end)) e) ∙ i.calm;
         room = λ q. absurd (no q);
         shallow = λ z. (let d = after_deep (open_frames s) s.count a in let h = d.1 no in omega (arith, h, depth_is s, i.shallow));
-        kind_after = kind_stays text p a x.kind (span x.start x.end) i.kind-is (λ _. b);
+        kind_after = kind_stays text p a x.kind (span x.start x.end) i.kind_is (λ _. b);
       }
 
   taken : (x.kind ≡ 0 → ⊥) → TokenTaken text i.at x s p a i.deep
@@ -298,8 +298,8 @@ module _ {text cells : List ℕ} {x : Seen} {s : State} {p : Pending} (i : Inv t
     inv_quiet t f e =
         let k = taken nz in
         let g = far in
-        let ct : t.count ≡ s.count = f.count-is ∙ pick_false _ _ _ e in
-        let ot : t.over ≡ s.over = f.over-is ∙ pick_false _ _ _ e in
+        let ct : t.count ≡ s.count = f.count_is ∙ pick_false _ _ _ e in
+        let ot : t.over ≡ s.over = f.over_is ∙ pick_false _ _ _ e in
         let cs : note_cells s p a cells ≡ cells = no_note e in
         let no : a ≡ 14 → ⊥ = (λ q. not_note q e) in
         let one : parse_placed (length text) (open_frames s) s.count (phase_in text s.mode p) (live_from text i.at) ≡ parse_placed (length text) (frames_after (open_frames s) s.count a) s.count (phase_in text (next_mode a) after_p) (live_from text x.end) = ap (parse_placed (length text) (open_frames s) s.count (phase_in text s.mode p)) k.cut ∙ moves (length text) (open_frames s) s.count (phase_in text s.mode p) x.start k.tok (live_from text x.end) _ _ (k.goes ∙ action_move text (open_frames s) s.count p a x.kind (span x.start x.end) az e) in
@@ -307,15 +307,15 @@ module _ {text cells : List ℕ} {x : Seen} {s : State} {p : Pending} (i : Inv t
           at = x.end;
           sees = next;
           before = i.before;
-          deep = k.deep-after;
-          goes = i.goes ∙ ap (map_outcome (λ r. i.before ++ r)) (one ∙ sym (rw (f.frames, ct, f.mode-is)));
+          deep = k.deep_after;
+          goes = i.goes ∙ ap (map_outcome (λ r. i.before ++ r)) (one ∙ sym (rw (f.frames, ct, f.mode_is)));
           kept = rw (ct, ot) i.kept;
           below = rw (ct, f.frames) (below_stay a s.count (open_frames s) no i.below);
           calm = k.calm;
           nested = k.nested;
           shallow = omega (arith, depth_is t, ap length f.frames, k.shallow az);
           sized = f.sized;
-          kind_is = k.kind-after;
+          kind_is = k.kind_after;
           named = omega (arith, name_in.1, g.0, g.1);
           late = λ q. (let h = i.late (omega arith) in omega (arith, name_in.0));
           counted = omega (arith, i.counted, g.0, g.1);
@@ -370,22 +370,22 @@ module _ {text cells : List ℕ} {x : Seen} {s : State} {p : Pending} (i : Inv t
     inv_note t f e =
         let k = taken nz in
         let g = far in
-        let ct : t.count ≡ suc s.count = f.count-is ∙ (pick_true _ _ _ e ∙ more) in
-        let ot : t.over ≡ over_of s.count s.over p.name.start = f.over-is ∙ pick_true _ _ _ e in
+        let ct : t.count ≡ suc s.count = f.count_is ∙ (pick_true _ _ _ e ∙ more) in
+        let ot : t.over ≡ over_of s.count s.over p.name.start = f.over_is ∙ pick_true _ _ _ e in
         let one : parse_placed (length text) (open_frames s) s.count (phase_in text s.mode p) (live_from text i.at) ≡ map_outcome (λ l. noted_here ∷ l) (parse_placed (length text) (frames_after (open_frames s) s.count a) (suc s.count) (phase_in text (next_mode a) after_p) (live_from text x.end)) = ap (parse_placed (length text) (open_frames s) s.count (phase_in text s.mode p)) k.cut ∙ notes_one (length text) (open_frames s) s.count (phase_in text s.mode p) x.start k.tok (live_from text x.end) _ _ _ (k.goes ∙ action_note text (open_frames s) s.count p a x.kind (span x.start x.end) az e) in
         record {
           at = x.end;
           sees = next;
           before = i.before ++ noted_here ∷ [];
-          deep = k.deep-after;
-          goes = i.goes ∙ (ap (map_outcome (λ r. i.before ++ r)) one ∙ (twice i.before noted_here _ ∙ sym (rw (f.frames, ct, f.mode-is))));
+          deep = k.deep_after;
+          goes = i.goes ∙ (ap (map_outcome (λ r. i.before ++ r)) one ∙ (twice i.before noted_here _ ∙ sym (rw (f.frames, ct, f.mode_is))));
           kept = rw (ct, ot) (kept_after e);
           below = rw (ct, f.frames) (below_after a s.count (open_frames s) i.below);
           calm = k.calm;
           nested = k.nested;
           shallow = omega (arith, depth_is t, ap length f.frames, k.shallow az);
           sized = f.sized;
-          kind_is = k.kind-after;
+          kind_is = k.kind_after;
           named = omega (arith, name_in.1, g.0, g.1);
           late = λ q. (let h = late_after (rw ct at q) in omega (arith, name_in.0));
           counted = omega (arith, i.counted, g.0, g.1);

@@ -188,7 +188,7 @@ module _ (m : ℕ) (ns bs : List ℕ) (c o : ℕ) (n8 : length ns ≡ 8) (b8 : l
       let b = body_moved (suc d) (body_after (get_or bs d 0)) h in
       let e : in_mode (body_mode_of (body_after (get_or bs d 0))) (frames_from (suc d) ns bs) ≡ frame (get_or ns d 0) (after_field (body_mode_of (get_or bs d 0))) ∷ frames_from d ns bs = rw (after_body (get_or bs d 0)) in
       let z : suc d - 1 ≡ d = omega arith in
-      rw (ne_eqb (suc d) 0 (λ q. omega arith), z, entry_in bs d h) (record { mode_same = b.mode-same; count_same = b.count_same; over_same = b.over-same; frames = b.frames ∙ e; sized = b.sized })
+      rw (ne_eqb (suc d) 0 (λ q. omega arith), z, entry_in bs d h) (record { mode_same = b.mode_same; count_same = b.count_same; over_same = b.over_same; frames = b.frames ∙ e; sized = b.sized })
 
   push_moved : (d : ℕ) → d < 8 → c < 65536 → StateMoved (state m d ns bs c o) (pushed_of (state m d ns bs c o)) (frame c in_fields ∷ frames_from d ns bs)
   unfolding pushed_of pick frames_from body_mode_of
@@ -238,9 +238,9 @@ module _ (s : State) (a name : ℕ) (z : Sized s) where
   quiet : (t : State) → eqb a 13 ≡ false → eqb a 14 ≡ false → StateMoved (mode_moved s a) t (frames_after (open_frames s) s.count a) → StateAfter s a name t
   unfolding pick
   quiet t e f w = record {
-    mode_is = w.mode-same;
+    mode_is = w.mode_same;
     count_is = w.count_same ∙ sym (rw (note_none a e f));
-    over_is = w.over-same ∙ sym (rw (note_none a e f));
+    over_is = w.over_same ∙ sym (rw (note_none a e f));
     frames = w.frames;
     sized = w.sized;
   }
@@ -249,15 +249,15 @@ module _ (s : State) (a name : ℕ) (z : Sized s) where
   noting : (t : State) → notes a ≡ true → StateMoved (mode_moved s a) t (frames_after (open_frames s) s.count a) → StateAfter s a name (counted_of t name)
   unfolding pick
   noting t e w = record {
-    mode_is = w.mode-same;
+    mode_is = w.mode_same;
     count_is = rw e (ap more_of w.count_same);
-    over_is = rw (e, w.count_same, w.over-same);
+    over_is = rw (e, w.count_same, w.over_same);
     frames = w.frames;
     sized = record { numbers8 = w.sized.numbers8; bodies8 = w.sized.bodies8; low = w.sized.low };
   }
 
   moved_to : {t : State} {σ τ : List Frame} → StateMoved (mode_moved s a) t σ → σ ≡ τ → StateMoved (mode_moved s a) t τ
-  moved_to w e = record { mode_same = w.mode-same; count_same = w.count_same; over_same = w.over-same; frames = w.frames ∙ e; sized = w.sized }
+  moved_to w e = record { mode_same = w.mode_same; count_same = w.count_same; over_same = w.over_same; frames = w.frames ∙ e; sized = w.sized }
 
   done_here : StateMoved (mode_moved s a) (field_done_of (mode_moved s a)) (field_done (open_frames s))
   done_here = done_moved (next_mode a) s.numbers s.bodies s.count s.over z.numbers8 z.bodies8 s.depth z.low
@@ -272,7 +272,7 @@ module _ (s : State) (a name : ℕ) (z : Sized s) where
       let d : u.depth ≡ s.depth = sym (frames_length u.depth u.numbers u.bodies) ∙ (ap length w.frames ∙ (done_length (open_frames s) ∙ frames_length s.depth s.numbers s.bodies)) in
       let p : StateMoved u (pushed_of u) (frame u.count in_fields ∷ open_frames u) = push_moved u.mode u.numbers u.bodies u.count u.over w.sized.numbers8 w.sized.bodies8 u.depth (omega arith) (omega (arith, w.count_same)) in
       let g : open_frames (pushed_of u) ≡ frames_after (open_frames s) s.count a = p.frames ∙ (rw (w.count_same, w.frames) (frames_14 (open_frames s) s.count a e)) in
-      noting (pushed_of u) (note_14 a e) (record { mode_same = p.mode-same ∙ w.mode-same; count_same = p.count_same ∙ w.count_same; over_same = p.over-same ∙ w.over-same; frames = g; sized = p.sized })
+      noting (pushed_of u) (note_14 a e) (record { mode_same = p.mode_same ∙ w.mode_same; count_same = p.count_same ∙ w.count_same; over_same = p.over_same ∙ w.over_same; frames = g; sized = p.sized })
 
   after_15 : a ≡ 15 → StateAfter s a name (popped_of (mode_moved s a))
   after_15 e = quiet (popped_of (mode_moved s a)) (rw e) (rw e) (moved_to (pop_moved (next_mode a) s.numbers s.bodies s.count s.over z.numbers8 z.bodies8 s.depth z.low) (frames_15 (open_frames s) s.count a e))

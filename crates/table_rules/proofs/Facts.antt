@@ -141,7 +141,7 @@ module _ (rs : List Record) (F : Formed rs) where
   unfolding number_tag
   reading_rules =
       record {
-        counted = λ p h. (fine_at p h).count-pos;
+        counted = λ p h. (fine_at p h).count_pos;
         bare_is_int = λ u q k h b. bare_at_lem u q (kind_union (record_at rs u).kind k) h b;
         no_digit_tags = λ u q k n h i b c.
             let x = untagged_is u (record_at rs q) b in

@@ -100,11 +100,11 @@ module _ (T : List MaybeRun) (A : ℕ → Bool) (q : ℕ) (o : DistinctTops T) (
 
     pub range_passes : range_broken (declaration_for T A q i r) ≡ false
     unfolding range_broken declaration_for within_kind
-    range_passes = rw (type_kind_lem T A r o s.0, range_is T A r.kind r.parent r.untagged r.lo_count r.hi_count r.least r.most r.target r.label o s.0, le-leb (kind_least r.kind) r.least s.0.range-lo, le-leb r.least r.most s.0.range-mid, le-leb r.most (kind_most r.kind) s.0.range-hi)
+    range_passes = rw (type_kind_lem T A r o s.0, range_is T A r.kind r.parent r.untagged r.lo_count r.hi_count r.least r.most r.target r.label o s.0, le-leb (kind_least r.kind) r.least s.0.range_lo, le-leb r.least r.most s.0.range_mid, le-leb r.most (kind_most r.kind) s.0.range_hi)
 
     pub count_passes : count_broken (declaration_for T A q i r) ≡ false
     unfolding count_broken declaration_for count_fine
-    count_passes = rw (count_is T A r.kind r.parent r.untagged r.lo_count r.hi_count r.least r.most r.target r.label o s.0, le-leb r.lo_count count_limit s.0.count-lo, le-leb 1 r.hi_count s.0.count-pos, le-leb r.lo_count r.hi_count s.0.count-mid)
+    count_passes = rw (count_is T A r.kind r.parent r.untagged r.lo_count r.hi_count r.least r.most r.target r.label o s.0, le-leb r.lo_count count_limit s.0.count_lo, le-leb 1 r.hi_count s.0.count_pos, le-leb r.lo_count r.hi_count s.0.count_mid)
 
     pub dangling_passes : (t : ℕ) → (eqb r.kind 10 ≡ true → r.target < 65535) → dangling T (declaration_for T A q i r) ≡ false
     unfolding dangling declaration_for
@@ -120,7 +120,7 @@ module _ (T : List MaybeRun) (A : ℕ → Bool) (q : ℕ) (o : DistinctTops T) (
       where
         ty : (x : Bool) → eqb r.kind 10 ≡ x → RunBytes (pick x (run_bytes (nth_run T r.target)) (keyword_of r.kind))
         ty true e = unfold pick run_bytes in (let z = s.0.to e in rw z.1 (name_runs z.0 z.2))
-        ty false e = unfold pick in keyword_runs r.kind s.0.kind-lo
+        ty false e = unfold pick in keyword_runs r.kind s.0.kind_lo
 
         rn : (x : Bool) → OptRuns (pick x (given (write_range r.least r.most)) absent)
         rn true = unfold pick OptRuns in range_runs r.least r.most
@@ -140,7 +140,7 @@ module _ (T : List MaybeRun) (A : ℕ → Bool) (q : ℕ) (o : DistinctTops T) (
     small_made = (ty (eqb r.kind 10) refl, name_len _ made_name, ca (is_single_value A r.parent), ta (tag_for r.parent r.untagged r.label) made_tag)
       where
         rg : (x : Bool) → run_length (pick x (given (write_range r.least r.most)) absent) ≤ 24
-        rg true = unfold pick run_length in (range_length r.least r.most (omega (arith, s.0.range-mid, s.0.range-hi, most_lt r.kind)) (omega (arith, s.0.range-hi, most_lt r.kind)))
+        rg true = unfold pick run_length in (range_length r.least r.most (omega (arith, s.0.range_mid, s.0.range_hi, most_lt r.kind)) (omega (arith, s.0.range_hi, most_lt r.kind)))
         rg false = unfold pick run_length in omega arith
 
         ty : (x : Bool) → eqb r.kind 10 ≡ x → length (pick x (run_bytes (nth_run T r.target)) (keyword_of r.kind)) + run_length (range_for r.kind r.least r.most) ≤ 63
@@ -149,7 +149,7 @@ module _ (T : List MaybeRun) (A : ℕ → Bool) (q : ℕ) (o : DistinctTops T) (
 
         ca : (x : Bool) → SmallRun 12 (card_for x r.lo_count r.hi_count)
         ca true = unfold card_for SmallRun in tt
-        ca false = unfold card_for SmallRun in (count_length r.lo_count r.hi_count s.0.count-lo s.0.count-hi)
+        ca false = unfold card_for SmallRun in (count_length r.lo_count r.hi_count s.0.count_lo s.0.count_hi)
 
         ta : (t : Tag) → TagCase t → SmallTag t
         ta own_name e = unfold SmallTag in tt

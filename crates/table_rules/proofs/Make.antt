@@ -145,7 +145,7 @@ module _ (rs : List Record) (F : Formed rs) where
 
   bounds : (q : ℕ) → q < length rs → S.lo q ≤ S.hi q
   unfolding schema_of
-  bounds q h = (fine_at rs F q h).count-mid
+  bounds q h = (fine_at rs F q h).count_mid
 
   module _ (p : ℕ) (kind8 : (record_at rs p).kind ≡ 8) where
     mk_items : (l : List ℕ) → ((q : ℕ) → In q l → In q (S.tagged p)) → ((q : ℕ) → In q l → 1 ≤ S.lo q) → ((q : ℕ) → In q l → Have rs q) → (i : Tree items) × Law S p i × (fields_of i ≡ l) × Real i
@@ -210,11 +210,11 @@ module _ (rs : List Record) (F : Formed rs) where
   unfolding Law leaves_then is_void
   has_simple p h n1 n8 n9 n10 e =
       let f = fine_at rs F p h in
-      let l = f.kind-lo in
-      let m = f.kind-hi in
+      let l = f.kind_lo in
+      let m = f.kind_hi in
       let k : (record_at rs p).kind ≤ 7 = small (record_at rs p).kind m n8 n9 n10 in
       let k2 : 2 ≤ (record_at rs p).kind = large (record_at rs p).kind l n1 in
-      let g = simple_value (record_at rs p) k2 k f.range-lo f.range-mid f.range-hi in
+      let g = simple_value (record_at rs p) k2 k f.range_lo f.range_mid f.range_hi in
       some (leaf g.0) (rw e) (rw (own p n10) (e, judge_of rs p g.0 g.1)) (λ r z. cons g.0 r g.2 z)
     where
       large : (k : ℕ) → 1 ≤ k → (k ≡ 1 → ⊥) → 2 ≤ k
@@ -256,7 +256,7 @@ module _ (rs : List Record) (F : Formed rs) where
           let d = bare_of rs p f.0 f.1 in
           let x = untagged_in rs p f.0 d.1 in
           let y = fine_at rs F f.0 x.0 in
-          let g = int_value (record_at rs f.0) (bare_at_lem rs F p f.0 k x.0 x.1) y.range-mid y.range-hi in
+          let g = int_value (record_at rs f.0) (bare_at_lem rs F p f.0 k x.0 x.1) y.range_mid y.range_hi in
           some (chosen_int f.0 g.0) (rw e) (rw c (e, d.0, judge_of rs f.0 (word g.0) g.1)) (λ r z. cons (word g.0) r g.2 z)
 
       tagged : is_tagged_of p (record_at rs q) ≡ true → Have rs q → Have rs p

@@ -75,7 +75,7 @@ fine_of rs A r e =
 pub of_fine : (rs : List Record) (A : ℕ → Bool) (r : Record) → FineRecord rs A r → record_fine rs A r ≡ true
 unfolding record_fine counts_fine range_fine
 of_fine rs A r f =
-    rw (le-leb 1 r.kind f.kind-lo, le-leb r.kind 10 f.kind-hi, le-leb r.lo_count count_limit f.count-lo, le-leb 1 r.hi_count f.count-pos, le-leb r.lo_count r.hi_count f.count-mid, le-leb r.hi_count no_limit f.count-hi, le-leb (kind_least r.kind) r.least f.range-lo, le-leb r.least r.most f.range-mid, le-leb r.most (kind_most r.kind) f.range-hi, f.aim, f.named, f.topped) (by (is_single_value A r.parent) f.alone)
+    rw (le-leb 1 r.kind f.kind_lo, le-leb r.kind 10 f.kind_hi, le-leb r.lo_count count_limit f.count_lo, le-leb 1 r.hi_count f.count_pos, le-leb r.lo_count r.hi_count f.count_mid, le-leb r.hi_count no_limit f.count_hi, le-leb (kind_least r.kind) r.least f.range_lo, le-leb r.least r.most f.range_mid, le-leb r.most (kind_most r.kind) f.range_hi, f.aim, f.named, f.topped) (by (is_single_value A r.parent) f.alone)
   where
     by : (b : Bool) → (b ≡ true → (r.lo_count ≡ 1) × (r.hi_count ≡ 1)) → (not b || (eqb r.lo_count 1 && eqb r.hi_count 1)) && true ≡ true
     by true g = let x = g refl in rw (x.0, x.1)
@@ -155,17 +155,17 @@ flag_of r e q =
 pub ok_of : (rs : List Record) (A : ℕ → Bool) (r : Record) → All (λ r. label_fine r ≡ true) rs → FineRecord rs A r → RecordOk (record_tops rs) A r
 ok_of rs A r h f = (
   record {
-    kind_lo = f.kind-lo;
-    kind_hi = f.kind-hi;
-    single-lo = λ s. (f.alone s).0;
-    single-hi = λ s. (f.alone s).1;
-    count_lo = f.count-lo;
-    count_mid = f.count-mid;
-    count_pos = f.count-pos;
-    count_hi = f.count-hi;
-    range_lo = f.range-lo;
-    range_mid = f.range-mid;
-    range_hi = f.range-hi;
+    kind_lo = f.kind_lo;
+    kind_hi = f.kind_hi;
+    single_lo = λ s. (f.alone s).0;
+    single_hi = λ s. (f.alone s).1;
+    count_lo = f.count_lo;
+    count_mid = f.count_mid;
+    count_pos = f.count_pos;
+    count_hi = f.count_hi;
+    range_lo = f.range_lo;
+    range_mid = f.range_mid;
+    range_hi = f.range_hi;
     to = λ e. top_at_lem rs r.target h (aimed e f.aim);
     to_none = λ e. eqb-true r.target none16 (aimless e f.aim);
   },

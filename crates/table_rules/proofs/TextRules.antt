@@ -198,16 +198,16 @@ module _ (T : List MaybeRun) (rs : List Record) (ks : List ℕ) (found : (w : Li
       let x = count_facts (count_range_of c) (not-false (count_fine (count_range_of c)) cb) in
       let y = range_facts (kind_of_run w) (limits_of (kind_of_run w) g) (not-false (within_kind (kind_of_run w) (limits_of (kind_of_run w) g)) rb) in
       record {
-        kind-lo = kind_ge w;
-        kind-hi = kind_le w;
-        count-lo = x.0;
-        count-pos = x.1;
-        count-mid = x.2;
-        count-hi = high_le c;
+        kind_lo = kind_ge w;
+        kind_hi = kind_le w;
+        count_lo = x.0;
+        count_pos = x.1;
+        count_mid = x.2;
+        count_hi = high_le c;
         alone = alones u c (λ z. (head_card w g n c t p (tp z)).0) ab;
-        range-lo = y.0;
-        range-mid = y.1;
-        range-hi = y.2;
+        range_lo = y.0;
+        range_mid = y.1;
+        range_hi = y.2;
         aim = unfold target_fine in (aims w db);
         named = unfold label_fine shows_name in (labels u n t (λ z. (head_card w g n c t p (tp z)).1) (not-false (name_form n) nb) tb);
         topped = unfold top_fine in (topped u w g n c t p tp);
@@ -319,7 +319,7 @@ storables T rs A [] σ k d o h f = tt
 storables T rs A (declaration u e (heading w g n c t p) ∷ ds) σ k d o h f =
     let x = f.0 in
     let m = most_lt (kind_of_run w) in (
-      (up_low k σ u d (omega arith) o.0, omega (arith, x.range-mid, x.range-hi), omega (arith, x.range-hi)),
+      (up_low k σ u d (omega arith) o.0, omega (arith, x.range_mid, x.range_hi), omega (arith, x.range_hi)),
       storables T rs A ds _ (suc k) (desc_push k (is_compound (type_run (heading w g n c t p))) (in_extension e (closed_to u σ)) (desc_extension k e (closed_to u σ) (desc_closed k u σ d))) o.2 (omega arith) f.1,
     )
 

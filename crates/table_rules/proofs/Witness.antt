@@ -198,7 +198,7 @@ module _ (T : List MaybeRun) (A : ℕ → Bool) (k : ℕ) (u : Up) (n : Bool) (c
     where
       by : (b : Bool) → eqb k 10 ≡ b → kind_of_run (pick b (run_bytes (nth_run T t)) (keyword_of k)) ≡ k
       by true e = unfold pick run_bytes in (let x = s.to e in rw x.1 (name_kind x.0 x.2 ∙ sym (eqb-true k 10 e)))
-      by false e = unfold pick in keyword_kind k s.kind-lo (let x = eqb-false k 10 e in let y = s.kind-hi in omega arith)
+      by false e = unfold pick in keyword_kind k s.kind_lo (let x = eqb-false k 10 e in let y = s.kind_hi in omega arith)
 
   target_is : target_of T k (type_for T k t) ≡ t
   unfolding target_of type_for
@@ -212,16 +212,16 @@ module _ (T : List MaybeRun) (A : ℕ → Bool) (k : ℕ) (u : Up) (n : Bool) (c
   count_is = by (is_single_value A u) refl
     where
       by : (b : Bool) → is_single_value A u ≡ b → count_range_of (card_for b c d) ≡ range c d
-      by true e = unfold count_range_of card_for in (rw (s.single-lo e, s.single-hi e))
-      by false e = unfold count_range_of card_for in (count_back c d s.count-lo s.count-hi)
+      by true e = unfold count_range_of card_for in (rw (s.single_lo e, s.single_hi e))
+      by false e = unfold count_range_of card_for in (count_back c d s.count_lo s.count_hi)
 
   pub range_is : limits_of k (range_for k a b) ≡ range a b
   unfolding range_for
   range_is = by (kind_takes_range k) refl
     where
       by : (r : Bool) → kind_takes_range k ≡ r → limits_of k (pick r (given (write_range a b)) absent) ≡ range a b
-      by true e = unfold pick limits_of in (let x = most_lt k in range_back a b (omega (arith, s.range-mid, s.range-hi)) (omega (arith, s.range-hi)))
-      by false e = unfold pick limits_of kind_least kind_most in (let x = no_range_lem k e in let y : a ≡ bias = omega (arith, s.range-lo, s.range-mid, s.range-hi) in let z : b ≡ bias = omega (arith, s.range-lo, s.range-mid, s.range-hi) in rw (y, z, unranged k 3 e ranged_3, unranged k 5 e ranged_5, e))
+      by true e = unfold pick limits_of in (let x = most_lt k in range_back a b (omega (arith, s.range_mid, s.range_hi)) (omega (arith, s.range_hi)))
+      by false e = unfold pick limits_of kind_least kind_most in (let x = no_range_lem k e in let y : a ≡ bias = omega (arith, s.range_lo, s.range_mid, s.range_hi) in let z : b ≡ bias = omega (arith, s.range_lo, s.range_mid, s.range_hi) in rw (y, z, unranged k 3 e ranged_3, unranged k 5 e ranged_5, e))
 
 label_is : (u : Up) (n : Bool) (l m : List ℕ) → label_of (pick (shows u n) l m) (tag_for u n l) ≡ l
 unfolding label_of tag_for shows is_top pick
