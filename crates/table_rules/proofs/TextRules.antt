@@ -346,7 +346,7 @@ before_from σ k (r ∷ rs) d o zero h =
     subst (λ (j : ℕ). Before j r.parent) z (up_before k σ r.parent d (stands (closed_to r.parent σ) r (both_true (stands_in (closed_to r.parent σ) r) _ o).0))
 before_from σ k (r ∷ rs) d o (suc i) h =
     let z : suc k + i ≡ k + suc i = omega arith in
-    subst (λ (j : ℕ). Before j (record_at rs i).parent) z (before_from _ (suc k) rs (desc_push k (kind_is_compound r.kind) _ (desc_extension k r.extension _ (desc_closed k r.parent σ d))) (both_true (stands_in (closed_to r.parent σ) r) _ o).1 i (omega arith))
+    subst (λ (j : ℕ). Before j (record_at rs i).parent) z (before_from (push_if (kind_is_compound r.kind) k (in_extension r.extension (closed_to r.parent σ))) (suc k) rs (desc_push k (kind_is_compound r.kind) _ (desc_extension k r.extension _ (desc_closed k r.parent σ d))) (both_true (stands_in (closed_to r.parent σ) r) _ o).1 i (omega arith))
 
 pub ordered_after_parents : (rs : List Record) → ordered [] 0 rs ≡ true → AfterParents rs
 unfolding AfterParents

@@ -20,7 +20,7 @@ pub unpack-requires : goal.unpack-requires
 unpack-requires c = head_there c.args.table.now c.loop-at.at _ c.loop-at-test.true c.length_at-size.ensures.0 c.if-size-eq0.false
 
 pub loop-at-preserved : goal.loop-at-preserved
-loop-at-preserved c = (along_more c.args.table.now c.loop-at.unpacked c.loop-at.n c.loop-at.at c.loop-at.invariant.0 c.loop-at-test.true _ _ c.length_at-size.ensures.0 c.length_at-size.ensures.1 c.if-size-eq0.false c.if-n-eq-PARAMETER_LIMIT.false c.unpack.auto.1.1.0 c.unpack.ensures, c.unpack.auto.1.1.0 ∙ c.loop-at.invariant.1)
+loop-at-preserved c = (along_more c.args.table.now c.loop-at.unpacked c.loop-at.n c.loop-at.at c.loop-at.invariant.0 c.loop-at-test.true _ _ c.length_at-size.ensures.0 c.length_at-size.ensures.1 c.if-size-eq0.false c.if-n-eq-PARAMETER_LIMIT.false c.unpack.auto.unpacked c.unpack.ensures, c.unpack.auto.unpacked ∙ c.loop-at.invariant.1)
 
 pub returns : goal.returns
 unfolding Walked
