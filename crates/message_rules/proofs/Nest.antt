@@ -1,5 +1,5 @@
 -- T18: every row's span lies in its parent row's span.
-use mathlib.Core.Path.{◌≡◌, refl, ap}
+use mathlib.Core.Path.{◌≡◌, refl, ap, subst}
 use mathlib.Core.List.{List, [], ◌∷◌, ◌++◌}
 use Prim.Native.Nat.{ℕ, suc, ◌+◌, ◌-◌, ◌≤◌}
 use native.Mathlib.Omega.{arith}
@@ -54,7 +54,7 @@ holds_self r rs = shift (r ∷ []) rs
 
     shift : (a b : List Row) → Holds (a ++ b) (length a) b
     shift a [] = tt
-    shift a (r ∷ b) = (at a r b, rw (← (join a r b), ← (long a r)) (shift (a ++ (r ∷ [])) b))
+    shift a (r ∷ b) = (at a r b, subst (λ l. Holds l (suc (length a)) b) (join a r b) (subst (λ n. Holds ((a ++ (r ∷ [])) ++ b) n b) (long a r) (shift (a ++ (r ∷ [])) b)))
 
 module _ (ls : List Lexeme) (at end : ℕ) (o : Ordered at ls end) (all : List Row) where
   -- tokens of a row lie in the row's span

@@ -13,7 +13,7 @@ returns-then-mark_at-clause-have_after c = rw (sym c.mark_at.ensures ∙ c.if-ma
 
 pub returns-then-has_value-clause-value : goal.returns-then-has_value-clause-value
 unfolding is_newly_finite add_if pick
-returns-then-has_value-clause-value c = rw (c.set_mark.ensures, sym c.mark_at.ensures ∙ c.if-mark_at.false, sym c.has_value.ensures ∙ c.if-has_value.true) (refl)
+returns-then-has_value-clause-value c = rw (sym c.mark_at.ensures ∙ c.if-mark_at.false, sym c.has_value.ensures ∙ c.if-has_value.true) (refl)
 
 pub returns-then-has_value-clause-have_after : goal.returns-then-has_value-clause-have_after
 unfolding is_newly_finite add_if pick
