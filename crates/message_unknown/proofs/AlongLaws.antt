@@ -16,17 +16,26 @@ use Rattle.message_tokens.proofs.Heads.{step_lex}
 use Rattle.message_unknown.specs.Along.{Tail, here, later}
 
 pub tail_trans : {A : Type 0} (x y z : List A) → Tail z y → Tail y x → Tail z x
-tail_trans x y z t here = t
-tail_trans x y z t (later l x' u) = later l x' (tail_trans x' y z t u)
+tail_trans {A} x y z t u = go x u
+  where
+    go : (x : List A) → Tail y x → Tail z x
+    go x here = t
+    go x (later l x' u) = later l x' (go x' u)
 
 pub tail_length : {A : Type 0} (x y : List A) → Tail y x → length y ≤ length x
-tail_length x y here = omega arith
-tail_length x y (later l x' t) = omega (arith, tail_length x' y t)
+tail_length {A} x y t = go x t
+  where
+    go : (x : List A) → Tail y x → length y ≤ length x
+    go x here = omega arith
+    go x (later l x' t) = omega (arith, go x' t)
 
 pub tail_drop : {A : Type 0} (x y : List A) → Tail y x → drop (length x - length y) x ≡ y
-tail_drop x y here = let e : length x - length x ≡ 0 = omega arith in rw e refl
-tail_drop x y (later l x' t) =
-    let e : suc (length x') - length y ≡ suc (length x' - length y) = omega (arith, tail_length x' y t) in rw e (tail_drop x' y t)
+tail_drop {A} x y t = go x t
+  where
+    go : (x : List A) → Tail y x → drop (length x - length y) x ≡ y
+    go x here = let e : length x - length x ≡ 0 = omega arith in rw e refl
+    go x (later l x' t) =
+        let e : suc (length x') - length y ≡ suc (length x' - length y) = omega (arith, tail_length x' y t) in rw e (go x' t)
 
 pub drop_tail : {A : Type 0} (n : ℕ) (x : List A) → Tail (drop n x) x
 drop_tail zero x = here

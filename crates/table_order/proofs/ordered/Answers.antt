@@ -21,7 +21,7 @@ pub opened-depth-requires : goal.opened-depth-requires
 opened-depth-requires c = (omega (arith, c.requires, c.loop-i-test.true), omega (arith, c.closed_to-depth.ensures.1, c.loop-i.invariant.1, c.loop-i.invariant.2), λ k. omega (arith, stands_room (frames_of c.loop-i.bodies c.closed_to-depth.result) (record_in c.args.table.now c.args.unpacked.now c.loop-i.i) (sym c.stands_in.ensures ∙ not-false _ c.if-not-stands_in.false-raw) k, length_frames c.loop-i.bodies c.closed_to-depth.result, c.loop-i.invariant.2))
 
 pub loop-i-preserved : goal.loop-i-preserved
-loop-i-preserved c = (c.loop-i.invariant.0 ∙ order_more c.args.table.now c.args.unpacked.now c.args.n c.loop-i.i (frames_of c.loop-i.bodies c.loop-i.depth) (frames_of c.loop-i.bodies c.closed_to-depth.result) (number_up c.parent_at.result) (parent_number_lem c.args.table.now c.args.unpacked.now c.loop-i.i _ c.parent_at.ensures) c.closed_to-depth.ensures.0 c.loop-i-test.true (frames_of c.opened-depth.new.1.1.1.0 c.opened-depth.result) (sym c.stands_in.ensures ∙ not-false _ c.if-not-stands_in.false-raw) c.opened-depth.ensures.0, omega (arith, c.opened-depth.ensures.1, c.loop-i.invariant.2), omega (arith, c.opened-depth.auto.1.1.1.0, c.loop-i.invariant.2))
+loop-i-preserved c = (c.loop-i.invariant.0 ∙ order_more c.args.table.now c.args.unpacked.now c.args.n c.loop-i.i (frames_of c.loop-i.bodies c.loop-i.depth) (frames_of c.loop-i.bodies c.closed_to-depth.result) (number_up c.parent_at.result) (parent_number_lem c.args.table.now c.args.unpacked.now c.loop-i.i _ c.parent_at.ensures) c.closed_to-depth.ensures.0 c.loop-i-test.true (frames_of c.opened-depth.new.bodies c.opened-depth.result) (sym c.stands_in.ensures ∙ not-false _ c.if-not-stands_in.false-raw) c.opened-depth.ensures.0, omega (arith, c.opened-depth.ensures.1, c.loop-i.invariant.2), omega (arith, c.opened-depth.auto.bodies, c.loop-i.invariant.2))
 
 pub returns : goal.returns
 returns c = sym (c.loop-i.invariant.0 ∙ order_end c.args.table.now c.args.unpacked.now c.args.n c.loop-i.i (frames_of c.loop-i.bodies c.loop-i.depth) c.loop-i-test.false)

@@ -1,0 +1,6 @@
+use mathlib.Core.Path.{sym, ◌∙◌}
+use Rattle.text.proofs.Decimal.{fewest}
+use Rattle.text.proofs.put_decimal.Goals as goal
+
+pub returns : goal.returns
+returns c = rw (sym (fewest _ _ c.decimal-k.ensures.len.0 c.??ranges.n.fits) ∙ sym c.decimal-k.ensures.len.1) c.put_text.ensures
