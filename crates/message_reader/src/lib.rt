@@ -200,7 +200,7 @@ fn open_row(rows: &mut [u32], f: Frame, start: usize)
 }
 
 // Any value: a loop down a chain of choices, whose rows are neighbours with one end, then a value that is no choice.
-#[cycle(body_braced_element_fields_list_list_value_plain_value_value)]
+#[cycle(reading)]
 fn value(table: &[u8], unpacked: &[u32], n: usize, s: &[u8], rows: &mut [u32], f: Frame) -> Got
     requires room { Room f (length s.now) n }
     requires searchable { Searchable table.now unpacked.now n }
@@ -233,7 +233,7 @@ fn value(table: &[u8], unpacked: &[u32], n: usize, s: &[u8], rows: &mut [u32], f
 // ---- values that are no choices
 
 // A struct's value: the part after its brace is handed on to the reader of its body.
-#[cycle(body_braced_element_fields_list_list_value_plain_value_value)]
+#[cycle(reading)]
 fn braced(
     table: &[u8],
     unpacked: &[u32],
@@ -261,7 +261,7 @@ fn braced(
 }
 
 // A value of what is no union: f.parameter's, whose own kind is that of u.
-#[cycle(body_braced_element_fields_list_list_value_plain_value_value)]
+#[cycle(reading)]
 fn plain_value(
     table: &[u8],
     unpacked: &[u32],
@@ -298,7 +298,7 @@ enum Taken {
 }
 
 // The value of a list, quickly where it is plain digits of a list of ints.
-#[cycle(body_braced_element_fields_list_list_value_plain_value_value)]
+#[cycle(reading)]
 fn list_value(
     table: &[u8],
     unpacked: &[u32],
@@ -325,7 +325,7 @@ fn list_value(
 }
 
 // The value of a list, and what follows it.
-#[cycle(body_braced_element_fields_list_list_value_plain_value_value)]
+#[cycle(reading)]
 fn element(
     table: &[u8],
     unpacked: &[u32],
@@ -362,7 +362,7 @@ fn element(
 }
 
 // The whole list of a field, whose first value f is for.
-#[cycle(body_braced_element_fields_list_list_value_plain_value_value)]
+#[cycle(reading)]
 fn list(table: &[u8], unpacked: &[u32], n: usize, s: &[u8], rows: &mut [u32], f: Frame) -> Got
     requires room { Room f (length s.now) n }
     requires searchable { Searchable table.now unpacked.now n }
@@ -475,7 +475,7 @@ fn next_part(
 
 // The untagged fields' lists in order, then the items: one loop, so that one place calls `list`, which is then inlined.
 // Each tag is looked for from behind the field found last, so that items in the table's order are found at once.
-#[cycle(body_braced_element_fields_list_list_value_plain_value_value)]
+#[cycle(reading)]
 fn fields(
     table: &[u8],
     unpacked: &[u32],
@@ -518,7 +518,7 @@ fn fields(
 }
 
 // The body of f.parameter, inside braces or the root's. Number 0 never shows where the braces are at most as deep as f.depth says.
-#[cycle(body_braced_element_fields_list_list_value_plain_value_value)]
+#[cycle(reading)]
 pub fn body(
     table: &[u8],
     unpacked: &[u32],
