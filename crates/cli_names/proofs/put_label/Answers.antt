@@ -1,0 +1,12 @@
+use mathlib.Core.Path.{sym, ◌∙◌}
+use Rattle.text.proofs.Writing.{both}
+use Rattle.cli_names.specs.Labels.{shown_label}
+use Rattle.cli_names.proofs.put_label.Goals as goal
+
+pub returns-then-same_bytes : goal.returns-then-same_bytes
+unfolding shown_label
+returns-then-same_bytes c = rw (sym c.same_bytes.ensures ∙ c.if-same_bytes.true) c.put_text.ensures
+
+pub returns : goal.returns
+unfolding shown_label
+returns c = rw (sym c.same_bytes.ensures ∙ c.if-same_bytes.false) (both (both (both c.put_text-o.ensures c.put_text-o-2.ensures) c.put_text-o-3.ensures) c.put_text-2.ensures)

@@ -1,0 +1,11 @@
+use Rattle.cli_wording.specs.Sayings.{bytes}
+use Rattle.cli_report.specs.Shown.{mark_text}
+use Rattle.cli_report.proofs.refusals.put_mark.Goals as goal
+
+pub returns-then-last : goal.returns-then-last
+unfolding mark_text bytes
+returns-then-last c = rw c.if-last.true c.put_text.ensures
+
+pub returns : goal.returns
+unfolding mark_text bytes
+returns c = rw c.if-last.false c.put_text-2.ensures

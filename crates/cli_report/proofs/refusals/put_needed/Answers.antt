@@ -1,0 +1,8 @@
+use Rattle.text.proofs.Writing.{both}
+use Rattle.cli_wording.specs.Sayings.{bytes}
+use Rattle.cli_report.specs.Shown.{needed_text}
+use Rattle.cli_report.proofs.refusals.put_needed.Goals as goal
+
+pub returns : goal.returns
+unfolding needed_text bytes
+returns c = both (both (both (both c.put_text-o.ensures c.put_text-o-2.ensures) c.put_decimal-o.ensures) c.put_text-o-3.ensures) c.put_refused.ensures

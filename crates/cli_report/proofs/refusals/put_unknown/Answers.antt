@@ -1,0 +1,8 @@
+use Rattle.text.proofs.Writing.{both}
+use Rattle.cli_wording.specs.Sayings.{bytes}
+use Rattle.cli_report.specs.Shown.{unknown_line}
+use Rattle.cli_report.proofs.refusals.put_unknown.Goals as goal
+
+pub returns : goal.returns
+unfolding unknown_line bytes
+returns c = both (both (both c.put_where-o.ensures c.put_text-o.ensures) c.put_text-o-2.ensures) c.put_byte.ensures

@@ -1,0 +1,8 @@
+use Rattle.text.proofs.Writing.{both}
+use Rattle.cli_wording.specs.Sayings.{bytes}
+use Rattle.cli_report.specs.Shown.{where_text}
+use Rattle.cli_report.proofs.refusals.put_where.Goals as goal
+
+pub returns : goal.returns
+unfolding where_text bytes
+returns c = rw (← c.line_of.ensures, ← c.column_of.ensures) (both (both (both (both (both c.put_text-o.ensures c.put_byte-o.ensures) c.put_decimal-o.ensures) c.put_byte-o-2.ensures) c.put_decimal-o-2.ensures) c.put_text.ensures)
