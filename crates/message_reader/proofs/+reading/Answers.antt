@@ -57,7 +57,7 @@ pub fields-loop-q-preserved : goal.fields-loop-q-preserved
 fields-loop-q-preserved t c = rw (c.moved-g-in-On.ensures, untagged_end) (rw c.in-On.is at (c.next_part.ensures _ _ c.loop-q.invariant)).1
 
 pub list-loop-v-init : goal.list-loop-v-init
-list-loop-v-init t c = listing_start _ _ _ _ c.requires.room.here c.requires.parameter_lt_n
+list-loop-v-init t c = listing_start _ _ _ _ c.requires.room.here c.requires.parameter_lt_n.1
 
 pub list-loop-v-smaller : goal.list-loop-v-smaller
 list-loop-v-smaller t c = let t = (listing_turn c.loop-v.invariant _ c.element.result _ _ c.element.ensures c.in-On.is) in rw c.next_value-g.ensures (omega (arith, t))

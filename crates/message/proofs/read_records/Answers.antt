@@ -1,0 +1,14 @@
+use Rattle.message.proofs.Passes.{with_fault, too_long, bad_byte_lem}
+use Rattle.message.proofs.read_records.Goals as goal
+
+pub returns-then-message-gt-MESSAGE_LIMIT-clause-result_value : goal.returns-then-message-gt-MESSAGE_LIMIT-clause-result_value
+returns-then-message-gt-MESSAGE_LIMIT-clause-result_value c = (with_fault _ _ _ _ (too_long _ _ _ _ c.if-message-gt-MESSAGE_LIMIT.true)).0
+
+pub returns-then-message-gt-MESSAGE_LIMIT-clause-rows_after : goal.returns-then-message-gt-MESSAGE_LIMIT-clause-rows_after
+returns-then-message-gt-MESSAGE_LIMIT-clause-rows_after c = (with_fault _ _ _ _ (too_long _ _ _ _ c.if-message-gt-MESSAGE_LIMIT.true)).1
+
+pub returns-in-Fault-clause-result_value : goal.returns-in-Fault-clause-result_value
+returns-in-Fault-clause-result_value c = (with_fault _ _ _ _ (bad_byte_lem _ _ _ _ c.scan_fault.result _ c.if-message-gt-MESSAGE_LIMIT.false c.scan_fault.ensures c.in-Fault.is)).0
+
+pub returns-in-Fault-clause-rows_after : goal.returns-in-Fault-clause-rows_after
+returns-in-Fault-clause-rows_after c = (with_fault _ _ _ _ (bad_byte_lem _ _ _ _ c.scan_fault.result _ c.if-message-gt-MESSAGE_LIMIT.false c.scan_fault.ensures c.in-Fault.is)).1
