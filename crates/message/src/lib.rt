@@ -26,7 +26,7 @@ pub enum Verdict {
 
 // The empty part, at the message's start.
 fn empty_part<'a>(message: &'a [u8]) -> &'a [u8]
-    ensures ref_ptr_value { result.ref_ptr ≡ further message.entry.ptr 0 }
+    ensures ref_ptr_value { result.ref_ptr ≡ further message.entry.ref_ptr 0 }
     ensures result_value { result.now ≡ [] }
 {
     &message[0..0]
@@ -35,7 +35,7 @@ fn empty_part<'a>(message: &'a [u8]) -> &'a [u8]
 // A row's part of the message itself, empty where the row or its span isn't there. Any row may be asked for.
 pub fn row_bytes<'a>(message: &'a [u8], rows: &[u32], row: usize) -> &'a [u8]
     ensures result_value { result.now ≡ row_bytes message.now rows.now row }
-    ensures ref_ptr_value { result.ref_ptr ≡ further message.entry.ptr (row_start message.now rows.now row) }
+    ensures ref_ptr_value { result.ref_ptr ≡ further message.entry.ref_ptr (row_start message.now rows.now row) }
 {
     if rows.len() / numbers::ROW_WIDTH <= row {
         return empty_part(message);

@@ -1,4 +1,4 @@
-use Rattle.message.proofs.Passes.{with_fault, too_long, bad_byte_lem}
+use Rattle.message.proofs.Passes.{with_fault, too_long, bad_byte_lem, no_bad}
 use Rattle.message.proofs.read_records.Goals as goal
 
 pub returns-then-message-gt-MESSAGE_LIMIT-clause-result_value : goal.returns-then-message-gt-MESSAGE_LIMIT-clause-result_value
@@ -12,3 +12,9 @@ returns-in-Fault-clause-result_value c = (with_fault _ _ _ _ (bad_byte_lem _ _ _
 
 pub returns-in-Fault-clause-rows_after : goal.returns-in-Fault-clause-rows_after
 returns-in-Fault-clause-rows_after c = (with_fault _ _ _ _ (bad_byte_lem _ _ _ _ c.scan_fault.result _ c.if-message-gt-MESSAGE_LIMIT.false c.scan_fault.ensures c.in-Fault.is)).1
+
+pub returns-in-Clean-clause-result_value : goal.returns-in-Clean-clause-result_value
+returns-in-Clean-clause-result_value c = rw (no_bad _ _ _ _ c.scan_fault.result c.if-message-gt-MESSAGE_LIMIT.false c.scan_fault.ensures c.in-Clean.is) c.read_tokens.ensures.result_value
+
+pub returns-in-Clean-clause-rows_after : goal.returns-in-Clean-clause-rows_after
+returns-in-Clean-clause-rows_after c = rw (no_bad _ _ _ _ c.scan_fault.result c.if-message-gt-MESSAGE_LIMIT.false c.scan_fault.ensures c.in-Clean.is) c.read_tokens.ensures.rows_after
