@@ -1,7 +1,7 @@
 /*
  * Lumas: definitions compiled to tables, and messages read by them.
  *
- * Link target/staticlib/liblumas.a, which `rt staticlib lumas` writes (x86-64 Linux, no other
+ * Link crates/lumas/out/liblumas.a, which `tools/library` writes (x86-64 Linux, no other
  * library but C's memset). docs/FORMAT.md has the format. What each function promises here is
  * proved of its code, for any bytes: crates/lumas/src/lib.rt has the promises as equations.
  *

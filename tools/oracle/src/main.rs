@@ -16,7 +16,7 @@ usage: oracle answer                 answer the frames of standard input, a line
 
 const NO_LIBRARY: &str = "\
 oracle: this program has no proved reader linked. In the repository,
-    rt staticlib lumas
+    tools/library
     cd tools/oracle && cargo run --release --offline --features bench -- bench
 build and time both (tools/bench does so); LUMAS_LIB names another folder of liblumas.a.
 `oracle bench --plain` times the plain reader alone.
