@@ -139,7 +139,8 @@ fn compile_declarations(text: &[u8], cells: &[u32], n: usize, table: &mut [u8]) 
         }
         Stop::Clear => {}
     }
-    if table.len() < len {
+    let lacks_room = table.len() < len;
+    if lacks_room {
         return Compiled::Refused(11, len);
     }
     definition_writer::copy_out(&scratch, len, table);
@@ -155,7 +156,8 @@ pub fn compile(text: &[u8], table: &mut [u8]) -> Compiled
     ensures stuck_promise { StuckPromise text.now (answer_of_compile result) }
     ensures endless_promise { EndlessPromise text.now (answer_of_compile result) }
 {
-    if numbers::TEXT_LIMIT < text.len() {
+    let is_long = numbers::TEXT_LIMIT < text.len();
+    if is_long {
         return Compiled::Refused(1, numbers::TEXT_LIMIT);
     }
     match definition_scanner::scan_fault(text) {

@@ -112,7 +112,8 @@ fn read_records(
     ensures result_value { answer_of_read result ≡ with_room (length rows.old) (room_free (records_at table.now unpacked.now n) message.now) }
     ensures rows_after { rows.new ≡ written rows.old (room_free (records_at table.now unpacked.now n) message.now) }
 {
-    if numbers::MESSAGE_LIMIT < message.len() {
+    let is_long = numbers::MESSAGE_LIMIT < message.len();
+    if is_long {
         return Verdict::Refused(21, numbers::MESSAGE_LIMIT);
     }
     match message_tokens::scan_fault(message) {

@@ -22,7 +22,8 @@ fn length_at(table: &[u8], at: usize) -> usize
         return 0;
     }
     let left = table.len() - at;
-    if left < numbers::RECORD_HEADER {
+    let is_cut = left < numbers::RECORD_HEADER;
+    if is_cut {
         return 0;
     }
     let size = numbers::u16_as_usize(numbers::u16_at(table, at));
