@@ -1,6 +1,5 @@
 // lumas: compiles definitions, reads messages by them, shows tables and says what refusals mean.
-// Results go to standard output, refusals and other messages to people to standard error, and the exit
-// status as one digit to descriptor 3, where bin/lumas reads it: a program itself can't give one.
+// Results go to standard output, refusals and other messages to people to standard error.
 #![tactic(auto)]
 
 mod messages;
@@ -11,9 +10,8 @@ use cli_pages::{ACCEPTED, UNUSABLE, ended, misused, started};
 use cli_tables::{check_file, compile_file, show_file};
 use messages::read_file;
 use numbers::Side;
-use words::{WORD, Words, words_of};
-
-const STATUS_FILENO: i32 = 3;
+use std::process::ExitCode;
+use words::{WORD, Words, count_words, short_word, words_of};
 
 #[derive(Clone, Copy)]
 enum Command {
@@ -27,18 +25,18 @@ enum Command {
     Unknown,
 }
 
-fn explain(number: &[u8], out: &mut [u8]) -> u8 {
+fn explain(rt: HostRuntime, number: &[u8], out: &mut [u8]) -> u8 {
     let Side::Value(n) = numbers::read_count(number) else {
-        return misused(b"explain takes a number");
+        return misused(rt, b"explain takes a number");
     };
     if !cli_wording::is_refusal(n) {
-        return misused(b"refusals have the numbers 1 to 11 and 20 to 30");
+        return misused(rt, b"refusals have the numbers 1 to 11 and 20 to 30");
     }
     let at = cli_wording::put_explanation(out, 0, n);
-    ended(out, started(at), ACCEPTED)
+    ended(rt, out, started(at), ACCEPTED)
 }
 
-fn help(out: &mut [u8]) -> u8 {
+fn help(rt: HostRuntime, out: &mut [u8]) -> u8 {
     let at = text::put_text(
         out,
         0,
@@ -67,12 +65,12 @@ standard error.
 Exit status: 0 accepted; 1 refused; 2 wrong use, or a file can't be read or written.
 ",
     );
-    ended(out, started(at), ACCEPTED)
+    ended(rt, out, started(at), ACCEPTED)
 }
 
-fn version(out: &mut [u8]) -> u8 {
+fn version(rt: HostRuntime, out: &mut [u8]) -> u8 {
     let at = text::put_text(out, 0, b"lumas 0.1.0\n");
-    ended(out, started(at), ACCEPTED)
+    ended(rt, out, started(at), ACCEPTED)
 }
 
 fn command_of(word: &[u8]) -> Command {
@@ -107,67 +105,74 @@ fn is_help(word: &[u8]) -> bool {
 }
 
 // A command on the file that argument i names.
-fn with_one(command: Command, i: usize, out: &mut [u8]) -> u8 {
+fn with_one(rt: HostRuntime, command: Command, i: usize, out: &mut [u8]) -> u8 {
     let mut buf = io::buffer();
-    let Loaded::Bytes(n) = word(i, &mut buf) else {
+    let Loaded::Bytes(n) = word(rt, i, &mut buf) else {
         return UNUSABLE;
     };
     let path = classes::part(&buf, 0, n);
     match command {
-        Command::Show => show_file(path, out),
-        Command::Check => check_file(path, out),
-        _ => explain(path, out),
+        Command::Show => show_file(rt, path, out),
+        Command::Check => check_file(rt, path, out),
+        _ => explain(rt, path, out),
     }
 }
 
 // compile and read. One of the two files that are read can be standard input; a table is not written there.
-fn with_paths(is_read: bool, from: &[u8], to: &[u8], is_plain: bool, out: &mut [u8]) -> u8 {
+fn with_paths(
+    rt: HostRuntime,
+    is_read: bool,
+    from: &[u8],
+    to: &[u8],
+    is_plain: bool,
+    out: &mut [u8],
+) -> u8 {
     if is_read {
         if is_input(from) & is_input(to) {
-            return misused(b"only one of two files can be standard input");
+            return misused(rt, b"only one of two files can be standard input");
         }
-        return read_file(from, to, is_plain, out);
+        return read_file(rt, from, to, is_plain, out);
     }
     if is_input(to) {
-        return misused(b"- is standard input, and the table needs a file");
+        return misused(rt, b"- is standard input, and the table needs a file");
     }
-    compile_file(from, to, out)
+    compile_file(rt, from, to, out)
 }
 
 // A command on the files that two words name.
-fn with_two(is_read: bool, words: Words, out: &mut [u8]) -> u8 {
+fn with_two(rt: HostRuntime, is_read: bool, words: Words, out: &mut [u8]) -> u8 {
     let mut first = io::buffer();
     let mut second = io::buffer();
-    let Loaded::Bytes(n) = word(words.first, &mut first) else {
+    let Loaded::Bytes(n) = word(rt, words.first, &mut first) else {
         return UNUSABLE;
     };
-    let Loaded::Bytes(m) = word(words.second, &mut second) else {
+    let Loaded::Bytes(m) = word(rt, words.second, &mut second) else {
         return UNUSABLE;
     };
     let from = classes::part(&first, 0, n);
     let to = classes::part(&second, 0, m);
-    with_paths(is_read, from, to, words.is_plain, out)
+    with_paths(rt, is_read, from, to, words.is_plain, out)
 }
 
-fn run_on_words(command: Command, words: Words, out: &mut [u8]) -> u8 {
+fn run_on_words(rt: HostRuntime, command: Command, words: Words, out: &mut [u8]) -> u8 {
     match command {
         Command::Compile => {
             if words.count != 2 {
-                return misused(b"compile takes two files");
+                return misused(rt, b"compile takes two files");
             }
-            with_two(false, words, out)
+            with_two(rt, false, words, out)
         }
         Command::Read => {
             if words.count != 2 {
-                return misused(b"read takes two files");
+                return misused(rt, b"read takes two files");
             }
-            with_two(true, words, out)
+            with_two(rt, true, words, out)
         }
         _ => {
             if words.count != 1 {
-                return misused(b"show, check and explain take one word");
+                return misused(rt, b"show, check and explain take one word");
             }
-            with_one(command, words.first, out)
+            with_one(rt, command, words.first, out)
         }
     }
 }
@@ -180,37 +185,36 @@ fn is_read(command: Command) -> bool {
 }
 
 // A command that takes words and options.
-fn run_with_options(command: Command, words: Words, out: &mut [u8]) -> u8 {
+fn run_with_options(rt: HostRuntime, command: Command, words: Words, out: &mut [u8]) -> u8 {
     if words.is_wrong {
-        return misused(b"no such option");
+        return misused(rt, b"no such option");
     }
     if words.is_plain & !is_read(command) {
-        return misused(b"only read takes --plain");
+        return misused(rt, b"only read takes --plain");
     }
-    run_on_words(command, words, out)
+    run_on_words(rt, command, words, out)
 }
 
-fn run_command(command: Command, count: usize, out: &mut [u8]) -> u8 {
+fn run_command(rt: HostRuntime, command: Command, count: usize, out: &mut [u8]) -> u8 {
     match command {
-        Command::Help => help(out),
-        Command::Version => version(out),
-        Command::Unknown => misused(b"no such command"),
-        _ => run_with_options(command, words_of(count), out),
+        Command::Help => help(rt, out),
+        Command::Version => version(rt, out),
+        Command::Unknown => misused(rt, b"no such command"),
+        _ => run_with_options(rt, command, words_of(rt, count), out),
     }
 }
 
-fn run(out: &mut [u8]) -> u8 {
-    let count = os::arg_count();
+fn run(rt: HostRuntime, out: &mut [u8]) -> u8 {
+    let count = count_words(rt);
     if count < 2 {
-        return help(out);
+        return help(rt, out);
     }
     let mut buf = [0u8; WORD];
-    let n = os::arg(1, &mut buf);
-    run_command(command_of(classes::part(&buf, 0, n)), count, out)
+    let n = short_word(rt, 1, &mut buf);
+    run_command(rt, command_of(classes::part(&buf, 0, n)), count, out)
 }
 
-fn main() {
+fn main(rt: HostRuntime) -> ExitCode {
     let mut out = io::large_buffer();
-    let status = run(&mut out);
-    io::write_all(STATUS_FILENO, &[status]);
+    ExitCode::from(run(rt, &mut out))
 }

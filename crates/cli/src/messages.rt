@@ -12,18 +12,19 @@ const TABLE_REFUSED: u32 = 20;
 // most as many, and number 29 does not come up.
 const ALL_ROWS: usize = numbers::ROW_WIDTH * (2 * numbers::MESSAGE_LIMIT + 1);
 
-fn print_numbers(rows: &[u32], count: usize, out: &mut [u8]) -> u8 {
+fn print_numbers(rt: HostRuntime, rows: &[u32], count: usize, out: &mut [u8]) -> u8 {
     let mut page = started(0);
     let mut row = 0;
     while row < count && page.ok {
         let at = cli_report::put_row_numbers(out, page.at, rows, row);
-        page = flushed(out, started(at), MANY);
+        page = flushed(rt, out, started(at), MANY);
         row += 1;
     }
-    ended(out, page, ACCEPTED)
+    ended(rt, out, page, ACCEPTED)
 }
 
 fn print_rows(
+    rt: HostRuntime,
     table: &[u8],
     unpacked: &[u32],
     message: &[u8],
@@ -42,27 +43,41 @@ fn print_rows(
         let at = cli_report::put_row_line(
             out, page.at, table, unpacked, rows, line, &widths, bytes,
         );
-        page = flushed(out, started(at), MANY);
+        page = flushed(rt, out, started(at), MANY);
         row = line;
     }
     page
 }
 
 // A line for an unknown item, whose word stands from a place to a place.
-fn say_item(path: &[u8], message: &[u8], start: usize, end: usize, out: &mut [u8]) {
+fn say_item(
+    rt: HostRuntime,
+    path: &[u8],
+    message: &[u8],
+    start: usize,
+    end: usize,
+    out: &mut [u8],
+) {
     let word = classes::part(message, start, end);
     let at = cli_pages::put_unknown(out, path, message, start, word);
-    say(out, at);
+    say(rt, out, at);
 }
 
 // A line for each unknown item. There are no more of them than bytes.
-fn say_unknown(path: &[u8], message: &[u8], rows: &[u32], count: usize, out: &mut [u8]) {
+fn say_unknown(
+    rt: HostRuntime,
+    path: &[u8],
+    message: &[u8],
+    rows: &[u32],
+    count: usize,
+    out: &mut [u8],
+) {
     let mut reached = cli_unknown::begin();
     let mut left = message.len();
     while 0 < left {
         match cli_unknown::next(message, rows, count, reached) {
             Item::Unknown(start, end, past) => {
-                say_item(path, message, start, end, out);
+                say_item(rt, path, message, start, end, out);
                 reached = past;
             }
             Item::Finished => {
@@ -75,6 +90,7 @@ fn say_unknown(path: &[u8], message: &[u8], rows: &[u32], count: usize, out: &mu
 
 // The rows are the result; what was passed over, and that all is accepted, are words to people.
 fn accept(
+    rt: HostRuntime,
     path: &[u8],
     named: &[u8],
     message: &[u8],
@@ -84,19 +100,20 @@ fn accept(
 ) -> u8 {
     let mut unpacked = [0u32; table_records::ALL_CELLS];
     records_of(named, &mut unpacked);
-    let page = print_rows(named, &unpacked, message, rows, count, out);
-    let status = ended(out, page, ACCEPTED);
+    let page = print_rows(rt, named, &unpacked, message, rows, count, out);
+    let status = ended(rt, out, page, ACCEPTED);
     if status != ACCEPTED {
         return status;
     }
-    say_unknown(path, message, rows, count, out);
+    say_unknown(rt, path, message, rows, count, out);
     let at = cli_wording::put_accepted(out, 0, path, count);
-    say(out, at);
+    say(rt, out, at);
     ACCEPTED
 }
 
 // The refusal, and what more can be said of it.
 fn refuse_message(
+    rt: HostRuntime,
     table: &[u8],
     named: &[u8],
     path: &[u8],
@@ -106,13 +123,14 @@ fn refuse_message(
     rows: &mut [u32],
     out: &mut [u8],
 ) -> u8 {
-    refuse(out, path, message, number, place);
+    refuse(rt, out, path, message, number, place);
     let at = cli_wanted::put_lacking(out, table, named, message, number, place, rows);
-    say(out, at);
+    say(rt, out, at);
     REFUSED
 }
 
 fn read_message(
+    rt: HostRuntime,
     from: &[u8],
     table: &[u8],
     named: &[u8],
@@ -125,20 +143,23 @@ fn read_message(
     match message::read(table, message, &mut rows) {
         Verdict::Accepted(count) => {
             if is_plain {
-                return print_numbers(&rows, count, out);
+                return print_numbers(rt, &rows, count, out);
             }
-            accept(path, named, message, &rows, count, out)
+            accept(rt, path, named, message, &rows, count, out)
         }
         Verdict::Refused(number, place) => {
             if number == TABLE_REFUSED {
-                return refuse(out, from, table, number, place);
+                return refuse(rt, out, from, table, number, place);
             }
-            refuse_message(table, named, path, message, number, place, &mut rows, out)
+            refuse_message(
+                rt, table, named, path, message, number, place, &mut rows, out,
+            )
         }
     }
 }
 
 fn read_with(
+    rt: HostRuntime,
     from: &[u8],
     table: &[u8],
     named: &[u8],
@@ -147,8 +168,9 @@ fn read_with(
     out: &mut [u8],
 ) -> u8 {
     let mut buf = io::large_buffer();
-    match load(path, &mut buf) {
+    match load(rt, path, &mut buf) {
         Loaded::Bytes(n) => read_message(
+            rt,
             from,
             table,
             named,
@@ -161,11 +183,12 @@ fn read_with(
     }
 }
 
-pub fn read_file(from: &[u8], path: &[u8], is_plain: bool, out: &mut [u8]) -> u8 {
+pub fn read_file(rt: HostRuntime, from: &[u8], path: &[u8], is_plain: bool, out: &mut [u8]) -> u8 {
     let mut table = io::large_buffer();
     let mut named = io::large_buffer();
-    match table_of(from, &mut table, &mut named, out) {
+    match table_of(rt, from, &mut table, &mut named, out) {
         Source::Table(length, names) => read_with(
+            rt,
             from,
             classes::part(&table, 0, length),
             classes::part(&named, 0, names),

@@ -1,7 +1,32 @@
-// The words behind the command, and the options among them.
+// The program's words, and the options among those behind the command.
+use std::env::{Env, FillError};
 
 // The longest word that has a meaning, --version, has 9 bytes.
 pub const WORD: usize = 16;
+
+fn is_there(rt: HostRuntime, i: usize) -> bool {
+    match rt.arg(i, &mut []) {
+        Err(FillError::NotPresent) => false,
+        _ => true,
+    }
+}
+
+// How many words the program was started with, its own name among them.
+pub fn count_words(rt: HostRuntime) -> usize {
+    let mut count = 0;
+    while count < usize::MAX && is_there(rt, count) {
+        count += 1;
+    }
+    count
+}
+
+// Puts word i into the buffer, and answers its length: 0 where it is too long, and its first bytes are there.
+pub fn short_word(rt: HostRuntime, i: usize, buf: &mut [u8]) -> usize {
+    match rt.arg(i, buf) {
+        Ok(n) => n,
+        Err(_) => 0,
+    }
+}
 
 // Where the first two words stand that are no options, how many there are, and what the options say.
 #[derive(Clone, Copy)]
@@ -52,9 +77,9 @@ fn with_option(words: Words, word: &[u8]) -> Words {
 }
 
 // An option begins with -, which alone is standard input. A word that is too long for the buffer has its first bytes there.
-fn with_argument(words: Words, i: usize) -> Words {
+fn with_argument(rt: HostRuntime, words: Words, i: usize) -> Words {
     let mut buf = [0u8; WORD];
-    let n = os::arg(i, &mut buf);
+    let n = short_word(rt, i, &mut buf);
     let is_option = (buf[0] == b'-') & (n != 1);
     if words.is_ended | !is_option {
         return with_word(words, i);
@@ -63,11 +88,11 @@ fn with_argument(words: Words, i: usize) -> Words {
 }
 
 // The arguments from 2 on, of count in all.
-pub fn words_of(count: usize) -> Words {
+pub fn words_of(rt: HostRuntime, count: usize) -> Words {
     let mut words = no_words();
     let mut i = 2;
     while i < count {
-        words = with_argument(words, i);
+        words = with_argument(rt, words, i);
         i += 1;
     }
     words

@@ -1,13 +1,13 @@
 // What goes to standard output and to standard error, and the status that the program ends with.
 #![tactic(auto)]
 
-use libc::{STDERR_FILENO, STDOUT_FILENO};
+use cli_files::fail;
 
-pub const ACCEPTED: u8 = b'0';
+pub const ACCEPTED: u8 = 0;
 
-pub const REFUSED: u8 = b'1';
+pub const REFUSED: u8 = 1;
 
-pub const UNUSABLE: u8 = b'2';
+pub const UNUSABLE: u8 = 2;
 
 // A file is read up to as many bytes: more than a definition, a table or a message can have.
 const ROOM: usize = 65_536;
@@ -26,23 +26,22 @@ pub struct Page {
 }
 
 // Writes out what waits, if it is as much as said.
-pub fn flushed(out: &[u8], page: Page, many: usize) -> Page {
+pub fn flushed(rt: HostRuntime, out: &[u8], page: Page, many: usize) -> Page {
     if !page.ok | (page.at < many) {
         return page;
     }
-    let is_written = io::write_all(STDOUT_FILENO, classes::part(out, 0, page.at));
-    if !is_written {
-        os::fail(b"lumas");
-    }
-    Page {
-        at: 0,
-        ok: is_written,
+    match rt.write_all(classes::part(out, 0, page.at)) {
+        Ok(()) => started(0),
+        Err(error) => {
+            fail(rt, b"lumas", error);
+            Page { at: 0, ok: false }
+        }
     }
 }
 
 // Writes out all that waits; the status, if that could be done.
-pub fn ended(out: &[u8], page: Page, status: u8) -> u8 {
-    let last = flushed(out, page, 0);
+pub fn ended(rt: HostRuntime, out: &[u8], page: Page, status: u8) -> u8 {
+    let last = flushed(rt, out, page, 0);
     if last.ok {
         return status;
     }
@@ -56,14 +55,21 @@ pub fn started(at: usize) -> Page {
 // ---- messages to people, to standard error
 
 // Writes out the first bytes. Where that fails there is nobody to tell, and the status stays.
-pub fn say(out: &[u8], at: usize) {
-    io::write_all(STDERR_FILENO, classes::part(out, 0, at));
+pub fn say(rt: HostRuntime, out: &[u8], at: usize) {
+    let _ = rt.stderr().write_all(classes::part(out, 0, at));
 }
 
 // No file's bytes are more than a buffer holds, so that none are left out here.
-pub fn refuse(out: &mut [u8], path: &[u8], bytes: &[u8], number: u32, place: usize) -> u8 {
+pub fn refuse(
+    rt: HostRuntime,
+    out: &mut [u8],
+    path: &[u8],
+    bytes: &[u8],
+    number: u32,
+    place: usize,
+) -> u8 {
     let at = cli_report::put_refusal(out, 0, path, classes::part(bytes, 0, ROOM), number, place);
-    say(out, at);
+    say(rt, out, at);
     REFUSED
 }
 
@@ -80,14 +86,14 @@ pub fn put_unknown(
 }
 
 // What keeps a command from being done.
-pub fn unusable(what: &[u8], why: &[u8]) -> u8 {
-    io::write_all(STDERR_FILENO, what);
-    io::write_all(STDERR_FILENO, why);
+pub fn unusable(rt: HostRuntime, what: &[u8], why: &[u8]) -> u8 {
+    let _ = rt.stderr().write_all(what);
+    let _ = rt.stderr().write_all(why);
     UNUSABLE
 }
 
 // Something is wrong with the command itself.
-pub fn misused(what: &[u8]) -> u8 {
-    io::write_all(STDERR_FILENO, b"lumas: ");
-    unusable(what, b"; lumas help says how it is used\n")
+pub fn misused(rt: HostRuntime, what: &[u8]) -> u8 {
+    let _ = rt.stderr().write_all(b"lumas: ");
+    unusable(rt, what, b"; lumas help says how it is used\n")
 }

@@ -27,6 +27,7 @@ fn has_zero(bytes: &[u8]) -> bool {
 
 // The table in a file's bytes, or the one that the definition there compiles to.
 fn table_from(
+    rt: HostRuntime,
     path: &[u8],
     bytes: &[u8],
     table: &mut [u8],
@@ -43,15 +44,21 @@ fn table_from(
             Source::Table(length, names)
         }
         Compiled::Refused(number, place) => {
-            Source::Ended(refuse(out, path, bytes, number, place))
+            Source::Ended(refuse(rt, out, path, bytes, number, place))
         }
     }
 }
 
-pub fn table_of(path: &[u8], table: &mut [u8], named: &mut [u8], out: &mut [u8]) -> Source {
+pub fn table_of(
+    rt: HostRuntime,
+    path: &[u8],
+    table: &mut [u8],
+    named: &mut [u8],
+    out: &mut [u8],
+) -> Source {
     let mut buf = io::large_buffer();
-    match load(path, &mut buf) {
-        Loaded::Bytes(n) => table_from(path, classes::part(&buf, 0, n), table, named, out),
+    match load(rt, path, &mut buf) {
+        Loaded::Bytes(n) => table_from(rt, path, classes::part(&buf, 0, n), table, named, out),
         Loaded::Failed => Source::Ended(UNUSABLE),
     }
 }
@@ -74,55 +81,62 @@ fn put_table_size(out: &mut [u8], path: &[u8], how: &[u8], table: &[u8]) -> usiz
 // ---- compile
 
 // A file that has the definition's text, as the definition itself has, is not written over.
-fn is_free(to: &[u8], bytes: &[u8]) -> bool {
-    if !cli_files::has_bytes(to) {
+fn is_free(rt: HostRuntime, to: &[u8], bytes: &[u8]) -> bool {
+    if !cli_files::has_bytes(rt, to) {
         return true;
     }
     let mut buf = io::large_buffer();
-    let Loaded::Bytes(n) = load(to, &mut buf) else {
+    let Loaded::Bytes(n) = load(rt, to, &mut buf) else {
         return false;
     };
     if !classes::same_bytes(classes::part(&buf, 0, n), bytes) {
         return true;
     }
     unusable(
+        rt,
         to,
         b": this is the definition or a copy of it, and is not overwritten\n",
     );
     false
 }
 
-fn write_table(table: &[u8], bytes: &[u8], to: &[u8], out: &mut [u8]) -> u8 {
-    if !is_free(to, bytes) {
+fn write_table(rt: HostRuntime, table: &[u8], bytes: &[u8], to: &[u8], out: &mut [u8]) -> u8 {
+    if !is_free(rt, to, bytes) {
         return UNUSABLE;
     }
-    if !save(to, table) {
+    if !save(rt, to, table) {
         return UNUSABLE;
     }
     let at = put_table_size(out, to, b": a table of ", table);
-    say(out, at);
+    say(rt, out, at);
     ACCEPTED
 }
 
-fn compile_bytes(path: &[u8], bytes: &[u8], to: &[u8], out: &mut [u8]) -> u8 {
+fn compile_bytes(rt: HostRuntime, path: &[u8], bytes: &[u8], to: &[u8], out: &mut [u8]) -> u8 {
     let mut table = io::large_buffer();
     match definition::compile(bytes, &mut table) {
-        Compiled::Table(length) => write_table(classes::part(&table, 0, length), bytes, to, out),
-        Compiled::Refused(number, place) => refuse(out, path, bytes, number, place),
+        Compiled::Table(length) => write_table(
+            rt,
+            classes::part(&table, 0, length),
+            bytes,
+            to,
+            out,
+        ),
+        Compiled::Refused(number, place) => refuse(rt, out, path, bytes, number, place),
     }
 }
 
-pub fn compile_file(path: &[u8], to: &[u8], out: &mut [u8]) -> u8 {
+pub fn compile_file(rt: HostRuntime, path: &[u8], to: &[u8], out: &mut [u8]) -> u8 {
     let mut buf = io::large_buffer();
-    match load(path, &mut buf) {
-        Loaded::Bytes(n) => compile_bytes(path, classes::part(&buf, 0, n), to, out),
+    match load(rt, path, &mut buf) {
+        Loaded::Bytes(n) => compile_bytes(rt, path, classes::part(&buf, 0, n), to, out),
         Loaded::Failed => UNUSABLE,
     }
 }
 
 // ---- show
 
-fn print_records(table: &[u8], out: &mut [u8]) -> u8 {
+fn print_records(rt: HostRuntime, table: &[u8], out: &mut [u8]) -> u8 {
     let mut unpacked = [0u32; table_records::ALL_CELLS];
     let mut widths = [0usize; 8];
     let n = records_of(table, &mut unpacked);
@@ -133,24 +147,25 @@ fn print_records(table: &[u8], out: &mut [u8]) -> u8 {
     while i < n && page.ok {
         let line = i + 1;
         let at = cli_report::put_record_line(out, page.at, table, &unpacked, line, &widths);
-        page = flushed(out, started(at), MANY);
+        page = flushed(rt, out, started(at), MANY);
         i = line;
     }
-    ended(out, page, ACCEPTED)
+    ended(rt, out, page, ACCEPTED)
 }
 
-fn show_table(path: &[u8], table: &[u8], named: &[u8], out: &mut [u8]) -> u8 {
+fn show_table(rt: HostRuntime, path: &[u8], table: &[u8], named: &[u8], out: &mut [u8]) -> u8 {
     if table::table_ok(table) {
-        return print_records(named, out);
+        return print_records(rt, named, out);
     }
-    refuse(out, path, table, 20, 0)
+    refuse(rt, out, path, table, 20, 0)
 }
 
-pub fn show_file(path: &[u8], out: &mut [u8]) -> u8 {
+pub fn show_file(rt: HostRuntime, path: &[u8], out: &mut [u8]) -> u8 {
     let mut table = io::large_buffer();
     let mut named = io::large_buffer();
-    match table_of(path, &mut table, &mut named, out) {
+    match table_of(rt, path, &mut table, &mut named, out) {
         Source::Table(length, names) => show_table(
+            rt,
             path,
             classes::part(&table, 0, length),
             classes::part(&named, 0, names),
@@ -162,39 +177,40 @@ pub fn show_file(path: &[u8], out: &mut [u8]) -> u8 {
 
 // ---- check
 
-fn answer_size(path: &[u8], how: &[u8], table: &[u8], out: &mut [u8]) -> u8 {
+fn answer_size(rt: HostRuntime, path: &[u8], how: &[u8], table: &[u8], out: &mut [u8]) -> u8 {
     let at = put_table_size(out, path, how, table);
-    ended(out, started(at), ACCEPTED)
+    ended(rt, out, started(at), ACCEPTED)
 }
 
-fn check_table(path: &[u8], table: &[u8], out: &mut [u8]) -> u8 {
+fn check_table(rt: HostRuntime, path: &[u8], table: &[u8], out: &mut [u8]) -> u8 {
     if table::table_ok(table) {
-        return answer_size(path, b": a table of ", table, out);
+        return answer_size(rt, path, b": a table of ", table, out);
     }
-    refuse(out, path, table, 20, 0)
+    refuse(rt, out, path, table, 20, 0)
 }
 
-fn check_definition(path: &[u8], bytes: &[u8], out: &mut [u8]) -> u8 {
+fn check_definition(rt: HostRuntime, path: &[u8], bytes: &[u8], out: &mut [u8]) -> u8 {
     let mut table = io::large_buffer();
     match definition::compile(bytes, &mut table) {
         Compiled::Table(length) => answer_size(
+            rt,
             path,
             b": compiles to a table of ",
             classes::part(&table, 0, length),
             out,
         ),
-        Compiled::Refused(number, place) => refuse(out, path, bytes, number, place),
+        Compiled::Refused(number, place) => refuse(rt, out, path, bytes, number, place),
     }
 }
 
-pub fn check_file(path: &[u8], out: &mut [u8]) -> u8 {
+pub fn check_file(rt: HostRuntime, path: &[u8], out: &mut [u8]) -> u8 {
     let mut buf = io::large_buffer();
-    let Loaded::Bytes(n) = load(path, &mut buf) else {
+    let Loaded::Bytes(n) = load(rt, path, &mut buf) else {
         return UNUSABLE;
     };
     let bytes = classes::part(&buf, 0, n);
     if has_zero(bytes) {
-        return check_table(path, bytes, out);
+        return check_table(rt, path, bytes, out);
     }
-    check_definition(path, bytes, out)
+    check_definition(rt, path, bytes, out)
 }

@@ -4,8 +4,8 @@
 ghost use Rattle.std.specs.Prelude.{◌≤◌, length};
 
 use definition::Compiled;
-use libc::{STDIN_FILENO, STDOUT_FILENO};
 use message::Verdict;
+use std::io::Read;
 use test_frames::{Front, Head};
 
 // Lines are written out once they have as many bytes. The longest line, of 20,000 rows, has at most
@@ -100,17 +100,19 @@ fn ended(out: &mut [u8], at: usize, is_short: bool) -> State {
 }
 
 // Reads once, and answers how many bytes came: none at the end of the input.
-fn read_some(space: &mut [u8]) -> usize
+fn read_some(rt: HostRuntime, space: &mut [u8]) -> usize
     ensures { result ≤ length space.old }
 {
-    let got = libc::read(STDIN_FILENO, space);
-    io::count(got, space)
+    match rt.stdin().read(space) {
+        Ok(n) => n,
+        Err(_) => 0,
+    }
 }
 
 // Reads more behind what is left of the input.
-fn refill(input: &mut [u8], out: &mut [u8], s: State) -> State {
+fn refill(rt: HostRuntime, input: &mut [u8], out: &mut [u8], s: State) -> State {
     let n = test_frames::to_front(input, s.from, s.to);
-    let more = read_some(&mut input[n..]);
+    let more = read_some(rt, &mut input[n..]);
     if more == 0 {
         return ended(out, s.at, 0 < n);
     }
@@ -123,11 +125,11 @@ fn refill(input: &mut [u8], out: &mut [u8], s: State) -> State {
 }
 
 // Reads past some bytes; false where the input ends before.
-fn pass(input: &mut [u8], count: usize) -> bool {
+fn pass(rt: HostRuntime, input: &mut [u8], count: usize) -> bool {
     let mut left = count;
     while 0 < left {
         let n = text::least(left, input.len());
-        let passed = read_some(&mut input[..n]);
+        let passed = read_some(rt, &mut input[..n]);
         if passed == 0 {
             return false;
         }
@@ -137,7 +139,7 @@ fn pass(input: &mut [u8], count: usize) -> bool {
 }
 
 // Passes over a frame that is too long.
-fn pass_frame(input: &mut [u8], out: &mut [u8], s: State, length: usize) -> State {
+fn pass_frame(rt: HostRuntime, input: &mut [u8], out: &mut [u8], s: State, length: usize) -> State {
     let there = classes::part(input, s.from, s.to).len();
     if length <= there {
         return State {
@@ -147,7 +149,7 @@ fn pass_frame(input: &mut [u8], out: &mut [u8], s: State, length: usize) -> Stat
             on: true,
         };
     }
-    if !pass(input, length - there) {
+    if !pass(rt, input, length - there) {
         return ended(out, s.at, true);
     }
     State {
@@ -160,6 +162,7 @@ fn pass_frame(input: &mut [u8], out: &mut [u8], s: State, length: usize) -> Stat
 
 // One frame, or one reading of more input.
 fn turn(
+    rt: HostRuntime,
     input: &mut [u8],
     table: &mut [u8],
     numbers: &mut [u32],
@@ -168,8 +171,8 @@ fn turn(
 ) -> State {
     let frame = classes::part(input, s.from, s.to);
     match test_frames::next(frame) {
-        Front::Part => refill(input, out, s),
-        Front::Long(length) => pass_frame(input, out, s, length),
+        Front::Part => refill(rt, input, out, s),
+        Front::Long(length) => pass_frame(rt, input, out, s, length),
         Front::Whole(head) => State {
             from: text::sum(s.from, test_frames::length_of(head)),
             to: s.to,
@@ -180,11 +183,11 @@ fn turn(
 }
 
 // Writes the lines out where there are many, or none will follow.
-fn flushed(out: &[u8], s: State) -> State {
+fn flushed(rt: HostRuntime, out: &[u8], s: State) -> State {
     if s.on && s.at < MANY {
         return s;
     }
-    let is_written = io::write_all(STDOUT_FILENO, classes::part(out, 0, s.at));
+    let is_written = rt.write_all(classes::part(out, 0, s.at)).is_ok();
     State {
         from: s.from,
         to: s.to,
@@ -196,6 +199,7 @@ fn flushed(out: &[u8], s: State) -> State {
 // A proved loop has to end, and nothing says that the input does. So the loop counts its turns down
 // from a number that no run uses up.
 fn run(
+    rt: HostRuntime,
     input: &mut [u8; INPUT],
     table: &mut [u8; test_frames::LIMIT],
     numbers: &mut [u32; test_frames::LIMIT],
@@ -209,16 +213,16 @@ fn run(
         on: true,
     };
     while 0 < turns && s.on {
-        let t = turn(input, table, numbers, out, s);
-        s = flushed(out, t);
+        let t = turn(rt, input, table, numbers, out, s);
+        s = flushed(rt, out, t);
         turns -= 1;
     }
 }
 
-fn main() {
+fn main(rt: HostRuntime) {
     let mut input = [0u8; INPUT];
     let mut table = [0u8; test_frames::LIMIT];
     let mut numbers = [0u32; test_frames::LIMIT];
     let mut out = [0u8; OUTPUT];
-    run(&mut input, &mut table, &mut numbers, &mut out);
+    run(rt, &mut input, &mut table, &mut numbers, &mut out);
 }
