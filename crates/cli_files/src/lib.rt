@@ -2,10 +2,9 @@
 #![tactic(auto)]
 
 use std::env::{Env, FillError};
-use std::fs;
 use std::fs::{File, OpenOptions};
 use std::io::{Cursor, Error, ErrorKind, Read, Seek, SeekFrom, Write};
-use std::str;
+use std::{fs, str};
 
 // The system's numbers of errors that no call of it gives here.
 const INVALID: i32 = 22;

@@ -14,7 +14,6 @@ use Rattle.table_records.specs.Stored.{records_at}
 use Rattle.message_rules.specs.RowBytes.{row_from, row_to, row_lies, row_bytes, row_start}
 use Rattle.message_rules.specs.Scan.{cut, scan_fault, tokens_of}
 use Rattle.reading_rules.specs.Parse.{body_at}
-use Rattle.reading_rules.specs.Parse as parser
 use Rattle.message_rules.specs.Rows.{Row, rows_of, message_rows, cells}
 use Rattle.message_rules.specs.Verdict.{RoomFree, fault, rows, outcome, place_of_left, after_scan, room_free, accepted, refusal, with_room, written}
 use Rattle.message_rules.proofs.RowLaws.{message_counted, cells_counted}
