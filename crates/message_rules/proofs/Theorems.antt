@@ -1,4 +1,4 @@
--- The theorems on messages, by the sentence that each renders. T9, T11 to T14 and T17 are `read-promise` (Compiled), T18 of a row's fifth number is `indices-stand` (Indices).
+-- The theorems on messages, by the sentence that each renders. T9, T11 to T14 and T17 are `read_promise` (Compiled), T18 of a row's fifth number is `indices_stand` (Indices).
 use mathlib.Core.Path.{◌≡◌, refl, ap, sym, ◌∙◌}
 use mathlib.Core.Bool.{true}
 use mathlib.Core.List.{List, []}

@@ -132,7 +132,7 @@ unfoldable pub Numbered : List Row → List Row → Type 0
 Numbered before [] = Unit {0}
 Numbered before (r ∷ rs) = (r.index ≡ alike r.parameter r.parent before) × Numbered (r ∷ before) rs
 
--- so those of one list have 0, 1, 2 .. in order (`in_order`): the indices of the rows that are of p under up
+-- so those of one list have 0, 1, 2 .. in order (`in_order_lem`): the indices of the rows that are of p under up
 unfoldable pub indices_under : ℕ → ℕ → List Row → List ℕ
 indices_under p up [] = []
 indices_under p up (r ∷ rs) = elim (is_of p up r) [ true ↦ r.index ∷ indices_under p up rs | false ↦ indices_under p up rs ]

@@ -101,7 +101,7 @@ or_empty (just rs) = rs
 unfoldable pub records_in : List ℕ → List Record
 records_in table = or_empty (decode table)
 
--- "First 20, 21, 22 in that order". The record rules hold exactly when some definition compiles to the table (`rules-iff`).
+-- "First 20, 21, 22 in that order". The record rules hold exactly when some definition compiles to the table (`rules_iff`).
 unfoldable pub read_answer : List ℕ → List ℕ → ℕ → MessageAnswer
 read_answer table message room = elim (table_rules parameter_limit table) [ true ↦ read_with (records_in table) message room | false ↦ refusal 20 0 ]
 
