@@ -3,3 +3,4 @@ pub mod Bools
 pub mod Segment
 pub mod Rows
 pub mod Stores
+pub mod Chains

@@ -8,6 +8,7 @@ use native.Mathlib.Omega.{arith}
 use borrow.Author.Tests.{eq-eqb, ne_eqb, eqb-true}
 use lib.Dec.{eqb}
 use lib.ListN.{length, get_or, take, drop, replicate, length-take, length-drop, drop_of_length-le}
+use lib.Pointwise.{pointwise}
 use lib.Seq.{drop-cons, take_all, take-nil}
 use Rattle.classes.specs.Lists.{every, run_of, last_byte, same_bytes, part}
 use Rattle.classes.proofs.Bools.{clash_bool, both_true}
@@ -69,10 +70,6 @@ module _ (a b : List ℕ) (i : ℕ) where
   pub same_end : length a ≤ i → length b ≤ i → same_bytes (drop i a) (drop i b) ≡ true
   unfolding same_bytes
   same_end h k = rw (drop_of_length-le a h, drop_of_length-le b k)
-
-pub last_none : (w : List ℕ) → length w ≡ 0 → 0 ≡ last_byte w
-last_none [] e = refl
-last_none (b ∷ w) e = absurd (omega arith)
 
 -- one byte more, where the place is one past it
 pub same_step : (a b : List ℕ) (i : ℕ) → 1 ≤ i → i < length a → i < length b → get_or a (i - 1) 0 ≡ get_or b (i - 1) 0 → same_bytes (drop (i - 1) a) (drop (i - 1) b) ≡ same_bytes (drop (i + 1 - 1) a) (drop (i + 1 - 1) b)
@@ -155,3 +152,12 @@ part_of t p n = let q : p + n - p ≡ n = omega arith in rw q
 -- the part of a slice from a place to its end
 pub rest_all : (s : List ℕ) (i : ℕ) → take (length s - i) (drop i s) ≡ drop i s
 rest_all s i = take_all (length s - i) (drop i s) (rw length-drop (omega arith))
+
+-- ---- `==` of slices
+
+pub same_pointwise : (a b : List ℕ) → pointwise eqb a b ≡ same_bytes a b
+unfolding same_bytes
+same_pointwise [] [] = refl
+same_pointwise [] (y ∷ b) = refl
+same_pointwise (x ∷ a) [] = refl
+same_pointwise (x ∷ a) (y ∷ b) = rw (same_pointwise a b)

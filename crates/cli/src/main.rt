@@ -5,15 +5,15 @@
 mod messages;
 mod words;
 
-use cli_files::{Loaded, is_input, word};
-use cli_pages::{ACCEPTED, UNUSABLE, ended, misused, started};
+use cli_files::{Failed, is_input, word};
+use cli_pages::{flush, misused};
 use cli_tables::{check_file, compile_file, show_file};
 use messages::read_file;
-use numbers::Side;
 use std::process::ExitCode;
+use text::Page;
 use words::{WORD, Words, count_words, short_word, words_of};
 
-#[derive(Clone, Copy)]
+#[derive(Clone, Copy, PartialEq, Eq)]
 enum Command {
     Compile,
     Read,
@@ -25,21 +25,19 @@ enum Command {
     Unknown,
 }
 
-fn explain(rt: HostRuntime, number: &[u8], out: &mut [u8]) -> u8 {
-    let Side::Value(n) = numbers::read_count(number) else {
-        return misused(rt, b"explain takes a number");
+fn explain(rt: HostRuntime, number: &[u8], page: &mut Page) -> Result<(), Failed> {
+    let Some(n) = numbers::read_count(number) else {
+        return Err(misused(rt, b"explain takes a number"));
     };
     if !cli_wording::is_refusal(n) {
-        return misused(rt, b"refusals have the numbers 1 to 11 and 20 to 30");
+        return Err(misused(rt, b"refusals have the numbers 1 to 11 and 20 to 30"));
     }
-    let at = cli_wording::put_explanation(out, 0, n);
-    ended(rt, out, started(at), ACCEPTED)
+    cli_wording::put_explanation(page, n);
+    flush(rt, page)
 }
 
-fn help(rt: HostRuntime, out: &mut [u8]) -> u8 {
-    let at = text::put_text(
-        out,
-        0,
+fn help(rt: HostRuntime, page: &mut Page) -> Result<(), Failed> {
+    page.text(
         b"lumas reads messages by a definition of their format.
 
   lumas compile DEFINITION TABLE   compile a definition, and write its table to a file
@@ -65,156 +63,133 @@ standard error.
 Exit status: 0 accepted; 1 refused; 2 wrong use, or a file can't be read or written.
 ",
     );
-    ended(rt, out, started(at), ACCEPTED)
+    flush(rt, page)
 }
 
-fn version(rt: HostRuntime, out: &mut [u8]) -> u8 {
-    let at = text::put_text(out, 0, b"lumas 0.1.0\n");
-    ended(rt, out, started(at), ACCEPTED)
+fn version(rt: HostRuntime, page: &mut Page) -> Result<(), Failed> {
+    page.text(b"lumas 0.1.0\n");
+    flush(rt, page)
 }
 
 fn command_of(word: &[u8]) -> Command {
-    if classes::same_bytes(word, b"compile") {
-        return Command::Compile;
+    match word {
+        b"compile" => Command::Compile,
+        b"read" => Command::Read,
+        b"show" => Command::Show,
+        b"check" => Command::Check,
+        b"explain" => Command::Explain,
+        b"help" | b"--help" | b"-h" => Command::Help,
+        b"--version" => Command::Version,
+        _ => Command::Unknown,
     }
-    if classes::same_bytes(word, b"read") {
-        return Command::Read;
-    }
-    if classes::same_bytes(word, b"show") {
-        return Command::Show;
-    }
-    if classes::same_bytes(word, b"check") {
-        return Command::Check;
-    }
-    if classes::same_bytes(word, b"explain") {
-        return Command::Explain;
-    }
-    if is_help(word) {
-        return Command::Help;
-    }
-    if classes::same_bytes(word, b"--version") {
-        return Command::Version;
-    }
-    Command::Unknown
-}
-
-fn is_help(word: &[u8]) -> bool {
-    classes::same_bytes(word, b"help")
-        | classes::same_bytes(word, b"--help")
-        | classes::same_bytes(word, b"-h")
 }
 
 // A command on the file that argument i names.
-fn with_one(rt: HostRuntime, command: Command, i: usize, out: &mut [u8]) -> u8 {
+fn with_one(rt: HostRuntime, command: Command, i: usize, page: &mut Page) -> Result<(), Failed> {
     let mut buf = io::buffer();
-    let Loaded::Bytes(n) = word(rt, i, &mut buf) else {
-        return UNUSABLE;
-    };
-    let path = classes::part(&buf, 0, n);
+    let path = word(rt, i, &mut buf)?;
     match command {
-        Command::Show => show_file(rt, path, out),
-        Command::Check => check_file(rt, path, out),
-        _ => explain(rt, path, out),
+        Command::Show => show_file(rt, path, page),
+        Command::Check => check_file(rt, path, page),
+        _ => explain(rt, path, page),
     }
 }
 
 // compile and read. One of the two files that are read can be standard input; a table is not written there.
 fn with_paths(
     rt: HostRuntime,
-    is_read: bool,
+    command: Command,
     from: &[u8],
     to: &[u8],
     is_plain: bool,
-    out: &mut [u8],
-) -> u8 {
-    if is_read {
-        if is_input(from) & is_input(to) {
-            return misused(rt, b"only one of two files can be standard input");
+    page: &mut Page,
+) -> Result<(), Failed> {
+    if command == Command::Read {
+        if is_input(from) && is_input(to) {
+            return Err(misused(rt, b"only one of two files can be standard input"));
         }
-        return read_file(rt, from, to, is_plain, out);
+        return read_file(rt, from, to, is_plain, page);
     }
     if is_input(to) {
-        return misused(rt, b"- is standard input, and the table needs a file");
+        return Err(misused(rt, b"- is standard input, and the table needs a file"));
     }
-    compile_file(rt, from, to, out)
+    compile_file(rt, from, to, page)
 }
 
 // A command on the files that two words name.
-fn with_two(rt: HostRuntime, is_read: bool, words: Words, out: &mut [u8]) -> u8 {
+fn with_two(
+    rt: HostRuntime,
+    command: Command,
+    words: Words,
+    page: &mut Page,
+) -> Result<(), Failed> {
     let mut first = io::buffer();
     let mut second = io::buffer();
-    let Loaded::Bytes(n) = word(rt, words.first, &mut first) else {
-        return UNUSABLE;
-    };
-    let Loaded::Bytes(m) = word(rt, words.second, &mut second) else {
-        return UNUSABLE;
-    };
-    let from = classes::part(&first, 0, n);
-    let to = classes::part(&second, 0, m);
-    with_paths(rt, is_read, from, to, words.is_plain, out)
+    let from = word(rt, words.first, &mut first)?;
+    let to = word(rt, words.second, &mut second)?;
+    with_paths(rt, command, from, to, words.is_plain, page)
 }
 
-fn run_on_words(rt: HostRuntime, command: Command, words: Words, out: &mut [u8]) -> u8 {
-    match command {
-        Command::Compile => {
-            if words.count != 2 {
-                return misused(rt, b"compile takes two files");
-            }
-            with_two(rt, false, words, out)
-        }
-        Command::Read => {
-            if words.count != 2 {
-                return misused(rt, b"read takes two files");
-            }
-            with_two(rt, true, words, out)
-        }
-        _ => {
-            if words.count != 1 {
-                return misused(rt, b"show, check and explain take one word");
-            }
-            with_one(rt, command, words.first, out)
-        }
-    }
-}
-
-fn is_read(command: Command) -> bool {
-    match command {
-        Command::Read => true,
-        _ => false,
+fn run_on_words(
+    rt: HostRuntime,
+    command: Command,
+    words: Words,
+    page: &mut Page,
+) -> Result<(), Failed> {
+    match (command, words.count) {
+        (Command::Compile | Command::Read, 2) => with_two(rt, command, words, page),
+        (Command::Compile, _) => Err(misused(rt, b"compile takes two files")),
+        (Command::Read, _) => Err(misused(rt, b"read takes two files")),
+        (_, 1) => with_one(rt, command, words.first, page),
+        _ => Err(misused(rt, b"show, check and explain take one word")),
     }
 }
 
 // A command that takes words and options.
-fn run_with_options(rt: HostRuntime, command: Command, words: Words, out: &mut [u8]) -> u8 {
+fn run_with_options(
+    rt: HostRuntime,
+    command: Command,
+    words: Words,
+    page: &mut Page,
+) -> Result<(), Failed> {
     if words.is_wrong {
-        return misused(rt, b"no such option");
+        return Err(misused(rt, b"no such option"));
     }
-    if words.is_plain & !is_read(command) {
-        return misused(rt, b"only read takes --plain");
+    if words.is_plain && command != Command::Read {
+        return Err(misused(rt, b"only read takes --plain"));
     }
-    run_on_words(rt, command, words, out)
+    run_on_words(rt, command, words, page)
 }
 
-fn run_command(rt: HostRuntime, command: Command, count: usize, out: &mut [u8]) -> u8 {
+fn run_command(
+    rt: HostRuntime,
+    command: Command,
+    count: usize,
+    page: &mut Page,
+) -> Result<(), Failed> {
     match command {
-        Command::Help => help(rt, out),
-        Command::Version => version(rt, out),
-        Command::Unknown => misused(rt, b"no such command"),
-        _ => run_with_options(rt, command, words_of(rt, count), out),
+        Command::Help => help(rt, page),
+        Command::Version => version(rt, page),
+        Command::Unknown => Err(misused(rt, b"no such command")),
+        _ => run_with_options(rt, command, words_of(rt, count), page),
     }
 }
 
-fn run(rt: HostRuntime, out: &mut [u8]) -> u8 {
+fn run(rt: HostRuntime, page: &mut Page) -> Result<(), Failed> {
     let count = count_words(rt);
     if count < 2 {
-        return help(rt, out);
+        return help(rt, page);
     }
     let mut buf = [0u8; WORD];
-    let n = short_word(rt, 1, &mut buf);
-    run_command(rt, command_of(classes::part(&buf, 0, n)), count, out)
+    run_command(rt, command_of(short_word(rt, 1, &mut buf)), count, page)
 }
 
 fn main(rt: HostRuntime) -> ExitCode {
     let mut out = io::large_buffer();
-    ExitCode::from(run(rt, &mut out))
+    let mut page = Page::new(&mut out);
+    match run(rt, &mut page) {
+        Ok(()) => ExitCode::SUCCESS,
+        Err(Failed::Refused) => ExitCode::from(1),
+        Err(Failed::Unusable) => ExitCode::from(2),
+    }
 }

@@ -1,201 +1,138 @@
 // read.
-use cli_files::{Loaded, load};
-use cli_pages::{ACCEPTED, MANY, Page, REFUSED, UNUSABLE, ended, flushed, refuse, say, started};
-use cli_tables::{Source, records_of, table_of};
-use cli_unknown::Item;
-use message::Verdict;
-
-// The refusal that is the table's.
-const TABLE_REFUSED: u32 = 20;
+use cli_files::{Failed, load};
+use cli_pages::{flush, flush_if_many, refuse, say};
+use cli_report::{RowTable, Rows, Source};
+use cli_tables::{Tables, records_of, tables_of};
+use numbers::{Refusal, Rule};
+use text::Page;
 
 // A byte of a message begins at most one value and one alternative. So the rows, the root's included, are at
 // most as many, and number 29 does not come up.
 const ALL_ROWS: usize = numbers::ROW_WIDTH * (2 * numbers::MESSAGE_LIMIT + 1);
 
-fn print_numbers(rt: HostRuntime, rows: &[u32], count: usize, out: &mut [u8]) -> u8 {
-    let mut page = started(0);
-    let mut row = 0;
-    while row < count && page.ok {
-        let at = cli_report::put_row_numbers(out, page.at, rows, row);
-        page = flushed(rt, out, started(at), MANY);
-        row += 1;
+fn print_numbers(rt: HostRuntime, rows: &Rows, page: &mut Page) -> Result<(), Failed> {
+    for i in 0..rows.count {
+        cli_report::put_numbers(page, rows.row(i));
+        flush_if_many(rt, page)?;
     }
-    ended(rt, out, page, ACCEPTED)
+    flush(rt, page)
 }
 
 fn print_rows(
     rt: HostRuntime,
-    table: &[u8],
-    unpacked: &[u32],
+    named: &[u8],
+    rows: &Rows,
     message: &[u8],
-    rows: &[u32],
-    count: usize,
-    out: &mut [u8],
-) -> Page {
-    let mut widths = [0usize; 8];
-    cli_report::row_widths(table, unpacked, rows, count, &mut widths);
-    let head = cli_report::put_row_line(out, 0, table, unpacked, rows, 0, &widths, message);
-    let mut page = started(head);
-    let mut row = 0;
-    while row < count && page.ok {
-        let line = row + 1;
-        let bytes = message::row_bytes(message, rows, row);
-        let at = cli_report::put_row_line(
-            out, page.at, table, unpacked, rows, line, &widths, bytes,
-        );
-        page = flushed(rt, out, started(at), MANY);
-        row = line;
+    page: &mut Page,
+) -> Result<(), Failed> {
+    let mut unpacked = [0u32; table_records::ALL_CELLS];
+    let table = RowTable {
+        records: records_of(named, &mut unpacked),
+        rows: *rows,
+        message,
+    };
+    let widths = cli_report::widths(&table);
+    for line in 0..=rows.count {
+        cli_report::put_line(page, &table, line, &widths);
+        flush_if_many(rt, page)?;
     }
-    page
-}
-
-// A line for an unknown item, whose word stands from a place to a place.
-fn say_item(
-    rt: HostRuntime,
-    path: &[u8],
-    message: &[u8],
-    start: usize,
-    end: usize,
-    out: &mut [u8],
-) {
-    let word = classes::part(message, start, end);
-    let at = cli_pages::put_unknown(out, path, message, start, word);
-    say(rt, out, at);
+    flush(rt, page)
 }
 
 // A line for each unknown item. There are no more of them than bytes.
-fn say_unknown(
-    rt: HostRuntime,
-    path: &[u8],
-    message: &[u8],
-    rows: &[u32],
-    count: usize,
-    out: &mut [u8],
-) {
+fn say_unknown(rt: HostRuntime, source: &Source, rows: &Rows, page: &mut Page) {
     let mut reached = cli_unknown::begin();
-    let mut left = message.len();
-    while 0 < left {
-        match cli_unknown::next(message, rows, count, reached) {
-            Item::Unknown(start, end, past) => {
-                say_item(rt, path, message, start, end, out);
-                reached = past;
-            }
-            Item::Finished => {
-                return;
-            }
-        }
-        left -= 1;
+    for _ in 0..source.bytes.len() {
+        let Some(item) = cli_unknown::next(source.bytes, rows, reached) else {
+            return;
+        };
+        let word = classes::part(source.bytes, item.start, item.end);
+        cli_pages::say_unknown(rt, page, source, item.start, word);
+        reached = item.past;
     }
 }
 
 // The rows are the result; what was passed over, and that all is accepted, are words to people.
 fn accept(
     rt: HostRuntime,
-    path: &[u8],
     named: &[u8],
-    message: &[u8],
-    rows: &[u32],
-    count: usize,
-    out: &mut [u8],
-) -> u8 {
-    let mut unpacked = [0u32; table_records::ALL_CELLS];
-    records_of(named, &mut unpacked);
-    let page = print_rows(rt, named, &unpacked, message, rows, count, out);
-    let status = ended(rt, out, page, ACCEPTED);
-    if status != ACCEPTED {
-        return status;
-    }
-    say_unknown(rt, path, message, rows, count, out);
-    let at = cli_wording::put_accepted(out, 0, path, count);
-    say(rt, out, at);
-    ACCEPTED
+    source: &Source,
+    rows: &Rows,
+    page: &mut Page,
+) -> Result<(), Failed> {
+    print_rows(rt, named, rows, source.bytes, page)?;
+    say_unknown(rt, source, rows, page);
+    cli_wording::put_accepted(page, source.path, rows.count);
+    say(rt, page);
+    Ok(())
 }
 
-// The refusal, and what more can be said of it.
+// The refusal, of the table or of the message, and what more can be said of it.
 fn refuse_message(
     rt: HostRuntime,
-    table: &[u8],
-    named: &[u8],
-    path: &[u8],
-    message: &[u8],
-    number: u32,
-    place: usize,
-    rows: &mut [u32],
-    out: &mut [u8],
-) -> u8 {
-    refuse(rt, out, path, message, number, place);
-    let at = cli_wanted::put_lacking(out, table, named, message, number, place, rows);
-    say(rt, out, at);
-    REFUSED
+    from: &[u8],
+    tables: Tables,
+    source: &Source,
+    refusal: Refusal,
+    numbers: &mut [u32],
+    page: &mut Page,
+) -> Failed {
+    if refusal.rule == Rule::Table {
+        let table = Source {
+            path: from,
+            bytes: tables.table,
+        };
+        return refuse(rt, page, &table, refusal);
+    }
+    let failed = refuse(rt, page, source, refusal);
+    cli_wanted::put_lacking(page, tables, source.bytes, refusal, numbers);
+    say(rt, page);
+    failed
 }
 
 fn read_message(
     rt: HostRuntime,
     from: &[u8],
-    table: &[u8],
-    named: &[u8],
-    path: &[u8],
-    message: &[u8],
+    tables: Tables,
+    source: &Source,
     is_plain: bool,
-    out: &mut [u8],
-) -> u8 {
-    let mut rows = [0u32; ALL_ROWS];
-    match message::read(table, message, &mut rows) {
-        Verdict::Accepted(count) => {
+    page: &mut Page,
+) -> Result<(), Failed> {
+    let mut numbers = [0u32; ALL_ROWS];
+    match message::read(tables.table, source.bytes, &mut numbers) {
+        Ok(count) => {
+            let rows = Rows {
+                numbers: &numbers,
+                count,
+            };
             if is_plain {
-                return print_numbers(rt, &rows, count, out);
+                return print_numbers(rt, &rows, page);
             }
-            accept(rt, path, named, message, &rows, count, out)
+            accept(rt, tables.named, source, &rows, page)
         }
-        Verdict::Refused(number, place) => {
-            if number == TABLE_REFUSED {
-                return refuse(rt, out, from, table, number, place);
-            }
-            refuse_message(
-                rt, table, named, path, message, number, place, &mut rows, out,
-            )
-        }
+        Err(refusal) => Err(refuse_message(rt, from, tables, source, refusal, &mut numbers, page)),
     }
 }
 
-fn read_with(
+pub fn read_file(
     rt: HostRuntime,
     from: &[u8],
-    table: &[u8],
-    named: &[u8],
     path: &[u8],
     is_plain: bool,
-    out: &mut [u8],
-) -> u8 {
-    let mut buf = io::large_buffer();
-    match load(rt, path, &mut buf) {
-        Loaded::Bytes(n) => read_message(
-            rt,
-            from,
-            table,
-            named,
-            path,
-            classes::part(&buf, 0, n),
-            is_plain,
-            out,
-        ),
-        Loaded::Failed => UNUSABLE,
-    }
-}
-
-pub fn read_file(rt: HostRuntime, from: &[u8], path: &[u8], is_plain: bool, out: &mut [u8]) -> u8 {
+    page: &mut Page,
+) -> Result<(), Failed> {
+    let mut definition = io::large_buffer();
     let mut table = io::large_buffer();
     let mut named = io::large_buffer();
-    match table_of(rt, from, &mut table, &mut named, out) {
-        Source::Table(length, names) => read_with(
-            rt,
-            from,
-            classes::part(&table, 0, length),
-            classes::part(&named, 0, names),
-            path,
-            is_plain,
-            out,
-        ),
-        Source::Ended(status) => status,
-    }
+    let mut message = io::large_buffer();
+    let format = Source {
+        path: from,
+        bytes: load(rt, from, &mut definition)?,
+    };
+    let tables = tables_of(rt, &format, &mut table, &mut named, page)?;
+    let source = Source {
+        path,
+        bytes: load(rt, path, &mut message)?,
+    };
+    read_message(rt, from, tables, &source, is_plain, page)
 }

@@ -5,31 +5,24 @@ use std::env::{Env, FillError};
 pub const WORD: usize = 16;
 
 fn is_there(rt: HostRuntime, i: usize) -> bool {
-    match rt.arg(i, &mut []) {
-        Err(FillError::NotPresent) => false,
-        _ => true,
-    }
+    !matches!(rt.arg(i, &mut []), Err(FillError::NotPresent))
 }
 
 // How many words the program was started with, its own name among them.
 pub fn count_words(rt: HostRuntime) -> usize {
-    let mut count = 0;
-    while count < usize::MAX && is_there(rt, count) {
-        count += 1;
-    }
-    count
+    (0..usize::MAX)
+        .find(|i| !is_there(rt, *i))
+        .unwrap_or(usize::MAX)
 }
 
-// Puts word i into the buffer, and answers its length: 0 where it is too long, and its first bytes are there.
-pub fn short_word(rt: HostRuntime, i: usize, buf: &mut [u8]) -> usize {
-    match rt.arg(i, buf) {
-        Ok(n) => n,
-        Err(_) => 0,
-    }
+// Word i, put into the buffer: empty where it is too long, and its first bytes are there.
+pub fn short_word<'a>(rt: HostRuntime, i: usize, buf: &'a mut [u8]) -> &'a [u8] {
+    let n = rt.arg(i, buf).unwrap_or(0);
+    classes::part(buf, 0, n)
 }
 
 // Where the first two words stand that are no options, how many there are, and what the options say.
-#[derive(Clone, Copy)]
+#[derive(Clone, Copy, Default)]
 pub struct Words {
     pub first: usize,
     pub second: usize,
@@ -39,61 +32,43 @@ pub struct Words {
     pub is_wrong: bool,
 }
 
-fn no_words() -> Words {
-    Words {
-        first: 0,
-        second: 0,
-        count: 0,
-        is_plain: false,
-        is_ended: false,
-        is_wrong: false,
+impl Words {
+    // One more word that is no option: argument i.
+    fn add_word(&mut self, i: usize) {
+        if self.count == 0 {
+            self.first = i;
+        } else {
+            self.second = i;
+        }
+        self.count = self.count.saturating_add(1);
     }
-}
 
-// One more word that is no option: argument i.
-fn with_word(words: Words, i: usize) -> Words {
-    let mut w = words;
-    if w.count == 0 {
-        w.first = i;
-    } else {
-        w.second = i;
+    fn add_option(&mut self, word: &[u8]) {
+        match word {
+            b"--" => self.is_ended = true,
+            b"--plain" => self.is_plain = true,
+            _ => self.is_wrong = true,
+        }
     }
-    w.count = text::sum(w.count, 1);
-    w
-}
 
-fn with_option(words: Words, word: &[u8]) -> Words {
-    let mut w = words;
-    if classes::same_bytes(word, b"--") {
-        w.is_ended = true;
-        return w;
+    // An option begins with -, which alone is standard input. A word that is too long for the buffer has its first bytes there.
+    fn add(&mut self, rt: HostRuntime, i: usize) {
+        let mut buf = [0u8; WORD];
+        let n = short_word(rt, i, &mut buf).len();
+        let is_option = buf[0] == b'-' && n != 1;
+        if self.is_ended || !is_option {
+            self.add_word(i);
+        } else {
+            self.add_option(classes::part(&buf, 0, n));
+        }
     }
-    if classes::same_bytes(word, b"--plain") {
-        w.is_plain = true;
-        return w;
-    }
-    w.is_wrong = true;
-    w
-}
-
-// An option begins with -, which alone is standard input. A word that is too long for the buffer has its first bytes there.
-fn with_argument(rt: HostRuntime, words: Words, i: usize) -> Words {
-    let mut buf = [0u8; WORD];
-    let n = short_word(rt, i, &mut buf);
-    let is_option = (buf[0] == b'-') & (n != 1);
-    if words.is_ended | !is_option {
-        return with_word(words, i);
-    }
-    with_option(words, classes::part(&buf, 0, n))
 }
 
 // The arguments from 2 on, of count in all.
 pub fn words_of(rt: HostRuntime, count: usize) -> Words {
-    let mut words = no_words();
-    let mut i = 2;
-    while i < count {
-        words = with_argument(rt, words, i);
-        i += 1;
+    let mut words = Words::default();
+    for i in 2..count {
+        words.add(rt, i);
     }
     words
 }

@@ -5,6 +5,7 @@ use std::env::{Env, FillError};
 use std::fs::{File, OpenOptions};
 use std::io::{Cursor, Error, ErrorKind, Read, Seek, SeekFrom, Write};
 use std::{fs, str};
+use text::Page;
 
 // The system's numbers of errors that no call of it gives here.
 const INVALID: i32 = 22;
@@ -13,23 +14,26 @@ const NAME_TOO_LONG: i32 = 36;
 
 const NO_TEXT: i32 = 84;
 
-// A file's first bytes, as many as the buffer holds, or none since it can't be read.
-#[derive(Clone, Copy)]
-pub enum Loaded {
-    Bytes(usize),
-    Failed,
+// Why a command was not done; the person has been told.
+#[derive(Clone, Copy, Debug, PartialEq, Eq)]
+pub enum Failed {
+    // A text, a table or a message was refused.
+    Refused,
+    // Wrong use, or a file can't be read or written.
+    Unusable,
 }
 
 // ---- what failed
 
 // Says on standard error what failed, and why. Where that fails there is nobody to tell.
-pub fn fail(rt: HostRuntime, what: &[u8], error: Error) {
+pub fn fail(rt: HostRuntime, what: &[u8], error: Error) -> Failed {
     let mut said = Cursor::new([0u8; 256]);
     let _ = write!(said, "{error}");
     let n = said.position() as usize;
     let bytes = said.into_inner();
     let _ = Print::write_all(&rt.stderr(), what);
     let _ = rt.eprintln(format_args!(": {}", words(classes::part(&bytes, 0, n))));
+    Failed::Unusable
 }
 
 // The system's words, without the number that std puts behind them.
@@ -83,57 +87,43 @@ fn unlink(rt: HostRuntime, path: &[u8]) -> Result<(), Error> {
 
 // The name that stands for standard input.
 pub fn is_input(path: &[u8]) -> bool {
-    classes::same_bytes(path, b"-")
+    path == b"-".as_slice()
 }
 
-// Reads until the buffer is full or the file ends.
-fn read_all<R: Read>(rt: HostRuntime, file: &mut R, path: &[u8], buf: &mut [u8]) -> Loaded {
+// Reads until the buffer is full or the file ends. A `while`, as n counts bytes that came and not elements in turn.
+fn read_all<'a, R: Read>(file: &mut R, buf: &'a mut [u8]) -> Result<&'a [u8], Error> {
     let mut n = 0;
     while n < buf.len() {
-        match file.read(&mut buf[n..]) {
-            Ok(0) => {
-                return Loaded::Bytes(n);
-            }
-            Ok(more) => {
-                n += more;
-            }
-            Err(error) => {
-                fail(rt, path, error);
-                return Loaded::Failed;
-            }
+        let more = file.read(&mut buf[n..])?;
+        if more == 0 {
+            break;
         }
+        n += more;
     }
-    Loaded::Bytes(n)
+    Ok(&buf[..n])
 }
 
-pub fn load(rt: HostRuntime, path: &[u8], buf: &mut [u8]) -> Loaded {
+fn read<'a>(rt: HostRuntime, path: &[u8], buf: &'a mut [u8]) -> Result<&'a [u8], Error> {
     if is_input(path) {
-        return read_all(rt, &mut rt.stdin(), path, buf);
+        return read_all(&mut rt.stdin(), buf);
     }
-    match open_read(rt, path) {
-        Ok(file) => {
-            let mut file = file;
-            read_all(rt, &mut file, path, buf)
-        }
-        Err(error) => {
-            fail(rt, path, error);
-            Loaded::Failed
-        }
-    }
+    let mut file = open_read(rt, path)?;
+    read_all(&mut file, buf)
+}
+
+// A file's first bytes, as many as the buffer holds.
+pub fn load<'a>(rt: HostRuntime, path: &[u8], buf: &'a mut [u8]) -> Result<&'a [u8], Failed> {
+    read(rt, path, buf).map_err(|error| fail(rt, path, error))
 }
 
 // ---- writing
 
 // Is there a file with bytes to lose? A pipe or a terminal has no end to go to, and is not read here.
 pub fn has_bytes(rt: HostRuntime, path: &[u8]) -> bool {
-    let Ok(file) = open_append(rt, path) else {
+    let Ok(mut file) = open_append(rt, path) else {
         return false;
     };
-    let mut file = file;
-    match file.seek(SeekFrom::End(0)) {
-        Ok(end) => 0 < end,
-        Err(_) => false,
-    }
+    file.seek(SeekFrom::End(0)).is_ok_and(|end| 0 < end)
 }
 
 // Writes the bytes, and waits until the system has them: std doesn't say whether closing a file went well. What is no
@@ -146,82 +136,62 @@ fn write(file: &mut File, bytes: &[u8]) -> Result<(), Error> {
     }
 }
 
-// Writes the bytes and closes; false, with a word on standard error, where that fails.
-fn is_written(rt: HostRuntime, file: File, path: &[u8], bytes: &[u8]) -> bool {
-    let mut file = file;
-    match write(&mut file, bytes) {
-        Ok(()) => true,
-        Err(error) => {
-            fail(rt, path, error);
-            false
-        }
-    }
+// Writes the bytes and closes.
+fn fill(rt: HostRuntime, mut file: File, path: &[u8], bytes: &[u8]) -> Result<(), Failed> {
+    write(&mut file, bytes).map_err(|error| fail(rt, path, error))
 }
 
 // The same for a file that was made just now: what is half written is removed.
-fn is_made(rt: HostRuntime, file: File, path: &[u8], bytes: &[u8]) -> bool {
-    if is_written(rt, file, path, bytes) {
-        return true;
+fn fill_new(rt: HostRuntime, file: File, path: &[u8], bytes: &[u8]) -> Result<(), Failed> {
+    let filled = fill(rt, file, path, bytes);
+    if filled.is_err() {
+        let _ = unlink(rt, path);
     }
-    let _ = unlink(rt, path);
-    false
+    filled
 }
 
 // Writes a file beside the old one and gives it that one's name, so that the old one is there until the new one is whole.
-fn is_replaced(rt: HostRuntime, path: &[u8], bytes: &[u8]) -> bool {
+fn replace(rt: HostRuntime, path: &[u8], bytes: &[u8]) -> Result<(), Failed> {
     let mut buf = io::buffer();
-    let o = text::put_text(&mut buf, 0, path);
-    let o = text::put_text(&mut buf, o, b".new");
-    let beside = classes::part(&buf, 0, o);
-    match create(rt, beside) {
-        Ok(file) => {
-            if !is_made(rt, file, beside, bytes) {
-                return false;
-            }
-        }
-        Err(error) => {
-            fail(rt, beside, error);
-            return false;
-        }
-    }
-    if let Err(error) = rename(rt, beside, path) {
-        fail(rt, path, error);
+    let mut page = Page::new(&mut buf);
+    page.text(path);
+    page.text(b".new");
+    let beside = page.into_written();
+    let file = create(rt, beside).map_err(|error| fail(rt, beside, error))?;
+    fill_new(rt, file, beside, bytes)?;
+    let renamed = rename(rt, beside, path).map_err(|error| fail(rt, path, error));
+    if renamed.is_err() {
         let _ = unlink(rt, beside);
-        return false;
     }
-    true
+    renamed
 }
 
-// Writes the bytes to the file; false, with a word on standard error, where that fails. What the file had is then still there.
-pub fn save(rt: HostRuntime, path: &[u8], bytes: &[u8]) -> bool {
+// Writes the bytes to the file. Where that fails, what the file had is still there.
+pub fn save(rt: HostRuntime, path: &[u8], bytes: &[u8]) -> Result<(), Failed> {
     if let Ok(file) = create(rt, path) {
-        return is_made(rt, file, path, bytes);
+        return fill_new(rt, file, path, bytes);
     }
     if has_bytes(rt, path) {
-        return is_replaced(rt, path, bytes);
+        return replace(rt, path, bytes);
     }
-    match open_overwrite(rt, path) {
-        Ok(file) => is_written(rt, file, path, bytes),
-        Err(error) => {
-            fail(rt, path, error);
-            false
-        }
-    }
+    let file = open_overwrite(rt, path).map_err(|error| fail(rt, path, error))?;
+    fill(rt, file, path, bytes)
 }
 
 // ---- arguments
 
-// Puts an argument into the buffer.
-pub fn word(rt: HostRuntime, i: usize, buf: &mut [u8]) -> Loaded {
+// The system's number of why an argument could not be had.
+fn number_of(error: FillError) -> i32 {
+    match error {
+        FillError::TooLong => NAME_TOO_LONG,
+        FillError::NotPresent => INVALID,
+    }
+}
+
+// An argument, put into the buffer.
+pub fn word<'a>(rt: HostRuntime, i: usize, buf: &'a mut [u8]) -> Result<&'a [u8], Failed> {
     match rt.arg(i, buf) {
-        Ok(n) => Loaded::Bytes(n),
-        Err(FillError::TooLong) => {
-            fail(rt, b"lumas", Error::from_raw_os_error(NAME_TOO_LONG));
-            Loaded::Failed
-        }
-        Err(FillError::NotPresent) => {
-            fail(rt, b"lumas", Error::from_raw_os_error(INVALID));
-            Loaded::Failed
-        }
+        Ok(n) => Ok(classes::part(buf, 0, n)),
+        Err(error) => Err(fail(rt, b"lumas", Error::from_raw_os_error(number_of(error)))),
     }
 }

@@ -2,91 +2,88 @@
 // No message is read by it; it is shown.
 #![tactic(auto)]
 
-ghost use Rattle.text.specs.Text.{Wrote};
+ghost use Rattle.text.specs.Text.{Added};
 ghost use Rattle.cli_names.specs.Labels.{shown_label};
 
-use definition_forms::Formed;
-use table_walk::Walk;
+use definition_cells::Declarations;
+use table_records::Records;
+use text::Page;
 
 // A name, a tag and what stands between have no more bytes.
 const LABEL_MOST: usize = 255;
 
 // "NAME (TAG)", or the label alone where it is the name.
-fn put_label(out: &mut [u8], at: usize, name: &[u8], label: &[u8]) -> usize
-    ensures { Wrote (shown_label name.now label.now) out.old at out.new result }
+fn put_label(page: &mut Page, name: &[u8], label: &[u8])
+    ensures { Added (shown_label name.now label.now) page.old page.new }
 {
     if classes::same_bytes(name, label) {
-        return text::put_text(out, at, label);
+        page.text(label);
+        return;
     }
-    let o = text::put_text(out, at, name);
-    let o = text::put_text(out, o, b" (");
-    let o = text::put_text(out, o, label);
-    text::put_text(out, o, b")")
+    page.text(name);
+    page.text(b" (");
+    page.text(label);
+    page.text(b")");
 }
 
-// How far it is from a place to a later one.
-fn span(from: usize, to: usize) -> usize {
-    if to < from {
-        return 0;
-    }
-    to - from
-}
-
-fn short(n: usize) -> u16 {
-    text::least(n, LABEL_MOST) as u16
+// How many bytes the page has from a place on.
+fn length_from(page: &Page, from: usize) -> u16 {
+    page.at.saturating_sub(from).min(LABEL_MOST) as u16
 }
 
 // A record with its label as it is shown; head is its bytes before the label.
-fn put_record(out: &mut [u8], at: usize, head: &[u8], name: &[u8], label: &[u8]) -> usize {
-    let from = text::put_text(out, at, head);
-    let end = put_label(out, from, name, label);
-    numbers::put_u16(out, at, short(span(at, end)));
+fn put_record(page: &mut Page, head: &[u8], name: &[u8], label: &[u8]) {
+    let at = page.at;
+    page.text(head);
+    let from = page.at;
+    put_label(page, name, label);
+    let length = length_from(page, at);
+    numbers::put_u16(page.out, at, length);
+    let length = length_from(page, from);
     numbers::put_u16(
-        out,
-        text::sum(at, numbers::LABEL_LENGTH_AT),
-        short(span(from, end)),
+        page.out,
+        at.saturating_add(numbers::LABEL_LENGTH_AT),
+        length,
     );
-    end
 }
 
-fn put_records(
-    out: &mut [u8],
-    table: &[u8],
-    unpacked: &[u32],
-    n: usize,
-    definition: &[u8],
-    cells: &[u32],
-) -> usize {
-    let mut from = 0;
-    let mut o = 0;
-    let mut i = 0;
-    while i < n {
-        let label = table_records::label_at(table, unpacked, i);
-        let head = classes::part(table, from, text::sum(from, numbers::RECORD_HEADER));
-        let name = definition_cells::run(definition, cells, i, definition_cells::NAME);
-        o = put_record(out, o, head, name, label);
-        from = text::sum(from, text::sum(numbers::RECORD_HEADER, label.len()));
-        i += 1;
-    }
-    o
-}
-
-fn put_with_cells(out: &mut [u8], table: &[u8], definition: &[u8], cells: &[u32]) -> usize {
-    let mut unpacked = [0u32; table_records::ALL_CELLS];
-    match table_walk::unpack(table, &mut unpacked) {
-        Walk::Count(n) => put_records(out, table, &unpacked, n, definition, cells),
-        Walk::Bad => text::put_text(out, 0, table),
+fn put_records(page: &mut Page, records: &Records, noted: &Declarations) {
+    let mut from: usize = 0;
+    for i in 0..records.count {
+        let behind = from.saturating_add(numbers::RECORD_HEADER);
+        let head = classes::part(records.table, from, behind);
+        let label = records.label_at(i);
+        put_record(page, head, noted.run(i, definition_cells::NAME), label);
+        from = behind.saturating_add(label.len());
     }
 }
 
-// Puts the table that the definition compiles to, with names, and answers its length. Any other table is put as it is.
-pub fn put_named(out: &mut [u8], table: &[u8], definition: &[u8]) -> usize {
+// The table with names, if the definition compiles to it.
+fn put_with_names(page: &mut Page, table: &[u8], definition: &[u8]) -> Option<()> {
     if numbers::TEXT_LIMIT < definition.len() {
-        return text::put_text(out, 0, table);
+        return None;
     }
     let mut cells = [0u32; definition_cells::ALL_CELLS];
-    match definition_forms::forms(definition, &mut cells) {
-        Formed::Complete(_) => put_with_cells(out, table, definition, &cells),
-        _ => text::put_text(out, 0, table),
+    let declared = definition_forms::forms(definition, &mut cells).ok()?;
+    let mut unpacked = [0u32; table_records::ALL_CELLS];
+    let count = table_walk::unpack(table, &mut unpacked)?;
+    let records = Records {
+        table,
+        unpacked: &unpacked,
+        count,
+    };
+    let noted = Declarations {
+        text: definition,
+        cells: &cells,
+        count: declared,
+    };
+    put_records(page, &records, &noted);
+    Some(())
+}
+
+// Puts the table that the definition compiles to, with names. Any other table is put as it is.
+pub fn put_named(page: &mut Page, table: &[u8], definition: &[u8]) {
+    if put_with_names(page, table, definition).is_none() {
+        page.text(table);
     }
 }

@@ -1,63 +1,143 @@
 -- Lines step by step; and that a line begins behind a line feed, with none between.
 use Prim.Native.Nat.{ℕ, zero, suc, ◌+◌, ◌-◌, ◌≤◌, ◌<◌}
 use mathlib.Core.Bool.{Bool, true, false, cond}
-use mathlib.Core.List.{List}
-use mathlib.Core.Path.{◌≡◌, refl, sym, subst}
+use mathlib.Core.List.{List, [], ◌∷◌}
+use mathlib.Core.Path.{◌≡◌, refl, sym, ap, subst, ◌∙◌}
 use native.Mathlib.Decide.{dec_lt}
+use native.Mathlib.Nat.{add-zero}
 use native.Mathlib.Numerals.{add-one}
 use native.Mathlib.Omega.{arith}
 use borrow.Author.Tests.{eq-eqb, ne_eqb}
 use lib.Dec.{T, eqb, eqb→eq}
-use lib.ListN.{get_or}
+use lib.ListN.{length, get_or, take, drop, length-drop}
+use lib.Seq.{take_all, length-take-le, get_or-take}
+use Rattle.std.specs.List.{count_by}
+use Rattle.std.proofs.lemmas.List.Sums.{count_by_more_yes, count_by_more_no}
 use Rattle.classes.specs.Bytes.{is_blank}
-use Rattle.cli_places.specs.Lines.{break_of, breaks_before, line_start, blanks_off}
+use Rattle.classes.specs.Lists.{run_of}
+use Rattle.cli_places.specs.Lines.{break_of, breaks_before, line_start, line_end, not_break, blanks_off}
+
+-- ---- the place behind the last number below one that is a hit
+
+module _ (f : ℕ → ℕ) (Hit Miss : ℕ → Type 0) (first : f 0 ≡ 0) (hit : (p : ℕ) → Hit p → f (suc p) ≡ suc p) (miss : (p : ℕ) → Miss p → f (suc p) ≡ f p) where
+  last_by : (p i : ℕ) → Dec (i < p) → i < suc p → Hit i → ((k : ℕ) → i + 1 ≤ k → k < suc p → Miss k) → (i < p → f p ≡ i + 1) → f (suc p) ≡ i + 1
+  last_by p i (yes l) h here after rest = miss p (after p (omega arith) (omega arith)) ∙ rest l
+  last_by p i (no l) h here after rest = let e : p ≡ i = omega (arith, l) in rw (e, hit i here, add-one)
+
+  pub behind_last : (p i : ℕ) → i < p → Hit i → ((k : ℕ) → i + 1 ≤ k → k < p → Miss k) → f p ≡ i + 1
+  behind_last zero i h here after = absurd (omega arith)
+  behind_last (suc p) i h here after = last_by p i (dec_lt i p) h here after (λ l. behind_last p i l here (λ k a b. after k a (omega (arith, b))))
+
+  pub all_missed : (p : ℕ) → ((k : ℕ) → k < p → Miss k) → f p ≡ 0
+  all_missed zero h = first
+  all_missed (suc p) h = miss p (h p (omega arith)) ∙ all_missed p (λ k b. h k (omega (arith, b)))
+
+-- ---- where a line begins and ends
 
 module _ (s : List ℕ) where
-  pub breaks_more : (i : ℕ) → breaks_before s (i + 1) ≡ breaks_before s i + break_of (get_or s i 0)
+  begins : line_start s 0 ≡ 0
+  unfolding line_start
+  begins = refl
+
+  behind : (p : ℕ) → get_or s p 0 ≡ 10 → line_start s (suc p) ≡ suc p
+  unfolding line_start
+  behind p e = rw (eq-eqb _ 10 e)
+
+  before : (p : ℕ) → (get_or s p 0 ≡ 10 → ⊥) → line_start s (suc p) ≡ line_start s p
+  unfolding line_start
+  before p e = rw (ne_eqb _ 10 e)
+
+  starts_behind : (p i : ℕ) → i < p → get_or s i 0 ≡ 10 → ((k : ℕ) → i + 1 ≤ k → k < p → get_or s k 0 ≡ 10 → ⊥) → line_start s p ≡ i + 1
+  starts_behind p i = behind_last (line_start s) (λ k. get_or s k 0 ≡ 10) (λ k. get_or s k 0 ≡ 10 → ⊥) begins behind before p i
+
+  starts_first : (p : ℕ) → ((k : ℕ) → k < p → get_or s k 0 ≡ 10 → ⊥) → line_start s p ≡ 0
+  starts_first p = all_missed (line_start s) (λ k. get_or s k 0 ≡ 10) (λ k. get_or s k 0 ≡ 10 → ⊥) begins behind before p
+
+  -- the same of the part before the place
+  pub last_start : (p i : ℕ) → p ≤ length s → i < length (take p s) → get_or (take p s) i 0 ≡ 10
+      → ((k : ℕ) → i + 1 ≤ k → k < length (take p s) → get_or (take p s) k 0 ≡ 10 → ⊥) → (i + 1 ≡ line_start s p) × (i + 1 ≤ p)
+  last_start p i within h here after =
+      let size : length (take p s) ≡ p = length-take-le p s within in
+      let inside : i < p = omega arith in (
+        sym (starts_behind p i inside (sym (get_or-take p s i 0 inside) ∙ here)
+            (λ k a b e. after k a (omega (arith, b)) (get_or-take p s k 0 b ∙ e))),
+        omega arith,
+      )
+
+  pub no_start : (p : ℕ) → p ≤ length s → ((k : ℕ) → k < length (take p s) → get_or (take p s) k 0 ≡ 10 → ⊥) → 0 ≡ line_start s p
+  no_start p within h =
+      let size : length (take p s) ≡ p = length-take-le p s within in
+      sym (starts_first p (λ k b e. h k (omega (arith, b)) (get_or-take p s k 0 b ∙ e)))
+
+  one_more : (p : ℕ) (t : Bool) → p < length s → eqb (get_or s p 0) 10 ≡ t
+      → count_by (λ b. eqb b 10) (take p s) + cond t 1 0 ≡ count_by (λ b. eqb b 10) (take (p + 1) s)
+  one_more p true h e = sym (count_by_more_yes (λ b. eqb b 10) s p 0 h e)
+  one_more p false h e = add-zero _ ∙ sym (count_by_more_no (λ b. eqb b 10) s p 0 h e)
+
+  pub breaks_are : (p : ℕ) → p ≤ length s → breaks_before s p ≡ count_by (λ b. eqb b 10) (take p s)
   unfolding breaks_before
-  breaks_more i = rw add-one
+  breaks_are zero h = refl
+  breaks_are (suc p) h =
+      ap (λ n. n + break_of (get_or s p 0)) (breaks_are p (omega arith)) ∙ one_more p (eqb (get_or s p 0) 10) (omega arith) refl ∙ rw add-one
 
-  behind : (p : ℕ) → get_or s p 0 ≡ 10 → line_start s (p + 1) ≡ p + 1
-  unfolding line_start
-  behind p e = rw (add-one, eq-eqb _ 10 e)
+pub run_first : (f : ℕ → Bool) (l : List ℕ) (i : ℕ) → i < length l → f (get_or l i 0) ≡ false → ((k : ℕ) → k < i → f (get_or l k 0) ≡ true) → run_of f l ≡ i
+unfolding run_of
+run_first f [] i h here below = absurd (omega arith)
+run_first f (b ∷ l) zero h here below = rw (run_of, here)
+run_first f (b ∷ l) (suc i) h here below =
+    let e : f b ≡ true = below 0 (omega arith) in
+    rw (run_of, e) (ap suc (run_first f l i (omega arith) here (λ k m. below (suc k) (omega (arith, m)))))
 
-  before : (p : ℕ) → (get_or s p 0 ≡ 10 → ⊥) → line_start s (p + 1) ≡ line_start s p
-  unfolding line_start
-  before p e = rw (add-one, ne_eqb _ 10 e)
+pub run_all : (f : ℕ → Bool) (l : List ℕ) → ((k : ℕ) → k < length l → f (get_or l k 0) ≡ true) → run_of f l ≡ length l
+unfolding run_of
+run_all f [] h = refl
+run_all f (b ∷ l) h =
+    let e : f b ≡ true = h 0 (omega arith) in
+    rw (run_of, e) (ap suc (run_all f l (λ k m. h (suc k) (omega (arith, m)))))
 
-  pub starts_behind : (i : ℕ) → 0 < i → get_or s (i - 1) 0 ≡ 10 → line_start s i ≡ i
-  starts_behind i h e = let q : (i - 1) + 1 ≡ i = omega arith in rw q at (behind (i - 1) e)
+module _ (s : List ℕ) (p : ℕ) (within : p ≤ length s) where
+  abbrev rest : List ℕ
+  rest = take (length s - p) (drop p s)
 
-  pub starts_before : (i : ℕ) → 0 < i → (get_or s (i - 1) 0 ≡ 10 → ⊥) → line_start s i ≡ line_start s (i - 1)
-  starts_before i h e = let q : (i - 1) + 1 ≡ i = omega arith in rw q at (before (i - 1) e)
+  whole : rest ≡ drop p s
+  whole = take_all (length s - p) (drop p s) (rw length-drop (omega arith))
 
-  pub starts_first : (i : ℕ) → i ≤ 0 → line_start s i ≡ 0
-  unfolding line_start
-  starts_first i h = let q : i ≡ 0 = omega arith in rw q
+  pub first_end : (i : ℕ) → i < length rest → get_or rest i 0 ≡ 10 → ((k : ℕ) → k < i → get_or rest k 0 ≡ 10 → ⊥)
+      → (p + i ≡ line_end s p) × (p + i ≤ length s)
+  unfolding line_end
+  first_end i h here below =
+      let run : run_of not_break rest ≡ i = run_first not_break rest i h (rw (eq-eqb _ 10 here)) (λ k m. rw (ne_eqb _ 10 (below k m))) in
+      let inside : i < length (drop p s) = rw whole at h in
+      let bound : p + i ≤ length s = omega (arith, length-drop p s) in
+      (ap (λ n. p + n) (sym (rw whole at run)), bound)
 
-  pub breaks_all : (i p n : ℕ) → i ≤ p → p ≤ i → n ≡ 1 + breaks_before s i → n ≡ 1 + breaks_before s p
-  breaks_all i p n h l e = let q : i ≡ p = omega arith in rw q at e
+  pub no_end : ((k : ℕ) → k < length rest → get_or rest k 0 ≡ 10 → ⊥) → length s ≡ line_end s p
+  unfolding line_end
+  no_end h =
+      let run : run_of not_break rest ≡ length rest = run_all not_break rest (λ k m. rw (ne_eqb _ 10 (h k m))) in
+      let run_d : run_of not_break (drop p s) ≡ length (drop p s) = rw whole at run in
+      omega (arith, run_d, length-drop p s)
 
 -- ---- the end without blanks
 
 module _ (s : List ℕ) where
-  off_one : (p : ℕ) → is_blank (get_or s p 0) ≡ true → blanks_off s (p + 1) ≡ blanks_off s p
+  off_first : blanks_off s 0 ≡ 0
   unfolding blanks_off
-  off_one p e = rw (add-one, e)
+  off_first = refl
 
-  off_none : (p : ℕ) → is_blank (get_or s p 0) ≡ false → blanks_off s (p + 1) ≡ p + 1
+  off_one : (p : ℕ) → is_blank (get_or s p 0) ≡ true → blanks_off s (suc p) ≡ blanks_off s p
   unfolding blanks_off
-  off_none p e = rw (add-one, e)
+  off_one p e = rw e
 
-  pub blank_off : (i : ℕ) → 0 < i → is_blank (get_or s (i - 1) 0) ≡ true → blanks_off s i ≡ blanks_off s (i - 1)
-  blank_off i h e = let q : (i - 1) + 1 ≡ i = omega arith in rw q at (off_one (i - 1) e)
-
-  pub text_stays : (i : ℕ) → 0 < i → is_blank (get_or s (i - 1) 0) ≡ false → blanks_off s i ≡ i
-  text_stays i h e = let q : (i - 1) + 1 ≡ i = omega arith in rw q at (off_none (i - 1) e)
-
-  pub all_off : (i : ℕ) → i ≤ 0 → blanks_off s i ≡ 0
+  off_none : (p : ℕ) → is_blank (get_or s p 0) ≡ false → blanks_off s (suc p) ≡ suc p
   unfolding blanks_off
-  all_off i h = let q : i ≡ 0 = omega arith in rw q
+  off_none p e = rw e
+
+  pub text_stays : (p i : ℕ) → i < p → is_blank (get_or s i 0) ≡ false → ((k : ℕ) → i + 1 ≤ k → k < p → is_blank (get_or s k 0) ≡ true) → blanks_off s p ≡ i + 1
+  text_stays p i = behind_last (blanks_off s) (λ k. is_blank (get_or s k 0) ≡ false) (λ k. is_blank (get_or s k 0) ≡ true) off_first off_none off_one p i
+
+  pub all_off : (p : ℕ) → ((k : ℕ) → k < p → is_blank (get_or s k 0) ≡ true) → blanks_off s p ≡ 0
+  all_off p = all_missed (blanks_off s) (λ k. is_blank (get_or s k 0) ≡ false) (λ k. is_blank (get_or s k 0) ≡ true) off_first off_none off_one p
 
 -- ---- a line begins at 0 or behind a line feed, and none stands from there to the place
 

@@ -1,5 +1,5 @@
 -- What is shown of a place's line.
-use Prim.Native.Nat.{ℕ, suc, ◌+◌, ◌-◌, ◌<◌, ◌≤◌, ◌^◌, min, max}
+use Prim.Native.Nat.{ℕ, suc, ◌+◌, ◌-◌, ◌≤◌, min, max}
 use mathlib.Core.Bool.{Bool, true, false, cond, ◌||◌}
 use mathlib.Core.List.{List, [], ◌∷◌, ◌++◌}
 use mathlib.Core.Path.{◌≡◌, refl, sym, ap, ◌∙◌}
@@ -8,7 +8,8 @@ use lib.Dec.{eqb}
 use lib.ListN.{length, length-take, length-drop}
 use Rattle.classes.specs.Bytes.{between}
 use Rattle.classes.specs.Lists.{part}
-use Rattle.text.specs.Text.{Wrote, each}
+use Rattle.text.specs.Text.{Added, each}
+use Rattle.text.specs.declared.Page.{Page}
 use Rattle.cli_places.specs.Lines.{line_start, line_end}
 use Rattle.cli_wording.specs.Sayings.{bytes}
 use Rattle.cli_report.specs.Shown.{shown_byte, blank_for, shown_text, blanks_for, mark_text, view_start, view_end, view_text}
@@ -18,15 +19,14 @@ module _ (s : List ℕ) (p : ℕ) where
   unfolding view_start
   from_view start from e h = rw (← e) h
 
-  pub to_view : (end from sum to : ℕ) → end ≡ line_end s p → end ≤ length s → length s < 2 ^ 64 → from ≡ view_start s p
-      → sum ≡ min (from + 78) (2 ^ 64 - 1) → to ≡ min end sum → to ≡ view_end s p
+  pub to_view : (end from to : ℕ) → end ≡ line_end s p → from ≡ view_start s p → to ≡ min end (from + 78) → to ≡ view_end s p
   unfolding view_end
-  to_view end from sum to e l f v h t = rw (← e, ← v) (omega arith)
+  to_view end from to e f h = rw (← e, ← f) h
 
-  pub view : (last : Bool) (from to : ℕ) (line before : List ℕ) {o o₁ : List ℕ} {at r : ℕ} → from ≡ view_start s p → to ≡ view_end s p
+  pub view : (last : Bool) (from to : ℕ) (line before : List ℕ) {a b : Page} → from ≡ view_start s p → to ≡ view_end s p
       → line ≡ part s from to → before ≡ part s from p
-      → Wrote (shown_text line ++ bytes "\n" ++ blanks_for before ++ mark_text last) o at o₁ r
-      → Wrote (view_text s p last) o at o₁ r
+      → Added (shown_text line ++ bytes "\n" ++ blanks_for before ++ mark_text last) a b
+      → Added (view_text s p last) a b
   unfolding view_text
   view last from to line before e f g h w = rw (← e, ← f, ← g, ← h) w
 

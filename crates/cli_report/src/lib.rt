@@ -1,12 +1,13 @@
 // What a person reads of an answer: a refusal with its line, and rows and records as tables.
-// All is written into lent bytes at a place, by the functions of `text`; each function answers the next place.
+// All is written on a page.
 #![tactic(auto)]
 
 mod refusals;
+mod rows;
 mod tables;
 
-pub use refusals::{put_refusal, put_unknown};
+pub use refusals::{Source, put_refusal, put_unknown};
+pub use rows::{Row, Rows};
 pub use tables::{
-    put_bounds, put_int, put_record_line, put_row_line, put_row_numbers, record_widths, row_number,
-    row_widths,
+    RecordTable, RowTable, Table, put_bounds, put_int, put_line, put_numbers, widths,
 };

@@ -2,131 +2,112 @@
 // a value, or begins a row's span: a value, a void's tag, a union's choice. No row but the root's begins in an unknown item.
 #![tactic(auto)]
 
-use cli_report::row_number;
-use message_tokens::Cursor;
-use message_unknown::Passed;
+use cli_report::Rows;
+use message_tokens::{Cursor, TokenKind};
+use std::ops::ControlFlow;
 
 // Where the search goes on: the next token, and the next row that may begin there.
 #[derive(Clone, Copy)]
 pub struct Reached {
-    pub at: usize,
+    pub at: Cursor,
     pub row: usize,
 }
 
-// An unknown item's word from a place to a place, and what is behind the item.
+// An unknown item: where its word starts and ends, and what is behind the item.
 #[derive(Clone, Copy)]
-pub enum Item {
-    Unknown(usize, usize, Reached),
-    Finished,
-}
-
-#[derive(Clone, Copy)]
-enum Turn {
-    On(Reached),
-    Out(Item),
+pub struct Item {
+    pub start: usize,
+    pub end: usize,
+    pub past: Reached,
 }
 
 // The root's row begins at 0 whatever stands there.
 pub fn begin() -> Reached {
-    Reached { at: 0, row: 1 }
-}
-
-fn start_of(rows: &[u32], row: usize) -> usize {
-    numbers::u32_as_usize(row_number(rows, row, numbers::ROW_START))
+    Reached {
+        at: Cursor { at: 0 },
+        row: 1,
+    }
 }
 
 // The first row from one on that begins at a place or behind it.
-fn row_at(rows: &[u32], count: usize, from: usize, place: usize) -> usize {
-    let mut row = from;
-    while row < count {
-        if place <= start_of(rows, row) {
-            return row;
+fn row_at(rows: &Rows, from: usize, place: usize) -> usize {
+    for i in from..rows.count {
+        if place <= rows.row(i).start as usize {
+            return i;
         }
-        row += 1;
     }
-    row
+    rows.count
 }
 
-fn begins(rows: &[u32], count: usize, row: usize, place: usize) -> bool {
-    if count <= row {
-        return false;
-    }
-    start_of(rows, row) == place
-}
-
-fn on(at: usize, row: usize) -> Turn {
-    Turn::On(Reached { at: at, row: row })
-}
-
-fn unknown(start: usize, end: usize, past: usize, row: usize) -> Turn {
-    Turn::Out(Item::Unknown(start, end, Reached { at: past, row: row }))
+fn begins(rows: &Rows, i: usize, place: usize) -> bool {
+    i < rows.count && rows.row(i).start as usize == place
 }
 
 // Past the list of an unknown item, or at its start where there is none.
-fn past_list(message: &[u8], first: Cursor) -> usize {
+fn past_list(message: &[u8], first: Cursor) -> Cursor {
     if numbers::MESSAGE_LIMIT < message.len() {
-        return first.at;
+        return first;
     }
-    match message_unknown::list(message, 0, first) {
-        Passed::Past(past) => past.at,
-        Passed::Refused(_, _) => first.at,
-    }
+    message_unknown::list(message, 0, first).unwrap_or(first)
 }
+
+// A step of the search: it goes on, or ends with an item, or without one.
+type Step = ControlFlow<Option<Item>, Reached>;
 
 // A word in an item's place, from start to end.
-fn item_turn(
-    message: &[u8],
-    rows: &[u32],
-    count: usize,
-    row: usize,
-    start: usize,
-    end: usize,
-) -> Turn {
-    let word = Cursor { at: end };
+fn item_step(message: &[u8], rows: &Rows, row: usize, start: usize, word: Cursor) -> Step {
     let h = word.head(message);
-    if h.kind != message_tokens::EQUALS {
-        return unknown(start, end, end, row);
+    if h.kind != TokenKind::Equals {
+        return ControlFlow::Break(Some(Item {
+            start,
+            end: word.at,
+            past: Reached { at: word, row },
+        }));
     }
-    let first = h.past;
-    let v = first.head(message);
-    let next = row_at(rows, count, row, v.start);
-    if begins(rows, count, next, v.start) {
-        return on(v.start, next);
+    let value = h.past.head(message).start;
+    let next = row_at(rows, row, value);
+    if begins(rows, next, value) {
+        return ControlFlow::Continue(Reached {
+            at: Cursor { at: value },
+            row: next,
+        });
     }
-    unknown(start, end, past_list(message, first), row)
+    ControlFlow::Break(Some(Item {
+        start,
+        end: word.at,
+        past: Reached {
+            at: past_list(message, h.past),
+            row,
+        },
+    }))
 }
 
-fn token_turn(message: &[u8], rows: &[u32], count: usize, from: Reached) -> Turn {
-    let u = Cursor { at: from.at };
-    let h = u.head(message);
-    let past = h.past;
-    if h.kind == message_tokens::NONE {
-        return Turn::Out(Item::Finished);
+fn token_step(message: &[u8], rows: &Rows, from: Reached) -> Step {
+    let h = from.at.head(message);
+    match h.kind {
+        TokenKind::Nothing => ControlFlow::Break(None),
+        TokenKind::Word => {
+            let row = row_at(rows, from.row, h.start);
+            if begins(rows, row, h.start) {
+                return ControlFlow::Continue(Reached { at: h.past, row });
+            }
+            item_step(message, rows, row, h.start, h.past)
+        }
+        _ => ControlFlow::Continue(Reached {
+            at: h.past,
+            row: from.row,
+        }),
     }
-    if h.kind != message_tokens::WORD {
-        return on(past.at, from.row);
-    }
-    let row = row_at(rows, count, from.row, h.start);
-    if begins(rows, count, row, h.start) {
-        return on(past.at, row);
-    }
-    item_turn(message, rows, count, row, h.start, past.at)
 }
 
 // The next unknown item. There are no more tokens than bytes.
-pub fn next(message: &[u8], rows: &[u32], count: usize, from: Reached) -> Item {
+pub fn next(message: &[u8], rows: &Rows, from: Reached) -> Option<Item> {
     let mut reached = from;
-    let mut left = message.len();
-    while 0 < left {
-        match token_turn(message, rows, count, reached) {
-            Turn::On(more) => {
-                reached = more;
-            }
-            Turn::Out(found) => {
-                return found;
-            }
+    for _ in 0..message.len() {
+        match token_step(message, rows, reached) {
+            ControlFlow::Continue(more) => reached = more,
+            ControlFlow::Break(found) => return found,
         }
-        left -= 1;
     }
-    Item::Finished
+    None
 }

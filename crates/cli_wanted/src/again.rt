@@ -1,120 +1,95 @@
 // The message up to a place, read again.
-use cli_report::row_number;
-use message::Verdict;
-use message_tokens::Cursor;
+use cli_report::{Row, Rows};
+use message_tokens::{Cursor, TokenKind};
+use text::Page;
 
 // The braces open behind a token.
-fn open_after(kind: u8, open: usize) -> usize {
-    if kind == message_tokens::OPENING {
-        return text::sum(open, 1);
+fn open_after(kind: TokenKind, open: usize) -> usize {
+    match kind {
+        TokenKind::Opening => open.saturating_add(1),
+        TokenKind::Closing => open.saturating_sub(1),
+        _ => open,
     }
-    if kind != message_tokens::CLOSING {
-        return open;
-    }
-    if open == 0 {
-        return 0;
-    }
-    open - 1
 }
 
 // How many braces are open at the end. There are no more tokens than bytes.
 fn open_at_end(s: &[u8]) -> usize {
     let mut u = Cursor { at: 0 };
     let mut open = 0;
-    let mut left = s.len();
-    while 0 < left {
+    for _ in 0..s.len() {
         let h = u.head(s);
-        if h.kind == message_tokens::NONE {
-            return open;
-        }
         open = open_after(h.kind, open);
         u = h.past;
-        left -= 1;
     }
     open
 }
 
-fn put_closings(cut: &mut [u8], at: usize, count: usize) -> usize {
-    let mut left = count;
-    let mut o = at;
-    while 0 < left {
-        o = text::put_byte(cut, o, b'}');
-        left -= 1;
-    }
-    o
-}
-
 // The message up to a place, a value, and all that is open closed.
-fn put_cut(cut: &mut [u8], message: &[u8], place: usize, value: &[u8]) -> usize {
+fn put_cut(page: &mut Page, message: &[u8], place: usize, value: &[u8]) {
     let before = classes::part(message, 0, place);
-    let o = text::put_text(cut, 0, before);
-    let o = text::put_text(cut, o, value);
-    put_closings(cut, o, open_at_end(before))
+    page.text(before);
+    page.text(value);
+    for _ in 0..open_at_end(before) {
+        page.byte(b'}');
+    }
 }
 
-// How many rows the cut message has; none where it is not read.
-pub fn read_cut(
+// The rows of the cut message; none where it is not read.
+pub fn read_cut<'a>(
     relaxed: &[u8],
     message: &[u8],
     place: usize,
     value: &[u8],
-    rows: &mut [u32],
-) -> usize {
-    let mut cut = io::large_buffer();
-    let n = put_cut(&mut cut, message, place, value);
-    match message::read(relaxed, classes::part(&cut, 0, n), rows) {
-        Verdict::Accepted(count) => count,
-        Verdict::Refused(_, _) => 0,
-    }
+    numbers: &'a mut [u32],
+) -> Rows<'a> {
+    let mut buf = io::large_buffer();
+    let mut cut = Page::new(&mut buf);
+    put_cut(&mut cut, message, place, value);
+    let count = message::read(relaxed, cut.written(), numbers).unwrap_or(0);
+    Rows { numbers, count }
 }
 
-// The last of count rows that starts or ends at a place; count where none does.
-fn last_row(rows: &[u32], count: usize, is_start: bool, place: usize) -> usize {
-    let mut row = count;
-    while 0 < row {
-        row -= 1;
-        if numbers::u32_as_usize(edge(rows, row, is_start)) == place {
-            return row;
+// The last row of which something is so.
+fn last_row<F: Fn(Row) -> bool>(rows: &Rows, is_it: F) -> Option<usize>
+    requires { F.IsAlwaysCallable is_it }
+{
+    for i in (0..rows.count).rev() {
+        if is_it(rows.row(i)) {
+            return Some(i);
         }
     }
-    count
-}
-
-fn edge(rows: &[u32], row: usize, is_start: bool) -> u32 {
-    if is_start {
-        return row_number(rows, row, numbers::ROW_START);
-    }
-    row_number(rows, row, numbers::ROW_END)
+    None
 }
 
 // The row of the body that is closed at a place: the root's at the message's end.
-pub fn body_row(rows: &[u32], count: usize, message: &[u8], place: usize) -> usize {
+pub fn body_row(rows: &Rows, message: &[u8], place: usize) -> Option<usize> {
     if message.len() <= place {
-        return 0;
+        return (0 < rows.count).then_some(0);
     }
-    last_row(rows, count, false, text::sum(place, 1))
+    last_row(rows, |row| row.end as usize == place.saturating_add(1))
 }
 
 // The parameter that takes this value at a place. The value has a blank before it.
-fn taker(relaxed: &[u8], message: &[u8], place: usize, value: &[u8], rows: &mut [u32]) -> usize {
-    let count = read_cut(relaxed, message, place, value, rows);
-    let row = last_row(rows, count, true, text::sum(place, 1));
-    if row < count {
-        return numbers::u32_as_usize(row_number(rows, row, numbers::ROW_PARAMETER));
-    }
-    numbers::NONE16
+fn taker(
+    relaxed: &[u8],
+    message: &[u8],
+    place: usize,
+    value: &[u8],
+    numbers: &mut [u32],
+) -> Option<usize> {
+    let rows = read_cut(relaxed, message, place, value, numbers);
+    let i = last_row(&rows, |row| row.start as usize == place.saturating_add(1))?;
+    Some(rows.row(i).parameter as usize)
 }
 
 // The parameter whose value is due at a place, tried by a word, a string and a struct. A union that takes no int takes
 // none of them, and has no name here.
-pub fn due_at(relaxed: &[u8], message: &[u8], place: usize, rows: &mut [u32]) -> usize {
-    let p = taker(relaxed, message, place, b" 0", rows);
-    if p != numbers::NONE16 {
-        return p;
+pub fn due_at(relaxed: &[u8], message: &[u8], place: usize, numbers: &mut [u32]) -> Option<usize> {
+    for value in [b" 0".as_slice(), b" \"\"", b" {}"] {
+        let p = taker(relaxed, message, place, value, numbers);
+        if p.is_some() {
+            return p;
+        }
     }
-    let p = taker(relaxed, message, place, b" \"\"", rows);
-    if p != numbers::NONE16 {
-        return p;
-    }
-    taker(relaxed, message, place, b" {}", rows)
+    None
 }

@@ -5,260 +5,214 @@
 #![tactic(auto)]
 
 ghost use Rattle.std.specs.Prelude.{◌≡◌};
-ghost use Rattle.text.specs.Text.{Wrote};
-ghost use Rattle.table_records.specs.Stored.{record_in};
+ghost use Rattle.text.specs.Text.{Added};
+ghost use Rattle.table_records.specs.Shown.{record_of};
 ghost use Rattle.cli_wanted.specs.Wanted.{resolved_in, type_of, is_choice, span_text, allowed_of, choice_text, wanted_text, wanted_range_text};
 
 mod again;
 mod relaxed;
 
 use again::{body_row, due_at, read_cut};
-use cli_report::row_number;
-use relaxed::put_relaxed;
-
-// Of this refusal and those of a bad value more can be said.
-const FIELD_MISSING: u32 = 27;
+use cli_report::Rows;
+use cli_tables::{Tables, records_of};
+use numbers::{Refusal, Rule};
+use relaxed::relaxed;
+use table_records::Records;
+use text::Page;
 
 // The record that has a parameter's kind, range and body: a reference's target, or its own.
-fn resolved(table: &[u8], unpacked: &[u32], p: usize) -> usize
-    ensures { result ≡ resolved_in table.now unpacked.now p }
+fn resolved(records: &Records, p: usize) -> usize
+    ensures { result ≡ resolved_in records.now.table.now records.now.unpacked.now p }
 {
-    if table_records::kind_at(table, unpacked, p) == numbers::REFERENCE {
-        return table_records::target_at(table, unpacked, p);
+    if records.kind_at(p) == numbers::REFERENCE {
+        return records.target_at(p);
     }
     p
 }
 
 // ---- 27
 
-fn is_required(table: &[u8], unpacked: &[u32], k: usize) -> bool {
-    (0 < table_records::lo_count_at(table, unpacked, k))
-        & !table_records::extension_at(table, unpacked, k)
-        & !table_records::plugin_at(table, unpacked, k)
+fn is_required(records: &Records, k: usize) -> bool {
+    0 < records.lo_count_at(k) && !records.extension_at(k) && !records.plugin_at(k)
 }
 
 // Has the body of a row a value of parameter k?
-fn is_given(rows: &[u32], count: usize, body: usize, k: usize) -> bool {
-    let mut row = 0;
-    while row < count {
-        if (numbers::u32_as_usize(row_number(rows, row, numbers::ROW_PARENT)) == body)
-            & (numbers::u32_as_usize(row_number(rows, row, numbers::ROW_PARAMETER)) == k)
-        {
-            return true;
-        }
-        row += 1;
-    }
-    false
+fn is_given(rows: &Rows, body: usize, k: usize) -> bool {
+    (0..rows.count).any(|i| {
+        let row = rows.row(i);
+        row.parent as usize == body && row.parameter as usize == k
+    })
 }
 
 // Is parameter k a required field of record s that the body of a row has not?
-fn is_missing(
-    table: &[u8],
-    unpacked: &[u32],
-    s: usize,
-    rows: &[u32],
-    count: usize,
-    body: usize,
-    k: usize,
-) -> bool {
-    table_records::is_under(table, unpacked, k, s)
-        & is_required(table, unpacked, k)
-        & !is_given(rows, count, body, k)
+fn is_missing(records: &Records, s: usize, rows: &Rows, body: usize, k: usize) -> bool {
+    records.is_under(k, s) && is_required(records, k) && !is_given(rows, body, k)
 }
 
-// One more label of a list that begins at first, if it is in it.
-fn put_if(out: &mut [u8], at: usize, first: usize, is_in: bool, label: &[u8]) -> usize {
-    if !is_in {
-        return at;
+// "missing: surveyed, d": the required fields of record s that the body of a row has not.
+fn put_missing(page: &mut Page, records: &Records, s: usize, rows: &Rows, body: usize) {
+    page.text(b"missing: ");
+    let mut gap: &[u8] = b"";
+    for k in 0..records.count {
+        if is_missing(records, s, rows, body, k) {
+            page.text(gap);
+            page.text(records.label_at(k));
+            gap = b", ";
+        }
     }
-    if at == first {
-        return text::put_text(out, at, label);
-    }
-    let o = text::put_text(out, at, b", ");
-    text::put_text(out, o, label)
-}
-
-// "missing: surveyed, d": the required fields of record s, of n records in all, that the body of a row has not.
-fn put_missing(
-    out: &mut [u8],
-    table: &[u8],
-    unpacked: &[u32],
-    n: usize,
-    s: usize,
-    rows: &[u32],
-    count: usize,
-    body: usize,
-) -> usize {
-    let first = text::put_text(out, 0, b"missing: ");
-    let mut o = first;
-    let mut k = 0;
-    while k < n {
-        let is_in = is_missing(table, unpacked, s, rows, count, body, k);
-        let label = table_records::label_at(table, unpacked, k);
-        o = put_if(out, o, first, is_in, label);
-        k += 1;
-    }
-    text::put_byte(out, o, b'\n')
+    page.byte(b'\n');
 }
 
 fn say_missing(
-    out: &mut [u8],
+    page: &mut Page,
     relaxed: &[u8],
     named: &[u8],
     message: &[u8],
     place: usize,
-    rows: &mut [u32],
-) -> usize {
-    let count = read_cut(relaxed, message, place, b"", rows);
-    let body = body_row(rows, count, message, place);
-    if count <= body {
-        return 0;
-    }
+    numbers: &mut [u32],
+) {
+    let rows = read_cut(relaxed, message, place, b"", numbers);
+    let Some(body) = body_row(&rows, message, place) else {
+        return;
+    };
     let mut unpacked = [0u32; table_records::ALL_CELLS];
-    let n = cli_tables::records_of(named, &mut unpacked);
-    let s = resolved(
-        named,
-        &unpacked,
-        numbers::u32_as_usize(row_number(rows, body, numbers::ROW_PARAMETER)),
-    );
-    put_missing(out, named, &unpacked, n, s, rows, count, body)
+    let records = records_of(named, &mut unpacked);
+    let s = resolved(&records, rows.row(body).parameter as usize);
+    put_missing(page, &records, s, &rows, body);
 }
 
 // ---- 24 and 30
 
 // "int<1..99999>", "date".
-fn put_type(out: &mut [u8], at: usize, table: &[u8], unpacked: &[u32], t: usize) -> usize
-    ensures { Wrote (type_of table.now unpacked.now t) out.old at out.new result }
+fn put_type(page: &mut Page, records: &Records, t: usize)
+    ensures { Added (type_of records.now.table.now records.now.unpacked.now t) page.old page.new }
 {
-    let kind = table_records::kind_at(table, unpacked, t);
-    let o = cli_wording::put_kind(out, at, kind);
+    let kind = records.kind_at(t);
+    cli_wording::put_kind(page, kind);
     if (kind < numbers::INT) | (numbers::UNQUOTED < kind) {
-        return o;
+        return;
     }
-    let o = text::put_byte(out, o, b'<');
-    let o = cli_report::put_bounds(
-        out,
-        o,
-        table_records::least_at(table, unpacked, t),
-        table_records::most_at(table, unpacked, t),
-    );
-    text::put_byte(out, o, b'>')
+    page.byte(b'<');
+    cli_report::put_bounds(page, records.least_at(t), records.most_at(t));
+    page.byte(b'>');
 }
 
 // Is a parameter the int that a union takes without a tag?
-fn is_choice(table: &[u8], unpacked: &[u32], p: usize) -> bool
-    ensures { result ≡ is_choice table.now unpacked.now p }
+fn is_choice(records: &Records, p: usize) -> bool
+    ensures { result ≡ is_choice records.now.table.now records.now.unpacked.now p }
 {
-    let parent = table_records::parent_at(table, unpacked, p);
-    table_records::untagged_at(table, unpacked, p)
-        & (table_records::kind_at(table, unpacked, parent) == numbers::UNION)
+    let parent = records.parent_at(p);
+    records.untagged_at(p) & (records.kind_at(parent) == numbers::UNION)
 }
 
 // "1 to 99999".
-fn put_span(out: &mut [u8], at: usize, table: &[u8], unpacked: &[u32], t: usize) -> usize
-    ensures { Wrote (span_text (record_in table.now unpacked.now t).least (record_in table.now unpacked.now t).most) out.old at out.new result }
+fn put_span(page: &mut Page, records: &Records, t: usize)
+    ensures { Added (span_text (record_of records.now t).least (record_of records.now t).most) page.old page.new }
 {
-    let o = cli_report::put_int(out, at, table_records::least_at(table, unpacked, t));
-    let o = text::put_text(out, o, b" to ");
-    cli_report::put_int(out, o, table_records::most_at(table, unpacked, t))
+    cli_report::put_int(page, records.least_at(t));
+    page.text(b" to ");
+    cli_report::put_int(page, records.most_at(t));
 }
 
 // What a type allows: ", from 1 to 99999", ", 1 to 8 bytes".
-fn put_allowed(out: &mut [u8], at: usize, table: &[u8], unpacked: &[u32], t: usize) -> usize
-    ensures { Wrote (allowed_of table.now unpacked.now t) out.old at out.new result }
+fn put_allowed(page: &mut Page, records: &Records, t: usize)
+    ensures { Added (allowed_of records.now.table.now records.now.unpacked.now t) page.old page.new }
 {
-    let kind = table_records::kind_at(table, unpacked, t);
-    if kind == numbers::INT {
-        let o = text::put_text(out, at, b", from ");
-        return put_span(out, o, table, unpacked, t);
+    match records.kind_at(t) {
+        numbers::INT => {
+            page.text(b", from ");
+            put_span(page, records, t);
+        }
+        numbers::DATE => page.text(b", a day from 00010101 to 99991231"),
+        numbers::TIME => page.text(b", from 000000 to 235959"),
+        _ => {
+            page.text(b", ");
+            put_span(page, records, t);
+            page.text(b" bytes");
+        }
     }
-    if kind == numbers::DATE {
-        return text::put_text(out, at, b", a day from 00010101 to 99991231");
-    }
-    if kind == numbers::TIME {
-        return text::put_text(out, at, b", from 000000 to 235959");
-    }
-    let o = text::put_text(out, at, b", ");
-    let o = put_span(out, o, table, unpacked, t);
-    text::put_text(out, o, b" bytes")
 }
 
 // In place of a union's int a tag of the union can stand.
-fn put_choice(out: &mut [u8], at: usize, choice: bool) -> usize
-    ensures { Wrote (choice_text choice) out.old at out.new result }
+fn put_choice(page: &mut Page, choice: bool)
+    ensures { Added (choice_text choice) page.old page.new }
 {
     if choice {
-        return text::put_text(out, at, b", or a tag of the union\n");
+        page.text(b", or a tag of the union\n");
+    } else {
+        page.byte(b'\n');
     }
-    text::put_byte(out, at, b'\n')
 }
 
 // 24: "wanted: int<1..99999> id".
-fn put_wanted(out: &mut [u8], table: &[u8], unpacked: &[u32], p: usize) -> usize
-    ensures { Wrote (wanted_text table.now unpacked.now p) out.old 0 out.new result }
+fn put_wanted(page: &mut Page, records: &Records, p: usize)
+    ensures { Added (wanted_text records.now.table.now records.now.unpacked.now p) page.old page.new }
 {
-    let o = text::put_text(out, 0, b"wanted: ");
-    let o = put_type(out, o, table, unpacked, resolved(table, unpacked, p));
-    let o = text::put_byte(out, o, b' ');
-    let o = text::put_text(out, o, table_records::label_at(table, unpacked, p));
-    put_choice(out, o, is_choice(table, unpacked, p))
+    page.text(b"wanted: ");
+    put_type(page, records, resolved(records, p));
+    page.byte(b' ');
+    page.text(records.label_at(p));
+    put_choice(page, is_choice(records, p));
 }
 
 // 30: "wanted: int id, from 1 to 99999".
-fn put_wanted_range(out: &mut [u8], table: &[u8], unpacked: &[u32], p: usize) -> usize
-    ensures { Wrote (wanted_range_text table.now unpacked.now p) out.old 0 out.new result }
+fn put_wanted_range(page: &mut Page, records: &Records, p: usize)
+    ensures { Added (wanted_range_text records.now.table.now records.now.unpacked.now p) page.old page.new }
 {
-    let t = resolved(table, unpacked, p);
-    let o = text::put_text(out, 0, b"wanted: ");
-    let o = cli_wording::put_kind(out, o, table_records::kind_at(table, unpacked, t));
-    let o = text::put_byte(out, o, b' ');
-    let o = text::put_text(out, o, table_records::label_at(table, unpacked, p));
-    let o = put_allowed(out, o, table, unpacked, t);
-    put_choice(out, o, is_choice(table, unpacked, p))
+    let t = resolved(records, p);
+    page.text(b"wanted: ");
+    cli_wording::put_kind(page, records.kind_at(t));
+    page.byte(b' ');
+    page.text(records.label_at(p));
+    put_allowed(page, records, t);
+    put_choice(page, is_choice(records, p));
 }
 
 // A void that takes the probing word is a union's, and says nothing of what else the union takes.
 fn say_wanted(
-    out: &mut [u8],
+    page: &mut Page,
     relaxed: &[u8],
     named: &[u8],
     message: &[u8],
-    number: u32,
-    place: usize,
-    rows: &mut [u32],
-) -> usize {
-    let p = due_at(relaxed, message, place, rows);
+    refusal: Refusal,
+    numbers: &mut [u32],
+) {
+    let Some(p) = due_at(relaxed, message, refusal.place, numbers) else {
+        return;
+    };
     let mut unpacked = [0u32; table_records::ALL_CELLS];
-    let n = cli_tables::records_of(named, &mut unpacked);
-    if (n <= p) | (table_records::kind_at(named, &unpacked, p) == numbers::VOID) {
-        return 0;
+    let records = records_of(named, &mut unpacked);
+    if records.count <= p || records.kind_at(p) == numbers::VOID {
+        return;
     }
-    if number == numbers::OUTSIDE {
-        return put_wanted_range(out, named, &unpacked, p);
+    if refusal.rule == Rule::ValueRange {
+        put_wanted_range(page, &records, p);
+    } else {
+        put_wanted(page, &records, p);
     }
-    put_wanted(out, named, &unpacked, p)
 }
 
 // ---- all three
 
-// Puts what more can be said of a refusal, and answers how many bytes it has. The labels are those of the table with names.
+// Puts what more can be said of a refusal. The labels are those of the table with names.
 pub fn put_lacking(
-    out: &mut [u8],
-    table: &[u8],
-    named: &[u8],
+    page: &mut Page,
+    tables: Tables,
     message: &[u8],
-    number: u32,
-    place: usize,
-    rows: &mut [u32],
-) -> usize {
-    if (number != numbers::NO_FORM) & (number != numbers::OUTSIDE) & (number != FIELD_MISSING) {
-        return 0;
+    refusal: Refusal,
+    numbers: &mut [u32],
+) {
+    let mut buf = io::large_buffer();
+    let named = tables.named;
+    match refusal.rule {
+        Rule::FieldMissing => {
+            let relaxed = relaxed(tables.table, &mut buf);
+            say_missing(page, relaxed, named, message, refusal.place, numbers);
+        }
+        Rule::ValueForm | Rule::ValueRange => {
+            let relaxed = relaxed(tables.table, &mut buf);
+            say_wanted(page, relaxed, named, message, refusal, numbers);
+        }
+        _ => {}
     }
-    let mut relaxed = io::large_buffer();
-    let length = put_relaxed(&mut relaxed, table);
-    let relaxed = classes::part(&relaxed, 0, length);
-    if number == FIELD_MISSING {
-        return say_missing(out, relaxed, named, message, place, rows);
-    }
-    say_wanted(out, relaxed, named, message, number, place, rows)
 }

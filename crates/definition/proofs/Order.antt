@@ -1,4 +1,5 @@
 -- The checks in their order: a law for each way that the compiler goes.
+use Rattle.std.specs.Prelude.{Option, Some, None, Result as Answer, Ok, Err}
 use mathlib.Core.Path.{◌≡◌, refl, ap, sym, subst, ◌∙◌}
 use mathlib.Core.Bool.{Bool}
 use mathlib.Core.List.{List, [], ◌∷◌, ◌++◌}
@@ -9,6 +10,10 @@ use lib.Seq.{sets, take_at}
 use borrow.Author.Tests.{lt-ltb, le-ltb}
 use Rattle.classes.specs.Lists.{pick, part}
 use Rattle.numbers.specs.Limits.{parameter_limit}
+use Rattle.numbers.specs.Rules.{rule_number}
+use Rattle.numbers.specs.declared.Refusal.{Refusal}
+use Rattle.numbers.specs.declared.Rule.{Rule}
+use Rattle.numbers.specs.declared.Rule.TheVariants.{LabelForm, RangeForm, Placement, LabelTwice, Target, Endless}
 use Rattle.reading_rules.specs.Record.{Record, Before, AfterParents}
 use Rattle.definition_rules.specs.Declarations.{Noted, declarations_of}
 use Rattle.definition_rules.specs.Records.{top_names}
@@ -16,34 +21,32 @@ use Rattle.definition_rules.specs.Table.{encode, number_up, just, decode}
 use Rattle.definition_rules.specs.Finite.{finites, is_endless}
 use Rattle.definition_rules.specs.Faults.{spots_where, record_spots, rule7_broken, tag_repeated, root_no_struct, dangling, repeated_names, faults5, faults6, faults7, faults8, faults9, faults10}
 use Rattle.definition_rules.specs.Compile.{Check, check, Finding, clean, fault, least_of, finding_of, first_fault, Verdict, refused, table, verdict_of, compiled, refusal, answer_with_room, lent_after}
-use Rattle.definition_cells.specs.declared.Place.{Place}
-use Rattle.definition_cells.specs.declared.Place.TheVariants.{Nowhere, At}
 use Rattle.definition_cells.specs.Cells.{cell_at, noted_from}
 use Rattle.definition_cells.specs.Places.{at_if, lesser, least_place, least_from}
 use Rattle.definition_cells.proofs.PlaceLaws.{least_append, from_same}
-use Rattle.table_records.specs.Stored.{record_in, records_at}
+use Rattle.table_records.specs.Stored.{records_at}
+use Rattle.table_records.specs.Shown.{record_of, records_of}
+use Rattle.table_records.specs.declared.Records.{Records}
 use Rattle.table_records.proofs.Laws.{length_records}
-use Rattle.table_walk.specs.Walked.{RecordsCounted, Uncounted, Walked}
-use Rattle.table_walk.specs.declared.Walk.{Walk}
-use Rattle.table_walk.specs.declared.Walk.TheVariants.{Count, Bad}
+use Rattle.table_walk.specs.Walked.{RecordsCounted, Uncounted}
 use Rattle.table_checks.specs.Sweeps.{HasFinites}
-use Rattle.definition_faults.specs.RecordFaults.{record_fault, tag_fault}
+use Rattle.definition_faults.specs.RecordFaults.{name_fault, tag_fault}
 use Rattle.definition_faults.proofs.FaultLaws.{spots_from}
 use Rattle.definition_writer.specs.Written.{WroteRecords, records_written}
 use Rattle.definition_writer.proofs.Widths.{labels_short}
 use Rattle.definition_writer.proofs.Parents.{parents_fit}
 use Rattle.definition_writer.proofs.ReadBack.{Held, held}
 use Rattle.definition_writer.proofs.WriteLaws.{copied}
-use Rattle.definition.specs.Answers.{checks7to10, checks5to10, records_of_cells, verdict_from}
+use Rattle.definition.specs.Answers.{answer_of_compile, refused_at, stop_finding, checks7to10, checks5to10, records_of_cells, verdict_from}
 
 -- ---- one check
 
-pub hit : (n : ℕ) (ps : List ℕ) (cs : List Check) (p : ℕ) → least_place ps ≡ At p → first_fault (check n ps ∷ cs) ≡ fault n p
+pub hit : (n : ℕ) (ps : List ℕ) (cs : List Check) (p : ℕ) → least_place ps ≡ Some p → first_fault (check n ps ∷ cs) ≡ fault n p
 unfolding least_place first_fault finding_of
 hit n [] cs p e = let z : ◌≡◌ {A = ℕ} 0 1 = cc in absurd (omega arith)
 hit n (q ∷ r) cs p e = let z : least_of q r ≡ p = cc in ap (fault n) z
 
-pub pass : (n : ℕ) (ps : List ℕ) (cs : List Check) → least_place ps ≡ Nowhere → first_fault (check n ps ∷ cs) ≡ first_fault cs
+pub pass : (n : ℕ) (ps : List ℕ) (cs : List Check) → least_place ps ≡ None → first_fault (check n ps ∷ cs) ≡ first_fault cs
 unfolding least_place first_fault finding_of
 pass n [] cs e = refl
 pass n (q ∷ r) cs e = let z : ◌≡◌ {A = ℕ} 0 1 = cc in absurd (omega arith)
@@ -52,72 +55,86 @@ no_checks : first_fault [] ≡ clean
 unfolding first_fault
 no_checks = refl
 
+-- what a place in the code says of a check: it is the one that is refused, or it is passed
+module _ (rule : Rule) (place : Option ℕ) (ps : List ℕ) (cs : List Check) (is : place ≡ least_place ps) where
+  pub refused_there : (x : Refusal) → refused_at rule place ≡ Err x → fault (rule_number x.rule) x.place ≡ first_fault (check (rule_number rule) ps ∷ cs)
+  refused_there x e = by place refl e
+    where
+      by : (o : Option ℕ) → place ≡ o → refused_at rule o ≡ Err x → fault (rule_number x.rule) x.place ≡ first_fault (check (rule_number rule) ps ∷ cs)
+      by None q h = absurd (let z : ◌≡◌ {A = ℕ} 0 1 = cc in omega arith)
+      by (Some p) q h =
+          let y : record { rule = rule; place = p } ≡ x = cc in
+          rw (← y) (sym (hit (rule_number rule) ps cs p (sym is ∙ q)))
+
+  pub passed_there : (u : Unit {0}) → refused_at rule place ≡ Ok u → least_place ps ≡ None
+  passed_there u e = by place refl e
+    where
+      by : (o : Option ℕ) → place ≡ o → refused_at rule o ≡ Ok u → least_place ps ≡ None
+      by None q h = sym is ∙ q
+      by (Some p) q h = absurd (let z : ◌≡◌ {A = ℕ} 0 1 = cc in omega arith)
+
+-- the last check
+last_there : (rule : Rule) (place : Option ℕ) (ps : List ℕ) → place ≡ least_place ps → stop_finding (refused_at rule place) ≡ first_fault (check (rule_number rule) ps ∷ [])
+last_there rule None ps e = sym (pass (rule_number rule) ps [] (sym e) ∙ no_checks)
+last_there rule (Some p) ps e = sym (hit (rule_number rule) ps [] p (sym e))
+
 -- ---- the records' checks, as they are judged on a table's bytes
 
-module _ (text cs t unpacked : List ℕ) (n : ℕ) where
+module _ (text cs : List ℕ) (n : ℕ) (r : Records) (as_many : n ≡ r.count) where
   abbrev rs : List Record
-  rs = records_at t unpacked n
+  rs = records_of r
 
   abbrev ns : List Noted
   ns = noted_from text cs n 0
 
-  seven : (have : List Bool) → least_from (record_fault cs t unpacked have n 7) n 0 ≡ least_place (faults7 rs ns)
-  unfolding record_fault pick
-  seven have = sym (spots_from (rule7_broken rs) (λ s. s.name_at) text cs t unpacked n 0)
+  spots : (f : ℕ → Record → Bool) → least_from (name_fault f cs r) r.count 0 ≡ least_place (record_spots f (λ s. s.name_at) 0 rs ns)
+  spots f = rw as_many (sym (spots_from f (λ s. s.name_at) text cs r.table.now r.unpacked.now r.count 0))
 
-  eight : least_from (tag_fault cs t unpacked n) n 0 ≡ least_place (record_spots (tag_repeated rs) (λ s. s.tag_at) 0 rs ns)
-  unfolding pick
-  eight = sym (spots_from (tag_repeated rs) (λ s. s.tag_at) text cs t unpacked n 0)
+  tags : least_from (tag_fault cs r) r.count 0 ≡ least_place (record_spots (tag_repeated rs) (λ s. s.tag_at) 0 rs ns)
+  tags = rw as_many (sym (spots_from (tag_repeated rs) (λ s. s.tag_at) text cs r.table.now r.unpacked.now r.count 0))
 
-  nine : (have : List Bool) → least_from (record_fault cs t unpacked have n 9) n 0 ≡ least_place (record_spots root_no_struct (λ s. s.name_at) 0 rs ns)
-  unfolding record_fault pick
-  nine have = sym (spots_from root_no_struct (λ s. s.name_at) text cs t unpacked n 0)
+  eight : (a b : Option ℕ) → a ≡ least_place (repeated_names [] ns) → b ≡ least_from (tag_fault cs r) r.count 0 → lesser a b ≡ least_place (faults8 rs ns)
+  eight a b x y = rw (x, y, tags) (sym (least_append (repeated_names [] ns) (record_spots (tag_repeated rs) (λ s. s.tag_at) 0 rs ns)))
 
-  ten : (have : List Bool) → HasFinites rs have → least_from (record_fault cs t unpacked have n 10) n 0 ≡ least_place (faults10 rs ns)
-  unfolding record_fault pick
-  ten have h =
-      from_same (λ j. at_if (is_endless have j (record_in t unpacked j)) (cell_at cs j 4)) (λ j. at_if (is_endless (finites rs) j (record_in t unpacked j)) (cell_at cs j 4)) (λ j. ap (λ b. at_if b (cell_at cs j 4)) (same j)) n 0
-      ∙ sym (spots_from (is_endless (finites rs)) (λ s. s.name_at) text cs t unpacked n 0)
+  nine : (a b : Option ℕ) → a ≡ least_from (name_fault root_no_struct cs r) r.count 0 → b ≡ least_place (spots_where (dangling (top_names (declarations_of ns))) (λ s. s.type_at) ns) → lesser a b ≡ least_place (faults9 rs ns)
+  nine a b x y = rw (x, y, spots root_no_struct) (sym (least_append (record_spots root_no_struct (λ s. s.name_at) 0 rs ns) (spots_where (dangling (top_names (declarations_of ns))) (λ s. s.type_at) ns)))
+
+  ten : (have : List Bool) → HasFinites rs have → least_from (name_fault (is_endless have) cs r) r.count 0 ≡ least_place (faults10 rs ns)
+  ten have h = from_same (name_fault (is_endless have) cs r) (name_fault (is_endless (finites rs)) cs r) (λ j. ap (λ b. at_if b (cell_at cs j 4)) (same j)) r.count 0 ∙ spots (is_endless (finites rs))
     where
-      same : (j : ℕ) → is_endless have j (record_in t unpacked j) ≡ is_endless (finites rs) j (record_in t unpacked j)
+      same : (j : ℕ) → is_endless have j (record_of r j) ≡ is_endless (finites rs) j (record_of r j)
       same j = unfold is_endless in (rw (h j))
 
-  -- what is found at each
-  pub at_seven : (have : List Bool) (p : ℕ) → At p ≡ least_from (record_fault cs t unpacked have n 7) n 0 → fault 7 p ≡ first_fault (checks7to10 rs ns)
-  unfolding checks7to10
-  at_seven have p e = sym (hit 7 (faults7 rs ns) _ p (sym (e ∙ seven have)))
-
-  pub past_seven : (have : List Bool) → Nowhere ≡ least_from (record_fault cs t unpacked have n 7) n 0 → least_place (faults7 rs ns) ≡ Nowhere
-  past_seven have e = sym (e ∙ seven have)
-
-  join_eight : (a b : Place) → a ≡ least_place (repeated_names [] ns) → b ≡ least_from (tag_fault cs t unpacked n) n 0 → lesser a b ≡ least_place (faults8 rs ns)
-  join_eight a b x y = rw (x, y, eight) (sym (least_append (repeated_names [] ns) (record_spots (tag_repeated rs) (λ s. s.tag_at) 0 rs ns)))
-
-  join_nine : (have : List Bool) (a b : Place) → a ≡ least_from (record_fault cs t unpacked have n 9) n 0 → b ≡ least_place (spots_where (dangling (top_names (declarations_of ns))) (λ s. s.type_at) ns) → lesser a b ≡ least_place (faults9 rs ns)
-  join_nine have a b x y = rw (x, y, nine have) (sym (least_append (record_spots root_no_struct (λ s. s.name_at) 0 rs ns) (spots_where (dangling (top_names (declarations_of ns))) (λ s. s.type_at) ns)))
-
-  pub at_eight : (a b : Place) (p : ℕ) → least_place (faults7 rs ns) ≡ Nowhere → a ≡ least_place (repeated_names [] ns) → b ≡ least_from (tag_fault cs t unpacked n) n 0 → At p ≡ lesser a b → fault 8 p ≡ first_fault (checks7to10 rs ns)
-  unfolding checks7to10
-  at_eight a b p s x y e = sym (pass 7 (faults7 rs ns) _ s ∙ hit 8 (faults8 rs ns) _ p (sym (e ∙ join_eight a b x y)))
-
-  pub past_eight : (a b : Place) → a ≡ least_place (repeated_names [] ns) → b ≡ least_from (tag_fault cs t unpacked n) n 0 → Nowhere ≡ lesser a b → least_place (faults8 rs ns) ≡ Nowhere
-  past_eight a b x y e = sym (e ∙ join_eight a b x y)
-
-  pub at_nine : (have : List Bool) (a b : Place) (p : ℕ) → least_place (faults7 rs ns) ≡ Nowhere → least_place (faults8 rs ns) ≡ Nowhere → a ≡ least_from (record_fault cs t unpacked have n 9) n 0 → b ≡ least_place (spots_where (dangling (top_names (declarations_of ns))) (λ s. s.type_at) ns) → At p ≡ lesser a b → fault 9 p ≡ first_fault (checks7to10 rs ns)
-  unfolding checks7to10
-  at_nine have a b p s u x y e = sym (pass 7 (faults7 rs ns) _ s ∙ (pass 8 (faults8 rs ns) _ u ∙ hit 9 (faults9 rs ns) _ p (sym (e ∙ join_nine have a b x y))))
-
-  pub past_nine : (have : List Bool) (a b : Place) → a ≡ least_from (record_fault cs t unpacked have n 9) n 0 → b ≡ least_place (spots_where (dangling (top_names (declarations_of ns))) (λ s. s.type_at) ns) → Nowhere ≡ lesser a b → least_place (faults9 rs ns) ≡ Nowhere
-  past_nine have a b x y e = sym (e ∙ join_nine have a b x y)
-
-  module _ (s : least_place (faults7 rs ns) ≡ Nowhere) (u : least_place (faults8 rs ns) ≡ Nowhere) (v : least_place (faults9 rs ns) ≡ Nowhere) (have : List Bool) (h : HasFinites rs have) where
-    pub at_ten : (p : ℕ) → At p ≡ least_from (record_fault cs t unpacked have n 10) n 0 → fault 10 p ≡ first_fault (checks7to10 rs ns)
+  -- where one of them refuses, and what follows where it passes
+  module _ (p7 : Option ℕ) (is7 : p7 ≡ least_from (name_fault (rule7_broken rs) cs r) r.count 0) where
+    pub at_seven : (x : Refusal) → refused_at Placement p7 ≡ Err x → fault (rule_number x.rule) x.place ≡ first_fault (checks7to10 rs ns)
     unfolding checks7to10
-    at_ten p e = sym (pass 7 (faults7 rs ns) _ s ∙ (pass 8 (faults8 rs ns) _ u ∙ (pass 9 (faults9 rs ns) _ v ∙ hit 10 (faults10 rs ns) [] p (sym (e ∙ ten have h)))))
+    at_seven x e = refused_there Placement p7 (faults7 rs ns) _ (is7 ∙ spots (rule7_broken rs)) x e
 
-    pub past_ten : Nowhere ≡ least_from (record_fault cs t unpacked have n 10) n 0 → clean ≡ first_fault (checks7to10 rs ns)
-    unfolding checks7to10
-    past_ten e = sym (pass 7 (faults7 rs ns) _ s ∙ (pass 8 (faults8 rs ns) _ u ∙ (pass 9 (faults9 rs ns) _ v ∙ (pass 10 (faults10 rs ns) [] (sym (e ∙ ten have h)) ∙ no_checks))))
+    module _ (u7 : Unit {0}) (ok7 : refused_at Placement p7 ≡ Ok u7) (names tagged : Option ℕ) (isn : names ≡ least_place (repeated_names [] ns)) (ist : tagged ≡ least_from (tag_fault cs r) r.count 0) where
+      past7 : least_place (faults7 rs ns) ≡ None
+      past7 = passed_there Placement p7 (faults7 rs ns) [] (is7 ∙ spots (rule7_broken rs)) u7 ok7
+
+      pub at_eight : (x : Refusal) → refused_at LabelTwice (lesser names tagged) ≡ Err x → fault (rule_number x.rule) x.place ≡ first_fault (checks7to10 rs ns)
+      unfolding checks7to10
+      at_eight x e = refused_there LabelTwice (lesser names tagged) (faults8 rs ns) _ (eight names tagged isn ist) x e ∙ sym (pass 7 (faults7 rs ns) _ past7)
+
+      module _ (u8 : Unit {0}) (ok8 : refused_at LabelTwice (lesser names tagged) ≡ Ok u8) (root lost : Option ℕ)
+          (isr : root ≡ least_from (name_fault root_no_struct cs r) r.count 0) (isl : lost ≡ least_place (spots_where (dangling (top_names (declarations_of ns))) (λ s. s.type_at) ns)) where
+        past8 : least_place (faults8 rs ns) ≡ None
+        past8 = passed_there LabelTwice (lesser names tagged) (faults8 rs ns) [] (eight names tagged isn ist) u8 ok8
+
+        pub at_nine : (x : Refusal) → refused_at Target (lesser root lost) ≡ Err x → fault (rule_number x.rule) x.place ≡ first_fault (checks7to10 rs ns)
+        unfolding checks7to10
+        at_nine x e = refused_there Target (lesser root lost) (faults9 rs ns) _ (nine root lost isr isl) x e ∙ sym (pass 7 (faults7 rs ns) _ past7 ∙ pass 8 (faults8 rs ns) _ past8)
+
+        pub at_ten : (u9 : Unit {0}) → refused_at Target (lesser root lost) ≡ Ok u9 → (have : List Bool) → HasFinites rs have → (p10 : Option ℕ) → p10 ≡ least_from (name_fault (is_endless have) cs r) r.count 0
+            → stop_finding (refused_at Endless p10) ≡ first_fault (checks7to10 rs ns)
+        unfolding checks7to10
+        at_ten u9 ok9 have h p10 is10 =
+            let past9 : least_place (faults9 rs ns) ≡ None = passed_there Target (lesser root lost) (faults9 rs ns) [] (nine root lost isr isl) u9 ok9 in
+            last_there Endless p10 (faults10 rs ns) (is10 ∙ ten have h)
+            ∙ sym (pass 7 (faults7 rs ns) _ past7 ∙ (pass 8 (faults8 rs ns) _ past8 ∙ pass 9 (faults9 rs ns) _ past9))
 
 -- ---- from the declarations on
 
@@ -128,31 +145,40 @@ module _ (text cs : List ℕ) (n : ℕ) where
   abbrev records : List Record
   records = records_of_cells text cs n
 
-  pub refuse_five : (p : ℕ) → At p ≡ least_place (faults5 kept) → verdict_from text cs n ≡ refused 5 p
-  unfolding verdict_from checks5to10 verdict_of
-  refuse_five p e = ap (λ f. verdict_of f records) (hit 5 (faults5 kept) _ p (sym e))
+  module _ (place : Option ℕ) (is : place ≡ least_place (faults5 kept)) where
+    pub refused_five : (x : Refusal) → refused_at LabelForm place ≡ Err x → verdict_from text cs n ≡ refused (rule_number x.rule) x.place
+    unfolding verdict_from checks5to10 verdict_of
+    refused_five x e = ap (λ f. verdict_of f records) (sym (refused_there LabelForm place (faults5 kept) _ is x e))
 
-  pub refuse_six : (p : ℕ) → Nowhere ≡ least_place (faults5 kept) → At p ≡ least_place (faults6 records kept) → verdict_from text cs n ≡ refused 6 p
-  unfolding verdict_from checks5to10 verdict_of
-  refuse_six p a e = ap (λ f. verdict_of f records) (pass 5 (faults5 kept) _ (sym a) ∙ hit 6 (faults6 records kept) _ p (sym e))
+    pub passed_five : (u : Unit {0}) → refused_at LabelForm place ≡ Ok u → least_place (faults5 kept) ≡ None
+    passed_five = passed_there LabelForm place (faults5 kept) [] is
 
-  later : (f : Finding) → Nowhere ≡ least_place (faults5 kept) → Nowhere ≡ least_place (faults6 records kept) → f ≡ first_fault (checks7to10 records kept) → verdict_from text cs n ≡ verdict_of f records
-  unfolding verdict_from checks5to10
-  later f a b e =
-      ap (λ g. verdict_of g records) (pass 5 (faults5 kept) _ (sym a) ∙ (pass 6 (faults6 records kept) _ (sym b) ∙ sym e))
+  module _ (a : least_place (faults5 kept) ≡ None) where
+    module _ (place : Option ℕ) (is : place ≡ least_place (faults6 records kept)) where
+      pub refused_six : (x : Refusal) → refused_at RangeForm place ≡ Err x → verdict_from text cs n ≡ refused (rule_number x.rule) x.place
+      unfolding verdict_from checks5to10 verdict_of
+      refused_six x e = ap (λ f. verdict_of f records) (pass 5 (faults5 kept) _ a ∙ sym (refused_there RangeForm place (faults6 records kept) _ is x e))
 
-  pub later_fault : (k p : ℕ) → Nowhere ≡ least_place (faults5 kept) → Nowhere ≡ least_place (faults6 records kept) → fault k p ≡ first_fault (checks7to10 records kept) → verdict_from text cs n ≡ refused k p
-  unfolding verdict_of
-  later_fault k p a b e = later (fault k p) a b e
+      pub passed_six : (u : Unit {0}) → refused_at RangeForm place ≡ Ok u → least_place (faults6 records kept) ≡ None
+      passed_six = passed_there RangeForm place (faults6 records kept) [] is
 
-  pub later_clean : Nowhere ≡ least_place (faults5 kept) → Nowhere ≡ least_place (faults6 records kept) → clean ≡ first_fault (checks7to10 records kept) → verdict_from text cs n ≡ table (encode records)
-  unfolding verdict_of
-  later_clean a b e = later clean a b e
+    module _ (b : least_place (faults6 records kept) ≡ None) where
+      later : (f : Finding) → f ≡ first_fault (checks7to10 records kept) → verdict_from text cs n ≡ verdict_of f records
+      unfolding verdict_from checks5to10
+      later f e = ap (λ g. verdict_of g records) (pass 5 (faults5 kept) _ a ∙ (pass 6 (faults6 records kept) _ b ∙ sym e))
+
+      pub later_fault : (k p : ℕ) → fault k p ≡ first_fault (checks7to10 records kept) → verdict_from text cs n ≡ refused k p
+      unfolding verdict_of
+      later_fault k p e = later (fault k p) e
+
+      pub later_clean : clean ≡ first_fault (checks7to10 records kept) → verdict_from text cs n ≡ table (encode records)
+      unfolding verdict_of
+      later_clean e = later clean e
 
   -- what the writer made of declarations without a fault 5
-  pub wrote : (len : ℕ) (scratch after : List ℕ) → n ≤ parameter_limit → ((i : ℕ) → i < n → Before i (number_up (cell_at cs i 15))) → Nowhere ≡ least_place (faults5 kept) → length scratch ≡ 22528 → WroteRecords (records_written text cs n) len scratch after → Held (records_written text cs n) n len scratch after
+  pub wrote : (len : ℕ) (scratch after : List ℕ) → n ≤ parameter_limit → ((i : ℕ) → i < n → Before i (number_up (cell_at cs i 15))) → least_place (faults5 kept) ≡ None → length scratch ≡ 22528 → WroteRecords (records_written text cs n) len scratch after → Held (records_written text cs n) n len scratch after
   wrote len scratch after few parents e long w =
-      held text cs n len scratch after (record { few = few; parents = parents_fit cs n parents few; labels = labels_short text cs n (sym e) }) (omega arith) w
+      held text cs n len scratch after (record { few = few; parents = parents_fit cs n parents few; labels = labels_short text cs n e }) (omega arith) w
 
 -- the front of what was written
 pub front : (p s : List ℕ) (len : ℕ) → p ≡ part s 0 len → p ≡ take len s
@@ -160,34 +186,32 @@ front p s len e = let q : len - 0 ≡ len = omega arith in e ∙ rw q
 
 -- ---- the records of a table, unpacked
 
-pub unpacked_count : (t unpacked : List ℕ) (w : Walk) (m : ℕ) → Walked t unpacked w → w ≡ Count m → RecordsCounted t unpacked m
-unfolding Walked
-unpacked_count t unpacked w m h e = (rw e at h)
-
 module _ (t unpacked : List ℕ) (n : ℕ) (rs : List Record) (d : decode t ≡ just rs) (l : length rs ≡ n) where
   module _ (m : ℕ) (c : RecordsCounted t unpacked m) where
     these : records_at t unpacked m ≡ rs
     these = let q : just (records_at t unpacked m) ≡ just rs = sym c.these ∙ d in cc
 
-    as_many : m ≡ n
-    as_many = sym (length_records t unpacked m 0) ∙ (ap length these ∙ l)
+    pub as_many : n ≡ m
+    as_many = sym (sym (length_records t unpacked m 0) ∙ (ap length these ∙ l))
 
     pub unpacked_after : AfterParents rs → AfterParents (records_at t unpacked m)
     unpacked_after w = subst AfterParents (sym these) w
 
     -- what the checks say of the records unpacked, they say of those of the table
-    pub unpacked_fault : (text cs : List ℕ) (o : Finding) → o ≡ first_fault (checks7to10 (records_at t unpacked m) (noted_from text cs m 0)) → o ≡ first_fault (checks7to10 rs (noted_from text cs n 0))
-    unpacked_fault text cs o e = e ∙ rw (these, as_many)
+    pub unpacked_fault : (ns : List Noted) (o : Finding) → o ≡ first_fault (checks7to10 (records_at t unpacked m) ns) → o ≡ first_fault (checks7to10 rs ns)
+    unpacked_fault ns o e = e ∙ rw these
 
-  pub unpacked_some : {X : Type 0} (w : Walk) → n ≤ parameter_limit → Walked t unpacked w → w ≡ Bad → X
-  unfolding Walked
-  unpacked_some w f h e = let u : Uncounted t = (rw e at h) in absurd (omega (arith, u rs d, l, f))
+  pub unpacked_none : {X : Type 0} → n ≤ parameter_limit → Uncounted t → X
+  unpacked_none f u = absurd (omega (arith, u rs d, l, f))
 
 -- ---- the answer and the lent table after
 
 pub refuses : (v : Verdict) (lent : List ℕ) (k p : ℕ) → v ≡ refused k p → (refusal k p ≡ answer_with_room (length lent) v) × (lent ≡ lent_after v lent)
 unfolding answer_with_room lent_after
 refuses v lent k p e = rw e (refl, refl)
+
+pub refuses_as : (v : Verdict) (lent : List ℕ) (a : Answer ℕ Refusal) (x : Refusal) → a ≡ Err x → v ≡ refused (rule_number x.rule) x.place → (answer_of_compile a ≡ answer_with_room (length lent) v) × (lent ≡ lent_after v lent)
+refuses_as v lent a x q e = rw q (refuses v lent (rule_number x.rule) x.place e)
 
 pub lacks_room : (v : Verdict) (lent : List ℕ) (rs : List Record) (len : ℕ) → v ≡ table (encode rs) → len ≡ length (encode rs) → length lent < len → (refusal 11 len ≡ answer_with_room (length lent) v) × (lent ≡ lent_after v lent)
 unfolding answer_with_room lent_after pick

@@ -1,4 +1,5 @@
 -- The checks of a text in their order, and what its answer promises.
+use Rattle.std.specs.Prelude.{Option, Some, None, Result as Answer, Ok, Err}
 use mathlib.Core.Path.{◌≡◌, refl, ap, sym, ◌∙◌, subst}
 use mathlib.Core.List.{List, [], ◌∷◌, ◌++◌}
 use Prim.Native.Nat.{ℕ, ◌≤◌, ◌<◌}
@@ -6,6 +7,9 @@ use native.Mathlib.Omega.{arith}
 use lib.ListN.{length, drop_of_length-le}
 use borrow.Author.Tests.{lt-ltb, le-ltb}
 use Rattle.numbers.specs.Limits.{text_limit, parameter_limit}
+use Rattle.numbers.specs.Rules.{rule_number}
+use Rattle.numbers.specs.declared.Refusal.{Refusal}
+use Rattle.numbers.specs.declared.Rule.TheVariants.{DefinitionTokens}
 use Rattle.reading_rules.specs.Record.{Record, Before}
 use Rattle.definition_rules.specs.Table.{number_up}
 use Rattle.definition_rules.specs.Scan.{Item, items_of, text_tokens_of, place_if}
@@ -18,17 +22,14 @@ use Rattle.definition_rules.specs.Stuck.{StuckPromise}
 use Rattle.definition_cutting.proofs.Stuck.{stuck_promise}
 use Rattle.table_rules.specs.Endless.{EndlessPromise}
 use Rattle.table_rules.proofs.Ten.{endless_promise}
-use Rattle.definition_cells.specs.declared.Place.TheVariants.{Nowhere, At}
 use Rattle.definition_cells.specs.Cells.{cell_at, noted_from}
 use Rattle.definition_cells.specs.Places.{least_place}
 use Rattle.definition_writer.proofs.Parents.{parents_before}
 use Rattle.definition_forms.specs.Placed.{placed_by}
-use Rattle.definition_forms.specs.declared.Formed.{Formed}
-use Rattle.definition_forms.specs.declared.Formed.TheVariants.{Stuck, Over, Complete}
-use Rattle.definition_forms.specs.Formed.{StuckIn, OverIn, CompleteIn, FormedAs}
+use Rattle.definition_forms.specs.Formed.{StuckIn, OverIn, CompleteIn, RefusedAs, stuck_in, over_in}
 use Rattle.definition_forms.proofs.PlacedLaws.{natural_type, natural_range, natural_name, natural_card, natural_tag, places_append, where_placed, records_placed, repeated_placed, declared_placed}
-use Rattle.definition.specs.Answers.{checks7to10, checks5to10, records_of_cells, verdict_from}
-use Rattle.definition.proofs.Order.{hit, pass, refuses}
+use Rattle.definition.specs.Answers.{answer_of_compile, refused_at, checks7to10, checks5to10, records_of_cells, verdict_from}
+use Rattle.definition.proofs.Order.{hit, pass, refused_there, passed_there, refuses}
 use Rattle.definition_rules.proofs.Spots.{names_length}
 
 module _ (text : List ℕ) where
@@ -40,11 +41,11 @@ module _ (text : List ℕ) where
   unfolding checks checks_from checks_after
   checks_are o e = ap (λ x. checks_of text (items_of text) x (noted_of x) (records_of (declarations_of (noted_of x)))) e
 
-  short : length text ≤ text_limit → least_place (faults1 text) ≡ Nowhere
+  short : length text ≤ text_limit → least_place (faults1 text) ≡ None
   unfolding faults1 place_if least_place
   short h = rw (le-ltb text_limit (length text) h)
 
-  long : text_limit < length text → least_place (faults1 text) ≡ At text_limit
+  long : text_limit < length text → least_place (faults1 text) ≡ Some text_limit
   unfolding faults1 place_if least_place least_of
   long h = rw (lt-ltb text_limit (length text) h)
 
@@ -60,24 +61,30 @@ module _ (text : List ℕ) where
   unfolding checks_of
   one h = faulted 1 text_limit (ap first_fault (checks_are (outcome_of text) refl) ∙ hit 1 (faults1 text) _ text_limit (long h))
 
-  pub two : length text ≤ text_limit → (p : ℕ) → At p ≡ least_place (faults2 items) → verdict text ≡ refused 2 p
-  unfolding checks_of
-  two h p e = faulted 2 p (ap first_fault (checks_are (outcome_of text) refl) ∙ (pass 1 (faults1 text) _ (short h) ∙ hit 2 (faults2 items) _ p (sym e)))
+  module _ (h : length text ≤ text_limit) (place : Option ℕ) (is : place ≡ least_place (faults2 items)) where
+    pub two : (x : Refusal) → refused_at DefinitionTokens place ≡ Err x → verdict text ≡ refused (rule_number x.rule) x.place
+    unfolding checks_of
+    two x e =
+        faulted (rule_number x.rule) x.place
+        (ap first_fault (checks_are (outcome_of text) refl) ∙ (pass 1 (faults1 text) _ (short h) ∙ sym (refused_there DefinitionTokens place (faults2 items) _ is x e)))
 
-  module _ (h : length text ≤ text_limit) (b : Nowhere ≡ least_place (faults2 items)) where
+    pub past_two : (u : Unit {0}) → refused_at DefinitionTokens place ≡ Ok u → least_place (faults2 items) ≡ None
+    past_two = passed_there DefinitionTokens place (faults2 items) [] is
+
+  module _ (h : length text ≤ text_limit) (b : least_place (faults2 items) ≡ None) where
     -- past 1 and 2
     past : (o : Outcome (List Noted)) (cs : List Check) → outcome_of text ≡ o → checks_of text items o (noted_of o) (records_of (declarations_of (noted_of o))) ≡ check 1 (faults1 text) ∷ check 2 (faults2 items) ∷ cs → first_fault (checks text) ≡ first_fault cs
-    past o cs e q = ap first_fault (checks_are o e ∙ q) ∙ (pass 1 (faults1 text) _ (short h) ∙ pass 2 (faults2 items) cs (sym b))
+    past o cs e q = ap first_fault (checks_are o e ∙ q) ∙ (pass 1 (faults1 text) _ (short h) ∙ pass 2 (faults2 items) cs b)
 
-    one_place : (p : ℕ) → least_place (p ∷ []) ≡ At p
+    one_place : (p : ℕ) → least_place (p ∷ []) ≡ Some p
     unfolding least_place least_of
     one_place p = refl
 
-    pub three : (p : ℕ) → StuckIn text p → verdict text ≡ refused 3 p
+    three : (p : ℕ) → StuckIn text p → verdict text ≡ refused 3 p
     unfolding checks_of faults3 token_places
-    three p s = faulted 3 p (past (stuck_at s.spot) _ s.is refl ∙ hit 3 (token_place text items s.spot ∷ []) _ p (one_place (token_place text items s.spot) ∙ ap At s.place))
+    three p s = faulted 3 p (past (stuck_at s.spot) _ s.is refl ∙ hit 3 (token_place text items s.spot ∷ []) _ p (one_place (token_place text items s.spot) ∙ ap Some s.place))
 
-    no_place : least_place [] ≡ Nowhere
+    no_place : least_place [] ≡ None
     unfolding least_place
     no_place = refl
 
@@ -86,12 +93,17 @@ module _ (text : List ℕ) where
     unfolding checks_of faults3 token_places noted_of
     past_three ns e = past (complete ns) _ e refl ∙ pass 3 [] _ no_place
 
-    first_least : (p : ℕ) (r ps : List ℕ) → ps ≡ p ∷ r → least_of p r ≡ p → least_place ps ≡ At p
+    first_least : (p : ℕ) (r ps : List ℕ) → ps ≡ p ∷ r → least_of p r ≡ p → least_place ps ≡ Some p
     unfolding least_place
     first_least p r ps e q = rw (e, q)
 
-    pub four : (p : ℕ) → OverIn text p → verdict text ≡ refused 4 p
+    four : (p : ℕ) → OverIn text p → verdict text ≡ refused 4 p
     four p s = faulted 4 p (past_three s.list s.is ∙ hit 4 (token_places text items (faults4 parameter_limit s.list)) _ p (first_least p s.rest _ s.places s.least))
+
+    -- what the forms refuse
+    pub formed : (x : Refusal) → RefusedAs text x → verdict text ≡ refused (rule_number x.rule) x.place
+    formed x (stuck_in r s) = rw r (three x.place s)
+    formed x (over_in r s) = rw r (four x.place s)
 
     -- 5 to 10 over declarations with places
     abbrev by : List Noted → List Noted
@@ -129,7 +141,7 @@ module _ (text : List ℕ) where
       ten : token_places text items (faults10 rs ns) ≡ faults10 rs (by ns)
       ten = records_placed text items (is_endless (finites rs)) (λ s. s.name_at) natural_name 0 rs ns
 
-    few_names : (ns : List Noted) → length ns ≤ parameter_limit → least_place (token_places text items (faults4 parameter_limit ns)) ≡ Nowhere
+    few_names : (ns : List Noted) → length ns ≤ parameter_limit → least_place (token_places text items (faults4 parameter_limit ns)) ≡ None
     unfolding token_places least_place
     few_names ns l = ap (λ x. least_place (token_places text items x)) (drop_of_length-le (name_spots ns) {i = parameter_limit} (omega (arith, names_length ns)))
 
@@ -169,16 +181,6 @@ keeps text lent after a v e x =
     let q : a ≡ compile_answer text (length lent) = x.0 ∙ ap (answer_with_room (length lent)) (sym e) in
     (q, (x.1 ∙ ap (λ w. lent_after w lent) (sym e), (subst (StuckPromise text) (sym q) (stuck_promise text (length lent)), subst (EndlessPromise text) (sym q) (endless_promise text (length lent)))))
 
-pub keeps_refused : (text lent : List ℕ) (k p : ℕ) → verdict text ≡ refused k p → Promised text lent lent (refusal k p)
-keeps_refused text lent k p e = keeps text lent lent (refusal k p) (refused k p) e (refuses (refused k p) lent k p refl)
-
--- ---- what the forms answered
-
-pub stuck_in : (text cells : List ℕ) (f : Formed) (p : ℕ) → FormedAs text cells f → f ≡ Stuck p → StuckIn text p
-stuck_in text cells f p x e = subst (FormedAs text cells) e x
-
-pub over_in : (text cells : List ℕ) (f : Formed) (p : ℕ) → FormedAs text cells f → f ≡ Over p → OverIn text p
-over_in text cells f p x e = subst (FormedAs text cells) e x
-
-pub complete_in : (text cells : List ℕ) (f : Formed) (n : ℕ) → FormedAs text cells f → f ≡ Complete n → CompleteIn text cells n
-complete_in text cells f n x e = subst (FormedAs text cells) e x
+-- a refusal leaves the lent table as it was
+pub keeps_refused : (text lent : List ℕ) (a : Answer ℕ Refusal) (x : Refusal) → a ≡ Err x → verdict text ≡ refused (rule_number x.rule) x.place → Promised text lent lent (answer_of_compile a)
+keeps_refused text lent a x q e = rw q (keeps text lent lent (refusal (rule_number x.rule) x.place) (refused (rule_number x.rule) x.place) e (refuses (refused (rule_number x.rule) x.place) lent (rule_number x.rule) x.place refl))

@@ -1,24 +1,29 @@
 -- The answers of the compiler in the paper's terms, and the checks from the declarations on.
-use Rattle.std.specs.Prelude.{List, [], ◌∷◌, ℕ}
+use Rattle.std.specs.Prelude.{List, [], ◌∷◌, ℕ, Result as Answer, Ok, Err, Option, Some, None}
+use Rattle.numbers.specs.declared.Refusal.{Refusal}
+use Rattle.numbers.specs.declared.Rule.{Rule}
+use Rattle.numbers.specs.Rules.{rule_number}
 use Rattle.reading_rules.specs.Record.{Record}
 use Rattle.definition_rules.specs.Declarations.{Noted, declarations_of}
 use Rattle.definition_rules.specs.Records.{records_of}
 use Rattle.definition_rules.specs.Faults.{faults5, faults6, faults7, faults8, faults9, faults10}
 use Rattle.definition_rules.specs.Compile.{Check, check, Finding, clean, fault, first_fault, Verdict, verdict_of, CompileAnswer, compiled, refusal}
 use Rattle.definition_cells.specs.Cells.{noted_from}
-use Rattle.definition.specs.declared.Compiled.{Compiled}
-use Rattle.definition.specs.declared.Compiled.TheVariants.{Table, Refused}
-use Rattle.definition.specs.declared.Stop.{Stop}
-use Rattle.definition.specs.declared.Stop.TheVariants.{Clear, Fault}
 
 -- "Answer: number and place"; "Success gives the table's length"
-abbrev pub answer_of_compile : Compiled → CompileAnswer
-answer_of_compile (Table n) = compiled n
-answer_of_compile (Refused n p) = refusal n p
+abbrev pub answer_of_compile : Answer ℕ Refusal → CompileAnswer
+answer_of_compile (Ok n) = compiled n
+answer_of_compile (Err r) = refusal (rule_number r.rule) r.place
 
-abbrev pub stop_finding : Stop → Finding
-stop_finding Clear = clean
-stop_finding (Fault n p) = fault n p
+-- a rule is broken where it has a place
+abbrev pub refused_at : Rule → Option ℕ → Answer (Unit {0}) Refusal
+refused_at rule (Some p) = Err (record { rule = rule; place = p })
+refused_at rule None = Ok tt
+
+-- what checks find: nothing, or a rule's number and a place
+abbrev pub stop_finding : Answer (Unit {0}) Refusal → Finding
+stop_finding (Ok _) = clean
+stop_finding (Err r) = fault (rule_number r.rule) r.place
 
 -- 7 to 10, over declarations with places in the text
 unfoldable pub checks7to10 : List Record → List Noted → List Check

@@ -1,16 +1,31 @@
--- Stores one after the other are one row of numbers.
-use mathlib.Core.Path.{◌≡◌, refl}
-use mathlib.Core.List.{List, [], ◌∷◌, ◌++◌}
-use Prim.Native.Nat.{ℕ, ◌+◌}
-use lib.ListN.{length, set}
+-- Stores one after the other are one row of numbers; stores among the open bodies are stores among their numbers.
+use mathlib.Core.Path.{◌≡◌}
+use mathlib.Core.List.{List, [], ◌∷◌, map}
+use Prim.Native.Nat.{ℕ, zero, suc, ◌+◌, ◌<◌}
+use native.Mathlib.Nat.{add-zero}
+use native.Mathlib.Omega.{arith}
+use lib.ListN.{length, get_or, set, take}
 use lib.Seq.{sets}
-use Rattle.classes.proofs.Stores.{sets_append, four_sets}
+use Rattle.std.proofs.lemmas.List.{map-set}
+use Rattle.std.proofs.Math.Seq.{map-set_same}
+use Rattle.definition_automaton.specs.Codes.{no_body, body_parameter, body_part}
+use Rattle.definition_automaton.specs.declared.Body.{Body}
 
-pub four_are : (x l1 l2 l3 l4 : List ℕ) (i a b c d : ℕ) → l1 ≡ set x i a → l2 ≡ set l1 (i + 1) b → l3 ≡ set l2 (i + 2) c → l4 ≡ set l3 (i + 3) d → l4 ≡ sets x i (a ∷ b ∷ c ∷ d ∷ [])
-four_are x l1 l2 l3 l4 i a b c d q1 q2 q3 q4 = rw (q4, q3, q2, q1) (four_sets x i a b c d)
+-- one number more of a row
+pub sets_more : (row xs : List ℕ) (at i : ℕ) → i < length row → set (sets xs at (take i row)) (at + i) (get_or row i 0) ≡ sets xs at (take (suc i) row)
+sets_more [] xs at i h = absurd (omega arith)
+sets_more (v ∷ row) xs at zero h = rw (add-zero at)
+sets_more (v ∷ row) xs at (suc i) h =
+    let e : at + suc i ≡ suc at + i = omega arith in
+    rw e (sets_more row (set xs at v) (suc at) i (omega arith))
 
-pub two_rows : (n : ℕ) (x y z xs ys : List ℕ) (i : ℕ) → length xs ≡ n → y ≡ sets x i xs → z ≡ sets y (i + n) ys → z ≡ sets x i (xs ++ ys)
-two_rows n x y z xs ys i l p q = rw (q, p, ← l) (sets_append xs ys x i)
+-- a body is stored
+pub parts_set : (bs : List Body) (i : ℕ) (b : Body) → map body_part (set bs i b) ≡ set (map body_part bs) i (body_part b)
+parts_set bs i b = map-set body_part bs i b
 
-pub two_fours : (x y z : List ℕ) (i a b c d e f g h : ℕ) → y ≡ sets x i (a ∷ b ∷ c ∷ d ∷ []) → z ≡ sets y (i + 4) (e ∷ f ∷ g ∷ h ∷ []) → z ≡ sets x i (a ∷ b ∷ c ∷ d ∷ e ∷ f ∷ g ∷ h ∷ [])
-two_fours x y z i a b c d e f g h p q = two_rows 4 x y z (a ∷ b ∷ c ∷ d ∷ []) (e ∷ f ∷ g ∷ h ∷ []) i refl p q
+pub parameters_set : (bs : List Body) (i : ℕ) (b : Body) → map body_parameter (set bs i b) ≡ set (map body_parameter bs) i (body_parameter b)
+parameters_set bs i b = map-set body_parameter bs i b
+
+-- only how far it is
+pub parameters_kept : (bs : List Body) (i : ℕ) (b : Body) → b.parameter ≡ (get_or bs i no_body).parameter → map body_parameter (set bs i b) ≡ map body_parameter bs
+parameters_kept bs i b e = map-set_same body_parameter bs i b no_body e

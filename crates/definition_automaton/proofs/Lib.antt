@@ -1,5 +1,4 @@
 -- Laws that other crates' proofs may cite.
 pub mod CellLaws
-pub mod AfterLaws
 pub mod Views
 pub mod StepLaws

@@ -12,9 +12,8 @@ use Rattle.definition_rules.specs.Scan.{run, mark}
 use Rattle.definition_rules.specs.Forms.{type_run}
 use Rattle.definition_rules.specs.Declarations.{BodyMode, in_fields, group_opened, in_group, groups_closed, Frame, frame, after_card, after_plugin, at_start, due_semicolon, after_type, due_range, in_heading, due_card, due_tag, due_card_end, Action, stop, move, note, allow, with_card, with_tag, with_plugin, takes_field, takes_close, takes_group_end, is_in_body, start_run, start_mark, heading_end, heading_run, heading_mark, step, field_done}
 use Rattle.definition_automaton.specs.Acts.{end_act, plugin_act, as_act, name_act, type_act, closing_act, body_act, start_act, run_act, mark_act, typed_act, tag_act, act_of, next_modes, next_mode}
-use Rattle.definition_automaton.specs.Noting.{pending_by, notes}
+use Rattle.definition_automaton.specs.Noting.{Hand, pending_by, notes}
 use Rattle.definition_automaton.specs.declared.Span.{Span}
-use Rattle.definition_automaton.specs.declared.Pending.{Pending}
 use Rattle.definition_automaton.proofs.Views.{run_in, spots_in, heading_in, phase_in, body_context, context_in, pop_frame, in_mode, frames_after, noted_in, action_in}
 
 -- ---- a mode is one of twelve, or the last
@@ -34,7 +33,7 @@ last_act : (m context kind n : ℕ) → eqb m 0 ≡ false → eqb m 1 ≡ false 
 unfolding act_of pick
 last_act m context kind n e0 e1 e2 e3 e4 e5 e6 e7 e8 e9 e10 e11 = rw (e0, e1, e2, e3, e4, e5, e6, e7, e8, e9, e10, e11)
 
-last_phase : (text : List ℕ) (p : Pending) (m : ℕ) → eqb m 0 ≡ false → eqb m 1 ≡ false → eqb m 2 ≡ false → eqb m 3 ≡ false → eqb m 4 ≡ false → eqb m 5 ≡ false → eqb m 6 ≡ false → eqb m 7 ≡ false → eqb m 8 ≡ false → eqb m 9 ≡ false → eqb m 10 ≡ false → eqb m 11 ≡ false → phase_in text m p ≡ due_card_end (spots_in p) (heading_in text p)
+last_phase : (text : List ℕ) (p : Hand) (m : ℕ) → eqb m 0 ≡ false → eqb m 1 ≡ false → eqb m 2 ≡ false → eqb m 3 ≡ false → eqb m 4 ≡ false → eqb m 5 ≡ false → eqb m 6 ≡ false → eqb m 7 ≡ false → eqb m 8 ≡ false → eqb m 9 ≡ false → eqb m 10 ≡ false → eqb m 11 ≡ false → phase_in text m p ≡ due_card_end (spots_in p) (heading_in text p)
 unfolding phase_in pick
 last_phase text p m e0 e1 e2 e3 e4 e5 e6 e7 e8 e9 e10 e11 = rw (e0, e1, e2, e3, e4, e5, e6, e7, e8, e9, e10, e11)
 
@@ -55,7 +54,7 @@ pub record KindFacts (w : List ℕ) (kind : ℕ) : Type 0 where
   pub plug : same_bytes w kw_plugin ≡ eqb kind 261
   pub least : 256 ≤ kind
 
-module _ (text : List ℕ) (σ : List Frame) (k : ℕ) (p : Pending) (x : Span) (facts : KindFacts (run_in text p.typed) p.kind) where
+module _ (text : List ℕ) (σ : List Frame) (k : ℕ) (p : Hand) (x : Span) (facts : KindFacts (run_in text p.typed) p.kind) where
   -- ---- a mark
 
   module _ (n : ℕ) (small : n < 256) where

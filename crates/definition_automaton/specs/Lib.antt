@@ -3,3 +3,4 @@ pub mod Names
 pub mod Acts
 pub mod States
 pub mod Noting
+pub mod Codes

@@ -2,157 +2,116 @@
 // and its numbers in a lent row.
 #![tactic(auto)]
 
-ghost use Rattle.std.specs.Prelude.{◌≡◌, [], ◌∷◌, ◌+◌, ◌-◌, ◌*◌, ◌<◌};
+ghost use Rattle.std.specs.Prelude.{◌≡◌, Some, None, length, ◌+◌, ◌*◌, ◌≤◌};
 ghost use Rattle.std.proofs.lemmas.List.Edits.{sets};
 ghost use Rattle.definition_cells.specs.Cells.{cell_width};
 ghost use Rattle.numbers.specs.Limits.{parameter_limit};
 ghost use Rattle.definition_automaton.specs.Acts.{end_act, plugin_act, as_act, name_act, type_act, closing_act, body_act, start_act, run_act, mark_act, typed_act, tag_act, act_of, next_mode};
-ghost use Rattle.definition_automaton.specs.States.{started, entry_of, body_after, context_number, context_of, parent_number, extension_flag, with_body, field_done_of, pushed_of, popped_of, over_of, more_of, counted_of, mode_moved, after_of};
-ghost use Rattle.definition_automaton.specs.Noting.{none, typed_of, ranged_of, rangeless_of, named_of, carded_of, tagged_of, untagged_of, plugged_of, pending_by, run_cells, rest_cells, cells_of, notes, note_cells};
+ghost use Rattle.definition_automaton.specs.States.{started, body_after, context_of, parent_number, extension_flag, with_body, field_done_of, pushed_of, popped_of, counted_of, mode_moved, after_of};
+ghost use Rattle.definition_automaton.specs.Noting.{none, named_of, pending_by, cells_of, notes, note_cells};
+ghost use Rattle.definition_automaton.specs.Codes.{flag_number, token_number, is_run, mode_number, part_number, context_number_of, act_number, answer_number, innermost_of, stand_of, hand_of};
 
-// ---- numbers by name
+// ---- the kinds
 
-// A token's kind: the end, a bad byte, a mark's byte, or one of the runs below.
-pub const END_TOKEN: u32 = 0;
+// What a token is: the end, a bad byte, a mark, or a run that names a type (one that may have a range, another simple
+// type, a struct or a union), is `as` or `plugin`, or any other run, which is a reference where a type is due.
+#[derive(Clone, Copy, Debug, PartialEq, Eq)]
+pub enum Token {
+    End,
+    Bad,
+    Semicolon,
+    RangeOpens,
+    RangeCloses,
+    Question,
+    BracketOpens,
+    BracketCloses,
+    BraceOpens,
+    BraceCloses,
+    RangedType,
+    SimpleType,
+    CompoundType,
+    Reference,
+    As,
+    Plugin,
+}
 
-pub const BAD_TOKEN: u32 = 1;
-
-const SEMICOLON: u32 = b';' as u32;
-
-const RANGE_OPENS: u32 = b'<' as u32;
-
-const RANGE_CLOSES: u32 = b'>' as u32;
-
-const QUESTION: u32 = b'?' as u32;
-
-const BRACKET_OPENS: u32 = b'[' as u32;
-
-const BRACKET_CLOSES: u32 = b']' as u32;
-
-const BRACE_OPENS: u32 = b'{' as u32;
-
-const BRACE_CLOSES: u32 = b'}' as u32;
-
-// A run's kind, past every byte: a type that may have a range, another simple type, struct or union, a reference,
-// `as`, `plugin`.
-pub const RANGED_TYPE: u32 = 256;
-
-pub const SIMPLE_TYPE: u32 = 257;
-
-pub const COMPOUND_TYPE: u32 = 258;
-
-pub const REFERENCE_RUN: u32 = 259;
-
-pub const AS_RUN: u32 = 260;
-
-pub const PLUGIN_RUN: u32 = 261;
-
-// The least kind of a run.
-const RUNS: u32 = RANGED_TYPE;
-
-// Modes: where a parameter or a body's end is due, a `;` after a body is, after a type, where its range is due, its `>`,
-// a name after a range, after a name, a cardinality, a tag, plugin, where a cardinality's range is due, a tag, a
-// cardinality's `]`.
-pub const AT_START_MODE: u32 = 0;
-
-const DUE_SEMICOLON_MODE: u32 = 1;
-
-const AFTER_TYPE_MODE: u32 = 2;
-
-const DUE_RANGE_MODE: u32 = 3;
-
-const DUE_RANGE_END_MODE: u32 = 4;
-
-const DUE_NAME_MODE: u32 = 5;
-
-const AFTER_NAME_MODE: u32 = 6;
-
-const AFTER_CARD_MODE: u32 = 7;
-
-const AFTER_TAG_MODE: u32 = 8;
-
-const AFTER_PLUGIN_MODE: u32 = 9;
-
-const DUE_CARD_MODE: u32 = 10;
-
-const DUE_TAG_MODE: u32 = 11;
-
-const DUE_CARD_END_MODE: u32 = 12;
+// Where a parameter or a body's end is due, a `;` after a body is, after a type, where its range is due, its `>`, a name
+// after a range, after a name, a cardinality, a tag, plugin, where a cardinality's range is due, a tag, a cardinality's `]`.
+#[derive(Clone, Copy, Debug, PartialEq, Eq)]
+pub enum Mode {
+    AtStart,
+    DueSemicolon,
+    AfterType,
+    DueRange,
+    DueRangeEnd,
+    DueName,
+    AfterName,
+    AfterCard,
+    AfterTag,
+    AfterPlugin,
+    DueCard,
+    DueTag,
+    DueCardEnd,
+}
 
 // How far a body is: among the fields, a group just opened, in a group, after a group.
-const FIELDS_PART: u32 = 0;
+#[derive(Clone, Copy, Debug, PartialEq, Eq)]
+pub enum Part {
+    Fields,
+    Opened,
+    Group,
+    Closed,
+}
 
-const OPENED_PART: u32 = 1;
-
-const GROUP_PART: u32 = 2;
-
-const CLOSED_PART: u32 = 3;
-
-// A context: at the top, or one more than how far the innermost body is.
-const TOP_CONTEXT: u32 = 0;
-
-const FIELDS_CONTEXT: u32 = FIELDS_PART + 1;
-
-const OPENED_CONTEXT: u32 = OPENED_PART + 1;
-
-const GROUP_CONTEXT: u32 = GROUP_PART + 1;
-
-const CLOSED_CONTEXT: u32 = CLOSED_PART + 1;
-
-// What a token does: it can't go on, or it is a type, `<`, a type's range, `>`, a name, `[` of a cardinality, its range,
+// What a token does that can go on: it is a type, `<`, a type's range, `>`, a name, `[` of a cardinality, its range,
 // its `]`, `as`, a tag, `?`, plugin, `;`, `{`, `}`, `;` after a body, `[` and `]` of a group, a name after a range.
-pub const STUCK: u32 = 0;
+#[derive(Clone, Copy, Debug, PartialEq, Eq)]
+pub enum Action {
+    TakeType,
+    OpenRange,
+    TakeRange,
+    CloseRange,
+    TakeName,
+    OpenCard,
+    TakeCard,
+    CloseCard,
+    TakeAs,
+    TakeTag,
+    TakeNoTag,
+    TakePlugin,
+    EndHeading,
+    OpenBody,
+    CloseBody,
+    EndBody,
+    OpenGroup,
+    CloseGroup,
+    TakeNameAfterRange,
+}
 
-const TAKE_TYPE: u32 = 1;
-
-const OPEN_RANGE: u32 = 2;
-
-const TAKE_RANGE: u32 = 3;
-
-const CLOSE_RANGE: u32 = 4;
-
-const TAKE_NAME: u32 = 5;
-
-const OPEN_CARD: u32 = 6;
-
-const TAKE_CARD: u32 = 7;
-
-const CLOSE_CARD: u32 = 8;
-
-const TAKE_AS: u32 = 9;
-
-const TAKE_TAG: u32 = 10;
-
-const TAKE_NO_TAG: u32 = 11;
-
-const TAKE_PLUGIN: u32 = 12;
-
-const END_HEADING: u32 = 13;
-
-const OPEN_BODY: u32 = 14;
-
-const CLOSE_BODY: u32 = 15;
-
-const END_BODY: u32 = 16;
-
-const OPEN_GROUP: u32 = 17;
-
-const CLOSE_GROUP: u32 = 18;
-
-const TAKE_NAME_AFTER_RANGE: u32 = 19;
-
-const ACTS: u32 = 20;
+// Which tag a declaration has: its own name, none, or one that is given; with its number in the cells.
+#[derive(Clone, Copy, Debug, PartialEq, Eq)]
+pub enum Tagged {
+    OwnName = 0,
+    Tagless = 1,
+    Explicit = 2,
+}
 
 // ---- what is kept
 
-// Where the automaton stands: the mode, the open bodies (their parameters' numbers and how far each body is),
-// the declarations so far, the place of the 257th name.
+// An open body: its parameter's number, and how far it is.
+#[derive(Clone, Copy, Debug, PartialEq, Eq)]
+pub struct Body {
+    pub parameter: u32,
+    pub part: Part,
+}
+
+// Where the automaton stands: the mode, the open bodies, the declarations so far, the place of the 257th name.
+// The bodies lie in fixed memory, so that how many are open stands beside them.
 #[derive(Clone, Copy)]
 pub struct State {
-    pub mode: u32,
+    pub mode: Mode,
     pub depth: usize,
-    pub numbers: [u32; numbers::DEPTH_LIMIT],
-    pub bodies: [u32; numbers::DEPTH_LIMIT],
+    pub bodies: [Body; numbers::DEPTH_LIMIT],
     pub count: usize,
     pub over: usize,
 }
@@ -164,8 +123,8 @@ pub struct Span {
     pub end: u32,
 }
 
-// What was read of a declaration, its numbers as in its cells: its runs; whether a range, a cardinality, plugin is given;
-// which tag; the kind of its type's run.
+// What was read of a declaration: its runs; whether a range, a cardinality, plugin is given; which tag; what token its
+// type is. A run that isn't given stands where its cells have it, at the type or the name, so none of them is an Option.
 #[derive(Clone, Copy)]
 pub struct Pending {
     pub typed: Span,
@@ -173,395 +132,367 @@ pub struct Pending {
     pub name: Span,
     pub card: Span,
     pub tag: Span,
-    pub ranged: u32,
-    pub carded: u32,
-    pub tagged: u32,
-    pub plugin: u32,
-    pub kind: u32,
+    pub ranged: bool,
+    pub carded: bool,
+    pub tagged: Tagged,
+    pub plugin: bool,
+    pub kind: Token,
 }
 
 // ---- what a token does
 
-// `;` and `{` end a heading.
-fn end_act(kind: u32, k: u32) -> u32
-    ensures { result ≡ end_act kind k }
+// A context, a type's kind and a token go through these functions as `act` takes them: each is matched on its own, so that
+// a struct of the three would be taken apart again at once.
+
+impl Token {
+    fn is_run(self) -> bool
+        ensures { result ≡ is_run self }
+    {
+        matches!(
+            self,
+            Token::RangedType
+                | Token::SimpleType
+                | Token::CompoundType
+                | Token::Reference
+                | Token::As
+                | Token::Plugin
+        )
+    }
+}
+
+// An act where a run is due.
+#[tactic(auto, unfolding(crate::specs::Acts::run_act, classes::specs::Lists::pick))]
+fn run_act(act: Action, token: Token) -> Option<Action>
+    ensures { answer_number result ≡ run_act (act_number act) (token_number token) }
 {
-    if kind == COMPOUND_TYPE {
-        if k == BRACE_OPENS {
-            return OPEN_BODY;
-        }
-        return STUCK;
+    token.is_run().then_some(act)
+}
+
+// An act where a certain mark is due.
+#[tactic(auto, unfolding(crate::specs::Acts::mark_act, classes::specs::Lists::pick))]
+fn mark_act(mark: Token, act: Action, token: Token) -> Option<Action>
+    ensures { answer_number result ≡ mark_act (token_number mark) (act_number act) (token_number token) }
+{
+    (token == mark).then_some(act)
+}
+
+// `;` and `{` end a heading.
+#[tactic(auto, unfolding(crate::specs::Acts::end_act, crate::specs::Acts::mark_act, classes::specs::Lists::pick))]
+fn end_act(kind: Token, token: Token) -> Option<Action>
+    ensures { answer_number result ≡ end_act (token_number kind) (token_number token) }
+{
+    match kind {
+        Token::CompoundType => mark_act(Token::BraceOpens, Action::OpenBody, token),
+        _ => mark_act(Token::Semicolon, Action::EndHeading, token),
     }
-    if k == SEMICOLON {
-        return END_HEADING;
-    }
-    STUCK
 }
 
 // `plugin`, or the heading's end.
-fn plugin_act(context: u32, kind: u32, k: u32) -> u32
-    ensures { result ≡ plugin_act context kind k }
+#[tactic(auto, unfolding(crate::specs::Acts::plugin_act, classes::specs::Lists::pick))]
+fn plugin_act(context: Option<Part>, kind: Token, token: Token) -> Option<Action>
+    ensures { answer_number result ≡ plugin_act (context_number_of context) (token_number kind) (token_number token) }
 {
-    if k == PLUGIN_RUN {
-        if context == TOP_CONTEXT {
-            return STUCK;
-        }
-        return TAKE_PLUGIN;
+    match token {
+        Token::Plugin => context.and(Some(Action::TakePlugin)),
+        _ => end_act(kind, token),
     }
-    end_act(kind, k)
 }
 
 // `as`, or what follows it.
-fn as_act(context: u32, kind: u32, k: u32) -> u32
-    ensures { result ≡ as_act context kind k }
+#[tactic(auto, unfolding(crate::specs::Acts::as_act, classes::specs::Lists::pick))]
+fn as_act(context: Option<Part>, kind: Token, token: Token) -> Option<Action>
+    ensures { answer_number result ≡ as_act (context_number_of context) (token_number kind) (token_number token) }
 {
-    if k == AS_RUN {
-        if context == TOP_CONTEXT {
-            return STUCK;
-        }
-        return TAKE_AS;
+    match token {
+        Token::As => context.and(Some(Action::TakeAs)),
+        _ => plugin_act(context, kind, token),
     }
-    plugin_act(context, kind, k)
 }
 
 // `[` of a cardinality, or what follows it.
-fn name_act(context: u32, kind: u32, k: u32) -> u32
-    ensures { result ≡ name_act context kind k }
+#[tactic(auto, unfolding(crate::specs::Acts::name_act, classes::specs::Lists::pick))]
+fn name_act(context: Option<Part>, kind: Token, token: Token) -> Option<Action>
+    ensures { answer_number result ≡ name_act (context_number_of context) (token_number kind) (token_number token) }
 {
-    if k == BRACKET_OPENS {
-        if context == TOP_CONTEXT {
-            return STUCK;
-        }
-        return OPEN_CARD;
+    match token {
+        Token::BracketOpens => context.and(Some(Action::OpenCard)),
+        _ => as_act(context, kind, token),
     }
-    as_act(context, kind, k)
 }
 
 // A type: only a top's can't be a reference.
-fn type_act(context: u32, k: u32) -> u32
-    ensures { result ≡ type_act context k }
+#[tactic(auto, unfolding(crate::specs::Acts::type_act, classes::specs::Lists::pick))]
+fn type_act(context: Option<Part>, token: Token) -> Option<Action>
+    ensures { answer_number result ≡ type_act (context_number_of context) (token_number token) }
 {
-    if context == TOP_CONTEXT {
-        if k < REFERENCE_RUN {
-            return TAKE_TYPE;
-        }
-        return STUCK;
+    match (context, token) {
+        (None, Token::Reference | Token::As | Token::Plugin) => None,
+        (Some(Part::Closed), _) => None,
+        _ => Some(Action::TakeType),
     }
-    if context == CLOSED_CONTEXT {
-        return STUCK;
-    }
-    TAKE_TYPE
 }
 
-fn closing(context: u32, a: u32) -> u32
-    ensures { result ≡ closing_act context a }
+// An act where a body may close or open its group.
+#[tactic(auto, unfolding(crate::specs::Acts::closing_act, classes::specs::Lists::pick))]
+fn closing(context: Option<Part>, act: Action) -> Option<Action>
+    ensures { answer_number result ≡ closing_act (context_number_of context) (act_number act) }
 {
-    if context == FIELDS_CONTEXT {
-        return a;
+    match context {
+        Some(Part::Fields | Part::Closed) => Some(act),
+        _ => None,
     }
-    if context == CLOSED_CONTEXT {
-        return a;
-    }
-    STUCK
 }
 
 // `}`, and `[` and `]` of a group.
-fn body_act(context: u32, k: u32) -> u32
-    ensures { result ≡ body_act context k }
+#[tactic(auto, unfolding(crate::specs::Acts::body_act, classes::specs::Lists::pick))]
+fn body_act(context: Option<Part>, token: Token) -> Option<Action>
+    ensures { answer_number result ≡ body_act (context_number_of context) (token_number token) }
 {
-    if k == BRACE_CLOSES {
-        return closing(context, CLOSE_BODY);
+    match (token, context) {
+        (Token::BraceCloses, _) => closing(context, Action::CloseBody),
+        (Token::BracketOpens, _) => closing(context, Action::OpenGroup),
+        (Token::BracketCloses, Some(Part::Group)) => Some(Action::CloseGroup),
+        _ => None,
     }
-    if k == BRACKET_OPENS {
-        return closing(context, OPEN_GROUP);
-    }
-    if k == BRACKET_CLOSES {
-        if context == GROUP_CONTEXT {
-            return CLOSE_GROUP;
-        }
-        return STUCK;
-    }
-    STUCK
 }
 
-fn start_act(context: u32, k: u32) -> u32
-    ensures { result ≡ start_act context k }
+// A run or a mark where a parameter or a body's end is due.
+#[tactic(auto, unfolding(crate::specs::Acts::start_act, classes::specs::Lists::pick))]
+fn start_act(context: Option<Part>, token: Token) -> Option<Action>
+    ensures { answer_number result ≡ start_act (context_number_of context) (token_number token) }
 {
-    if RUNS <= k {
-        return type_act(context, k);
+    if token.is_run() {
+        type_act(context, token)
+    } else {
+        body_act(context, token)
     }
-    body_act(context, k)
-}
-
-// a where a run is due.
-fn run_act(a: u32, k: u32) -> u32
-    ensures { result ≡ run_act a k }
-{
-    if RUNS <= k {
-        return a;
-    }
-    STUCK
-}
-
-// a where a certain mark is due.
-fn mark_act(b: u32, a: u32, k: u32) -> u32
-    ensures { result ≡ mark_act b a k }
-{
-    if k == b {
-        return a;
-    }
-    STUCK
 }
 
 // A name after a type, or `<`.
-fn typed_act(kind: u32, k: u32) -> u32
-    ensures { result ≡ typed_act kind k }
+#[tactic(auto, unfolding(crate::specs::Acts::typed_act, classes::specs::Lists::pick))]
+fn typed_act(kind: Token, token: Token) -> Option<Action>
+    ensures { answer_number result ≡ typed_act (token_number kind) (token_number token) }
 {
-    if RUNS <= k {
-        return TAKE_NAME;
+    if token.is_run() {
+        return Some(Action::TakeName);
     }
-    if kind == RANGED_TYPE {
-        return mark_act(RANGE_OPENS, OPEN_RANGE, k);
+    match kind {
+        Token::RangedType => mark_act(Token::RangeOpens, Action::OpenRange, token),
+        _ => None,
     }
-    STUCK
 }
 
 // A tag, or `?`.
-fn tag_act(k: u32) -> u32
-    ensures { result ≡ tag_act k }
+#[tactic(auto, unfolding(crate::specs::Acts::tag_act, classes::specs::Lists::pick))]
+fn tag_act(token: Token) -> Option<Action>
+    ensures { answer_number result ≡ tag_act (token_number token) }
 {
-    if RUNS <= k {
-        return TAKE_TAG;
+    if token.is_run() {
+        return Some(Action::TakeTag);
     }
-    mark_act(QUESTION, TAKE_NO_TAG, k)
+    mark_act(Token::Question, Action::TakeNoTag, token)
 }
 
-// What the token of kind k does, in a context, after a type of a kind.
-pub fn act(mode: u32, context: u32, kind: u32, k: u32) -> u32
-    ensures { result ≡ act_of mode context kind k }
+// What a token does in a context, the part of the innermost body, after a type of a kind; none if it can't go on.
+#[tactic(auto, unfolding(crate::specs::Acts::act_of, classes::specs::Lists::pick))]
+pub fn act(mode: Mode, context: Option<Part>, kind: Token, token: Token) -> Option<Action>
+    ensures { answer_number result ≡ act_of (mode_number mode) (context_number_of context) (token_number kind) (token_number token) }
 {
+    // The modes are the automaton's states, and each asks something else: no caller could pass a closure for one.
     match mode {
-        AT_START_MODE => start_act(context, k),
-        DUE_SEMICOLON_MODE => mark_act(SEMICOLON, END_BODY, k),
-        AFTER_TYPE_MODE => typed_act(kind, k),
-        DUE_RANGE_MODE => run_act(TAKE_RANGE, k),
-        DUE_RANGE_END_MODE => mark_act(RANGE_CLOSES, CLOSE_RANGE, k),
-        DUE_NAME_MODE => run_act(TAKE_NAME_AFTER_RANGE, k),
-        AFTER_NAME_MODE => name_act(context, kind, k),
-        AFTER_CARD_MODE => as_act(context, kind, k),
-        AFTER_TAG_MODE => plugin_act(context, kind, k),
-        AFTER_PLUGIN_MODE => end_act(kind, k),
-        DUE_CARD_MODE => run_act(TAKE_CARD, k),
-        DUE_TAG_MODE => tag_act(k),
-        _ => mark_act(BRACKET_CLOSES, CLOSE_CARD, k),
+        Mode::AtStart => start_act(context, token),
+        Mode::DueSemicolon => mark_act(Token::Semicolon, Action::EndBody, token),
+        Mode::AfterType => typed_act(kind, token),
+        Mode::DueRange => run_act(Action::TakeRange, token),
+        Mode::DueRangeEnd => mark_act(Token::RangeCloses, Action::CloseRange, token),
+        Mode::DueName => run_act(Action::TakeNameAfterRange, token),
+        Mode::AfterName => name_act(context, kind, token),
+        Mode::AfterCard => as_act(context, kind, token),
+        Mode::AfterTag => plugin_act(context, kind, token),
+        Mode::AfterPlugin => end_act(kind, token),
+        Mode::DueCard => run_act(Action::TakeCard, token),
+        Mode::DueTag => tag_act(token),
+        Mode::DueCardEnd => mark_act(Token::BracketCloses, Action::CloseCard, token),
     }
 }
 
-// The mode after each act, in the order of the acts.
-const NEXT: [u32; 20] = [
-    AT_START_MODE,
-    AFTER_TYPE_MODE,
-    DUE_RANGE_MODE,
-    DUE_RANGE_END_MODE,
-    DUE_NAME_MODE,
-    AFTER_NAME_MODE,
-    DUE_CARD_MODE,
-    DUE_CARD_END_MODE,
-    AFTER_CARD_MODE,
-    DUE_TAG_MODE,
-    AFTER_TAG_MODE,
-    AFTER_TAG_MODE,
-    AFTER_PLUGIN_MODE,
-    AT_START_MODE,
-    AT_START_MODE,
-    DUE_SEMICOLON_MODE,
-    AT_START_MODE,
-    AT_START_MODE,
-    AT_START_MODE,
-    AFTER_NAME_MODE,
-];
-
-fn next_mode(a: u32) -> u32
-    ensures { result ≡ next_mode a }
-{
-    if a < ACTS {
-        let i = a as usize;
-        return NEXT[i];
+impl Action {
+    // The mode after it.
+    #[tactic(auto, unfolding(crate::specs::Acts::next_mode, crate::specs::Acts::next_modes, classes::specs::Lists::pick))]
+    fn next(self) -> Mode
+        ensures { mode_number result ≡ next_mode (act_number self) }
+    {
+        match self {
+            Action::TakeType => Mode::AfterType,
+            Action::OpenRange => Mode::DueRange,
+            Action::TakeRange => Mode::DueRangeEnd,
+            Action::CloseRange => Mode::DueName,
+            Action::TakeName | Action::TakeNameAfterRange => Mode::AfterName,
+            Action::OpenCard => Mode::DueCard,
+            Action::TakeCard => Mode::DueCardEnd,
+            Action::CloseCard => Mode::AfterCard,
+            Action::TakeAs => Mode::DueTag,
+            Action::TakeTag | Action::TakeNoTag => Mode::AfterTag,
+            Action::TakePlugin => Mode::AfterPlugin,
+            Action::CloseBody => Mode::DueSemicolon,
+            Action::EndHeading
+            | Action::OpenBody
+            | Action::EndBody
+            | Action::OpenGroup
+            | Action::CloseGroup => Mode::AtStart,
+        }
     }
-    AT_START_MODE
+
+    // Whether it ends a heading.
+    #[tactic(auto, unfolding(crate::specs::Noting::notes, classes::specs::Lists::pick))]
+    fn notes(self) -> bool
+        ensures { result ≡ notes (act_number self) }
+    {
+        matches!(self, Action::EndHeading | Action::OpenBody)
+    }
 }
 
 // ---- the state
 
+// What a place among the bodies holds before one is opened there.
+const NO_BODY: Body = Body {
+    parameter: 0,
+    part: Part::Fields,
+};
+
 pub fn start() -> State
-    ensures { result ≡ started }
+    ensures { stand_of result ≡ started }
 {
     State {
-        mode: AT_START_MODE,
+        mode: Mode::AtStart,
         depth: 0,
-        numbers: [0, 0, 0, 0, 0, 0, 0, 0],
-        bodies: [0, 0, 0, 0, 0, 0, 0, 0],
+        bodies: [NO_BODY; numbers::DEPTH_LIMIT],
         count: 0,
         over: 0,
     }
 }
 
-fn entry(row: [u32; numbers::DEPTH_LIMIT], i: usize) -> u32
-    ensures { result ≡ entry_of row i }
-{
-    if i < numbers::DEPTH_LIMIT {
-        return row[i];
+impl Part {
+    // How far the body is after a field.
+    #[tactic(auto, unfolding(crate::specs::States::body_after, classes::specs::Lists::pick))]
+    fn after_field(self) -> Part
+        ensures { part_number result ≡ body_after (part_number self) }
+    {
+        match self {
+            Part::Opened => Part::Group,
+            _ => self,
+        }
     }
-    0
-}
-
-fn body_after(m: u32) -> u32
-    ensures { result ≡ body_after m }
-{
-    if m == OPENED_PART {
-        return GROUP_PART;
-    }
-    m
-}
-
-fn context_number(m: u32) -> u32
-    ensures { result ≡ context_number m }
-{
-    if m < CLOSED_PART {
-        return m + 1;
-    }
-    CLOSED_CONTEXT
-}
-
-// The number before, and 0 before 0.
-fn one_less(n: usize) -> usize
-    ensures { result ≡ n - 1 }
-{
-    if n == 0 { 0 } else { n - 1 }
-}
-
-// The 257th name's place is kept.
-fn over_after(count: usize, over: usize, name: usize) -> usize
-    ensures { result ≡ over_of count over name }
-{
-    if count == numbers::PARAMETER_LIMIT {
-        return name;
-    }
-    over
 }
 
 // More declarations than any text has, where counting stops.
 const MANY: usize = numbers::TEXT_LIMIT + 1;
 
-fn one_more(count: usize) -> usize
-    ensures { result ≡ more_of count }
-{
-    if count < MANY {
-        return count + 1;
-    }
-    count
-}
-
 impl State {
-    pub fn context(self) -> u32
-        ensures { result ≡ context_of self }
+    // The innermost open body.
+    fn innermost(self) -> Option<Body>
+        ensures { result ≡ innermost_of self }
     {
-        let d = self.depth;
-        if d == 0 {
-            return TOP_CONTEXT;
-        }
-        let row = self.bodies;
-        context_number(entry(row, d - 1))
+        let at = self.depth.checked_sub(1)?;
+        Some(numbers::get_or(&self.bodies, at, NO_BODY))
+    }
+
+    // How far the innermost body is, none at the top.
+    #[tactic(auto, unfolding(crate::specs::States::context_of, crate::specs::States::context_number, crate::specs::States::entry_of, classes::specs::Lists::pick))]
+    pub fn context(self) -> Option<Part>
+        ensures { context_number_of result ≡ context_of (stand_of self) }
+    {
+        self.innermost().map(|body| body.part)
     }
 
     // The number of the parameter whose body is open.
+    #[tactic(auto, unfolding(crate::specs::States::parent_number, crate::specs::States::entry_of, classes::specs::Lists::pick))]
     fn parent(self) -> u32
-        ensures { result ≡ parent_number self }
+        ensures { result ≡ parent_number (stand_of self) }
     {
-        let d = self.depth;
-        if d == 0 {
-            return definition_cells::NO_PARENT;
+        match self.innermost() {
+            Some(body) => body.parameter,
+            None => definition_cells::NO_PARENT,
         }
-        let row = self.numbers;
-        entry(row, d - 1)
     }
 
-    // The innermost body is as far as m.
-    fn in_body(mut self, m: u32) -> State
-        ensures { result ≡ with_body self m }
+    // The innermost body is as far as a part.
+    #[tactic(auto, using(crate::proofs::CellLaws::parts_set, crate::proofs::CellLaws::parameters_kept), unfolding(crate::specs::States::with_body, classes::specs::Lists::pick))]
+    fn in_body(mut self, part: Part) -> State
+        ensures { stand_of result ≡ with_body (stand_of self) (part_number part) }
     {
-        let d = self.depth;
-        if d == 0 {
-            return self;
+        if let Some(at) = self.depth.checked_sub(1)
+            && at < numbers::DEPTH_LIMIT
+        {
+            self.bodies[at].part = part;
         }
-        let i = d - 1;
-        if numbers::DEPTH_LIMIT <= i {
-            return self;
-        }
-        self.bodies[i] = m;
         self
     }
 
+    #[tactic(auto, unfolding(crate::specs::States::field_done_of, crate::specs::States::entry_of, classes::specs::Lists::pick))]
     fn field_done(self) -> State
-        ensures { result ≡ field_done_of self }
+        ensures { stand_of result ≡ field_done_of (stand_of self) }
     {
-        let d = self.depth;
-        if d == 0 {
-            return self;
+        match self.innermost() {
+            Some(body) => self.in_body(body.part.after_field()),
+            None => self,
         }
-        let row = self.bodies;
-        let m = body_after(entry(row, d - 1));
-        self.in_body(m)
     }
 
     // The declaration at hand opens a body.
+    #[tactic(auto, using(crate::proofs::CellLaws::parts_set, crate::proofs::CellLaws::parameters_set), unfolding(crate::specs::States::pushed_of, classes::specs::Lists::pick))]
     fn pushed(mut self) -> State
-        ensures { result ≡ pushed_of self }
+        ensures { stand_of result ≡ pushed_of (stand_of self) }
     {
-        let d = self.depth;
-        let c = self.count;
-        if numbers::DEPTH_LIMIT <= d {
-            return self;
+        if self.depth < numbers::DEPTH_LIMIT {
+            self.bodies[self.depth] = Body {
+                parameter: (self.count % 65536) as u32,
+                part: Part::Fields,
+            };
+            self.depth += 1;
         }
-        self.numbers[d] = (c % 65536) as u32;
-        self.bodies[d] = FIELDS_PART;
-        self.depth = d + 1;
         self
     }
 
     fn popped(mut self) -> State
-        ensures { result ≡ popped_of self }
+        ensures { stand_of result ≡ popped_of (stand_of self) }
     {
-        self.depth = one_less(self.depth);
+        self.depth = self.depth.saturating_sub(1);
         self
     }
 
-    // One declaration more, with its name at a place.
+    // One declaration more, with its name at a place; the 257th's is kept.
+    #[tactic(auto, unfolding(crate::specs::States::over_of, crate::specs::States::more_of, classes::specs::Lists::pick))]
     fn counted(mut self, name: usize) -> State
-        ensures { result ≡ counted_of self name }
+        ensures { stand_of result ≡ counted_of (stand_of self) name }
     {
-        self.over = over_after(self.count, self.over, name);
-        self.count = one_more(self.count);
+        if self.count == numbers::PARAMETER_LIMIT {
+            self.over = name;
+        }
+        if self.count < MANY {
+            self.count += 1;
+        }
         self
     }
 
-    fn moved(mut self, a: u32) -> State
-        ensures { result ≡ mode_moved self a }
+    fn moved(mut self, act: Action) -> State
+        ensures { stand_of result ≡ mode_moved (stand_of self) (act_number act) }
     {
-        self.mode = next_mode(a);
+        self.mode = act.next();
         self
     }
 
-    pub fn acted(self, a: u32, name: usize) -> State
-        ensures { result ≡ after_of self a name }
+    #[tactic(auto, unfolding(crate::specs::States::after_of, classes::specs::Lists::pick))]
+    pub fn acted(self, act: Action, name: usize) -> State
+        ensures { stand_of result ≡ after_of (stand_of self) (act_number act) name }
     {
-        let st = self.moved(a);
-        match a {
-            END_HEADING => st.field_done().counted(name),
-            OPEN_BODY => st.field_done().pushed().counted(name),
-            CLOSE_BODY => st.popped(),
-            OPEN_GROUP => st.in_body(OPENED_PART),
-            CLOSE_GROUP => st.in_body(CLOSED_PART),
+        let st = self.moved(act);
+        match act {
+            Action::EndHeading => st.field_done().counted(name),
+            Action::OpenBody => st.field_done().pushed().counted(name),
+            Action::CloseBody => st.popped(),
+            Action::OpenGroup => st.in_body(Part::Opened),
+            Action::CloseGroup => st.in_body(Part::Closed),
             _ => st,
         }
     }
@@ -570,191 +501,133 @@ impl State {
 // ---- the declaration at hand
 
 pub fn nothing() -> Pending
-    ensures { result ≡ none }
+    ensures { hand_of result ≡ none }
 {
-    let z = Span { start: 0, end: 0 };
+    let nowhere = Span { start: 0, end: 0 };
     Pending {
-        typed: z,
-        range: z,
-        name: z,
-        card: z,
-        tag: z,
-        ranged: 0,
-        carded: 0,
-        tagged: definition_cells::OWN_NAME,
-        plugin: 0,
-        kind: REFERENCE_RUN,
+        typed: nowhere,
+        range: nowhere,
+        name: nowhere,
+        card: nowhere,
+        tag: nowhere,
+        ranged: false,
+        carded: false,
+        tagged: Tagged::OwnName,
+        plugin: false,
+        kind: Token::Reference,
     }
 }
 
 impl Pending {
-    fn with_type(mut self, kind: u32, x: Span) -> Pending
-        ensures { result ≡ typed_of self kind x }
-    {
-        self.typed = x;
-        self.kind = kind;
-        self
-    }
-
-    fn with_range(mut self, x: Span) -> Pending
-        ensures { result ≡ ranged_of self x }
-    {
-        self.range = x;
-        self
-    }
-
     // Until they are read, the cardinality and the tag stand at the name.
-    fn with_name(mut self, given: u32, x: Span) -> Pending
-        ensures { result ≡ named_of self given x }
+    fn named(self, ranged: bool, x: Span) -> Pending
+        ensures { hand_of result ≡ named_of (hand_of self) (flag_number ranged) x }
     {
-        self.name = x;
-        self.card = x;
-        self.tag = x;
-        self.ranged = given;
-        self.carded = 0;
-        self.tagged = definition_cells::OWN_NAME;
-        self.plugin = 0;
-        self
+        Pending {
+            name: x,
+            card: x,
+            tag: x,
+            ranged,
+            carded: false,
+            tagged: Tagged::OwnName,
+            plugin: false,
+            ..self
+        }
     }
 
-    // Without a range it stands at the type.
-    fn rangeless(self) -> Pending
-        ensures { result ≡ rangeless_of self }
+    // What an act takes of the token at hand. Without a range it stands at the type.
+    #[tactic(auto, unfolding(crate::specs::Noting::pending_by, classes::specs::Lists::pick))]
+    pub fn read(self, act: Action, token: Token, x: Span) -> Pending
+        ensures { hand_of result ≡ pending_by (hand_of self) (act_number act) (token_number token) x }
     {
-        self.with_range(self.typed)
-    }
-
-    fn with_card(mut self, x: Span) -> Pending
-        ensures { result ≡ carded_of self x }
-    {
-        self.card = x;
-        self.carded = definition_cells::GIVEN;
-        self
-    }
-
-    fn with_tag(mut self, x: Span) -> Pending
-        ensures { result ≡ tagged_of self x }
-    {
-        self.tag = x;
-        self.tagged = definition_cells::EXPLICIT;
-        self
-    }
-
-    fn untagged(mut self) -> Pending
-        ensures { result ≡ untagged_of self }
-    {
-        self.tagged = definition_cells::TAGLESS;
-        self
-    }
-
-    fn with_plugin(mut self) -> Pending
-        ensures { result ≡ plugged_of self }
-    {
-        self.plugin = definition_cells::GIVEN;
-        self
-    }
-
-    pub fn read(self, a: u32, kind: u32, x: Span) -> Pending
-        ensures { result ≡ pending_by self a kind x }
-    {
-        match a {
-            TAKE_TYPE => self.with_type(kind, x),
-            TAKE_RANGE => self.with_range(x),
-            TAKE_NAME => self.rangeless().with_name(0, x),
-            TAKE_CARD => self.with_card(x),
-            TAKE_TAG => self.with_tag(x),
-            TAKE_NO_TAG => self.untagged(),
-            TAKE_PLUGIN => self.with_plugin(),
-            TAKE_NAME_AFTER_RANGE => self.with_name(definition_cells::GIVEN, x),
+        match act {
+            Action::TakeType => Pending {
+                typed: x,
+                kind: token,
+                ..self
+            },
+            Action::TakeRange => Pending { range: x, ..self },
+            Action::TakeName => Pending {
+                range: self.typed,
+                ..self
+            }
+            .named(false, x),
+            Action::TakeNameAfterRange => self.named(true, x),
+            Action::TakeCard => Pending {
+                card: x,
+                carded: true,
+                ..self
+            },
+            Action::TakeTag => Pending {
+                tag: x,
+                tagged: Tagged::Explicit,
+                ..self
+            },
+            Action::TakeNoTag => Pending {
+                tagged: Tagged::Tagless,
+                ..self
+            },
+            Action::TakePlugin => Pending {
+                plugin: true,
+                ..self
+            },
             _ => self,
         }
+    }
+
+    // Its numbers, in the order of the cells.
+    fn numbers(self, extension: bool, parent: u32) -> [u32; definition_cells::WIDTH]
+        ensures { result ≡ cells_of (hand_of self) (flag_number extension) parent }
+    {
+        [
+            self.typed.start,
+            self.typed.end,
+            self.range.start,
+            self.range.end,
+            self.name.start,
+            self.name.end,
+            self.card.start,
+            self.card.end,
+            self.tag.start,
+            self.tag.end,
+            u32::from(self.ranged),
+            u32::from(self.carded),
+            self.tagged as u32,
+            u32::from(self.plugin),
+            u32::from(extension),
+            parent,
+        ]
     }
 }
 
 // ---- notes
 
-// Four numbers from a place on.
-fn put_four(cells: &mut [u32], j: usize, a: u32, b: u32, c: u32, d: u32)
-    requires { j < 1048582 }
-    ensures { cells.new ≡ sets cells.old j (a ∷ b ∷ c ∷ d ∷ []) }
+// Numbers from a place on; nothing is stored past the end.
+#[tactic(auto, using(crate::proofs::CellLaws::sets_more))]
+fn put(cells: &mut [u32], at: usize, row: &[u32])
+    requires { at + length row.now ≤ cell_width * parameter_limit }
+    ensures { cells.new ≡ sets cells.old at row.now }
 {
-    numbers::set_cell(cells, j, a);
-    numbers::set_cell(cells, j + 1, b);
-    numbers::set_cell(cells, j + 2, c);
-    numbers::set_cell(cells, j + 3, d);
-}
-
-// The runs but for the tag's, as they stand among a declaration's numbers.
-fn put_runs(cells: &mut [u32], j: usize, p: Pending)
-    requires { j < 1048576 }
-    ensures { cells.new ≡ sets cells.old j (run_cells p) }
-{
-    put_four(
-        cells,
-        j,
-        p.typed.start,
-        p.typed.end,
-        p.range.start,
-        p.range.end,
-    );
-    put_four(
-        cells,
-        j + definition_cells::NAME,
-        p.name.start,
-        p.name.end,
-        p.card.start,
-        p.card.end,
-    );
-}
-
-// The numbers from the tag's on.
-fn put_rest(cells: &mut [u32], j: usize, p: Pending, extension: u32, parent: u32)
-    requires { j < 1048577 }
-    ensures { cells.new ≡ sets cells.old j (rest_cells p extension parent) }
-{
-    put_four(cells, j, p.tag.start, p.tag.end, p.ranged, p.carded);
-    put_four(cells, j + 4, p.tagged, p.plugin, extension, parent);
-}
-
-// The numbers of declaration i.
-fn put_cells(cells: &mut [u32], i: usize, p: Pending, extension: u32, parent: u32)
-    requires { i < parameter_limit }
-    ensures { cells.new ≡ sets cells.old (cell_width * i) (cells_of p extension parent) }
-{
-    let j = definition_cells::WIDTH * i;
-    put_runs(cells, j, p);
-    put_rest(cells, j + definition_cells::TAG, p, extension, parent);
-}
-
-fn is_extension(context: u32) -> u32
-    ensures { result ≡ extension_flag context }
-{
-    if context == OPENED_CONTEXT {
-        return definition_cells::GIVEN;
+    for (i, x) in row.iter().enumerate() {
+        numbers::set(cells, at + i, *x);
     }
-    if context == GROUP_CONTEXT {
-        return definition_cells::GIVEN;
-    }
-    0
 }
 
-fn is_note(a: u32) -> bool
-    ensures { result ≡ notes a }
+// Whether a declaration in a context stands in an extension.
+#[tactic(auto, unfolding(crate::specs::States::extension_flag, classes::specs::Lists::pick))]
+fn is_extension(context: Option<Part>) -> bool
+    ensures { flag_number result ≡ extension_flag (context_number_of context) }
 {
-    if a == END_HEADING {
-        return true;
-    }
-    a == OPEN_BODY
+    matches!(context, Some(Part::Opened | Part::Group))
 }
 
 // Notes a declaration where its heading ends, one of the first 256.
-pub fn note(st: State, p: Pending, a: u32, cells: &mut [u32])
-    ensures { cells.new ≡ note_cells st p a cells.old }
+#[tactic(auto, unfolding(crate::specs::Noting::note_cells, classes::specs::Lists::pick))]
+pub fn note(st: State, p: Pending, act: Action, cells: &mut [u32])
+    ensures { cells.new ≡ note_cells (stand_of st) (hand_of p) (act_number act) cells.old }
 {
-    let c = st.count;
-    if is_note(a) {
-        if c < numbers::PARAMETER_LIMIT {
-            put_cells(cells, c, p, is_extension(st.context()), st.parent());
-        }
+    if act.notes() && st.count < numbers::PARAMETER_LIMIT {
+        let row = p.numbers(is_extension(st.context()), st.parent());
+        put(cells, definition_cells::WIDTH * st.count, &row);
     }
 }

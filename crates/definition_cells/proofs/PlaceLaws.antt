@@ -1,6 +1,7 @@
 -- The least place: of a join, of a list built place by place, of a loop's rest. Assumes nothing.
 use mathlib.Core.Path.{◌≡◌, refl, sym, ap, ◌∙◌}
 use mathlib.Core.Bool.{Bool, true, false, ◌||◌}
+use Rattle.std.specs.Prelude.{Option, Some, None}
 use mathlib.Core.List.{List, [], ◌∷◌, ◌++◌}
 use Prim.Native.Nat.{ℕ, zero, suc, ◌+◌, ◌-◌, ◌<◌, ◌≤◌, min}
 use native.Mathlib.Numerals.{add-one}
@@ -12,59 +13,49 @@ use Rattle.definition_rules.specs.Faults.{spots_where}
 use Rattle.definition_rules.specs.Compile.{least_of}
 use Rattle.definition_cells.specs.Cells.{noted_at, noted_from}
 use Rattle.definition_cells.specs.Places.{least_place, lesser, at_if, least_from, spot_of}
-use Rattle.definition_cells.specs.declared.Place.{Place}
-use Rattle.definition_cells.specs.declared.Place.TheVariants.{Nowhere, At}
 
 -- ---- the lesser of two
 
-pub lesser_none : (x : Place) → lesser x Nowhere ≡ x
+pub lesser_none : (x : Option ℕ) → lesser x None ≡ x
 unfolding lesser
-lesser_none Nowhere = refl
-lesser_none (At p) = refl
+lesser_none None = refl
+lesser_none (Some p) = refl
 
-pub lesser_assoc : (x y z : Place) → lesser (lesser x y) z ≡ lesser x (lesser y z)
+pub lesser_assoc : (x y z : Option ℕ) → lesser (lesser x y) z ≡ lesser x (lesser y z)
 unfolding lesser
-lesser_assoc Nowhere y z = refl
-lesser_assoc (At p) Nowhere z = refl
-lesser_assoc (At p) (At q) Nowhere = refl
-lesser_assoc (At p) (At q) (At r) = ap At (omega arith)
+lesser_assoc None y z = refl
+lesser_assoc (Some p) None z = refl
+lesser_assoc (Some p) (Some q) None = refl
+lesser_assoc (Some p) (Some q) (Some r) = ap Some (omega arith)
 
-pub lesser_comm : (x y : Place) → lesser x y ≡ lesser y x
+pub lesser_comm : (x y : Option ℕ) → lesser x y ≡ lesser y x
 unfolding lesser
-lesser_comm Nowhere y = sym (lesser_none y)
-lesser_comm (At p) Nowhere = refl
-lesser_comm (At p) (At q) = ap At (omega arith)
+lesser_comm None y = sym (lesser_none y)
+lesser_comm (Some p) None = refl
+lesser_comm (Some p) (Some q) = ap Some (omega arith)
 
 -- two pairs, taken crosswise
-pub lesser_cross : (a b x y : Place) → lesser (lesser a x) (lesser b y) ≡ lesser (lesser a b) (lesser x y)
+pub lesser_cross : (a b x y : Option ℕ) → lesser (lesser a x) (lesser b y) ≡ lesser (lesser a b) (lesser x y)
 lesser_cross a b x y =
     lesser_assoc a x (lesser b y)
     ∙ (ap (lesser a) (sym (lesser_assoc x b y) ∙ (ap (λ z. lesser z y) (lesser_comm x b) ∙ lesser_assoc b x y))
     ∙ sym (lesser_assoc a b (lesser x y)))
 
-pub lesser_left : (p q : ℕ) → p ≤ q → At p ≡ lesser (At p) (At q)
-unfolding lesser
-lesser_left p q h = ap At (omega arith)
-
-pub lesser_right : (p q : ℕ) → q < p → At q ≡ lesser (At p) (At q)
-unfolding lesser
-lesser_right p q h = ap At (omega arith)
-
 -- two faults at one place
 pub lesser_same : (a b : Bool) (p : ℕ) → lesser (at_if a p) (at_if b p) ≡ at_if (a || b) p
 unfolding lesser pick
-lesser_same true true p = ap At (omega arith)
+lesser_same true true p = ap Some (omega arith)
 lesser_same true false p = refl
 lesser_same false b p = refl
 
 -- ---- the least of a list
 
-least_of_lem : (p : ℕ) (r : List ℕ) → At (least_of p r) ≡ lesser (At p) (least_place r)
+least_of_lem : (p : ℕ) (r : List ℕ) → Some (least_of p r) ≡ lesser (Some p) (least_place r)
 unfolding least_of least_place lesser
 least_of_lem p [] = refl
-least_of_lem p (q ∷ r) = least_of_lem (min p q) r ∙ (lesser_assoc (At p) (At q) (least_place r) ∙ ap (lesser (At p)) (sym (least_of_lem q r)))
+least_of_lem p (q ∷ r) = least_of_lem (min p q) r ∙ (lesser_assoc (Some p) (Some q) (least_place r) ∙ ap (lesser (Some p)) (sym (least_of_lem q r)))
 
-pub least_cons : (p : ℕ) (r : List ℕ) → least_place (p ∷ r) ≡ lesser (At p) (least_place r)
+pub least_cons : (p : ℕ) (r : List ℕ) → least_place (p ∷ r) ≡ lesser (Some p) (least_place r)
 unfolding least_place
 least_cons p r = least_of_lem p r
 
@@ -79,11 +70,11 @@ least_append [] y = refl
 least_append (p ∷ x) y =
     least_of_lem p (x ++ y)
     ∙ (rw (least_append x y)
-    (sym (lesser_assoc (At p) (least_place x) (least_place y)) ∙ ap (λ z. lesser z (least_place y)) (sym (least_of_lem p x))))
+    (sym (lesser_assoc (Some p) (least_place x) (least_place y)) ∙ ap (λ z. lesser z (least_place y)) (sym (least_of_lem p x))))
 
 -- ---- the least of a row
 
-module _ (f g : ℕ → Place) where
+module _ (f g : ℕ → Option ℕ) where
   pub from_both : (n i : ℕ) → lesser (least_from f n i) (least_from g n i) ≡ least_from (λ j. lesser (f j) (g j)) n i
   unfolding least_from lesser
   from_both zero i = refl
@@ -105,7 +96,7 @@ spots_from f at t cs (suc n) i = one (noted_at t cs i) ∙ ap (lesser (spot_of f
 
 -- ---- a loop over a row: best is the least so far
 
-module _ (f : ℕ → Place) (n i : ℕ) (all best x : Place) (inv : all ≡ lesser best (least_from f (n - i) i)) where
+module _ (f : ℕ → Option ℕ) (n i : ℕ) (all best x : Option ℕ) (inv : all ≡ lesser best (least_from f (n - i) i)) where
   pub loop_more : i < n → x ≡ f i → all ≡ lesser (lesser best x) (least_from f (n - (i + 1)) (i + 1))
   unfolding least_from
   loop_more h e =
@@ -116,12 +107,12 @@ module _ (f : ℕ → Place) (n i : ℕ) (all best x : Place) (inv : all ≡ les
   unfolding least_from
   loop_end h = let p : n - i ≡ 0 = omega arith in sym (inv ∙ rw p (lesser_none best))
 
-pub loop_start : (f : ℕ → Place) (n : ℕ) → least_from f n 0 ≡ lesser Nowhere (least_from f (n - 0) 0)
+pub loop_start : (f : ℕ → Option ℕ) (n : ℕ) → least_from f n 0 ≡ lesser None (least_from f (n - 0) 0)
 unfolding lesser
 loop_start f n = let p : n - 0 ≡ n = omega arith in rw p
 
 -- no place, no fault
-pub least_none : (l : List ℕ) → least_place l ≡ Nowhere → l ≡ []
+pub least_none : (l : List ℕ) → least_place l ≡ None → l ≡ []
 unfolding least_place
 least_none [] e = refl
 least_none (p ∷ l) e = let z : ◌≡◌ {A = ℕ} 0 1 = cc in absurd (omega arith)

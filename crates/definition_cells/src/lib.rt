@@ -1,9 +1,9 @@
 // The declarations of a definition, kept as numbers in a lent row; the layout is in specs/Cells.
 #![tactic(auto)]
 
-ghost use Rattle.std.specs.Prelude.{◌≡◌};
+ghost use Rattle.std.specs.Prelude.{◌≡◌, ℕ, Option, ◌<◌};
 ghost use Rattle.definition_cells.specs.Cells.{cell_at, run_at};
-ghost use Rattle.definition_cells.specs.Places.{at_if, lesser as lesser_of};
+ghost use Rattle.definition_cells.specs.Places.{at_if, lesser, least_from};
 
 // How many numbers a declaration has, and all declarations.
 pub const WIDTH: usize = 16;
@@ -34,81 +34,72 @@ pub const EXTENDED: usize = 14;
 
 pub const PARENT: usize = 15;
 
-// What these hold: given or true; its own name as tag, no tag, a tag of its own; no parent.
+// They are numbers and no enums, since a declaration is kept in a lent row of numbers: the library has no heap (`noted_at`).
+// What these hold: given or true; its own name as tag, no tag, else a tag of its own; no parent.
 pub const GIVEN: u32 = 1;
 
 pub const OWN_NAME: u32 = 0;
 
 pub const TAGLESS: u32 = 1;
 
-pub const EXPLICIT: u32 = 2;
-
 pub const NO_PARENT: u32 = numbers::NONE16 as u32;
 
-// The k-th number of declaration i, 0 past the end.
-pub fn cell(cells: &[u32], i: usize, k: usize) -> u32
-    ensures { result ≡ cell_at cells.now i k }
-{
-    let len = cells.len();
-    if len / WIDTH < i {
-        return 0;
-    }
-    if len <= k {
-        return 0;
-    }
-    let at = WIDTH * i + k;
-    if at < len {
-        return cells[at];
-    }
-    0
+// The declarations noted of a text: the text, the row of their numbers, and how many they are.
+#[derive(Clone, Copy)]
+pub struct Declarations<'a> {
+    pub text: &'a [u8],
+    pub cells: &'a [u32],
+    pub count: usize,
 }
 
-// The run of declaration i whose start is its k-th number.
-pub fn run<'a>(text: &'a [u8], cells: &[u32], i: usize, k: usize) -> &'a [u8]
-    ensures { result.now ≡ run_at text.now cells.now i k }
-{
-    if cells.len() <= k {
-        return &text[0..0];
+impl<'a> Declarations<'a> {
+    // The k-th number of declaration i, 0 past the end.
+    pub fn cell(&self, i: usize, k: usize) -> u32
+        ensures { result ≡ cell_at self.now.cells.now i k }
+    {
+        numbers::get_or(self.cells, i.saturating_mul(WIDTH).saturating_add(k), 0)
     }
-    let a = cell(cells, i, k) as usize;
-    let e = cell(cells, i, k + 1) as usize;
-    classes::part(text, a, e)
+
+    // The run of declaration i whose start is its k-th number.
+    #[tactic(auto, unfolding(crate::specs::Cells::run_at))]
+    pub fn run(&self, i: usize, k: usize) -> &'a [u8]
+        ensures { result.now ≡ run_at self.now.text.now self.now.cells.now i k }
+    {
+        let start = self.cell(i, k) as usize;
+        let end = self.cell(i, k.saturating_add(1)) as usize;
+        classes::part(self.text, start, end)
+    }
 }
+
+// ---- places of faults
 
 // The place of a fault, if there is one.
-#[derive(Clone, Copy)]
-pub enum Place {
-    Nowhere,
-    At(usize),
-}
-
-pub fn at_if(hit: bool, at: u32) -> Place
+#[tactic(auto, unfolding(classes::specs::Lists::pick))]
+pub fn at_if(hit: bool, at: u32) -> Option<usize>
     ensures { result ≡ at_if hit at }
 {
-    if hit {
-        return Place::At(at as usize);
-    }
-    Place::Nowhere
+    hit.then_some(at as usize)
 }
 
 // The lesser of two places.
-pub fn lesser(a: Place, b: Place) -> Place
-    ensures { result ≡ lesser_of a b }
+#[tactic(auto, unfolding(crate::specs::Places::lesser))]
+pub fn lesser(a: Option<usize>, b: Option<usize>) -> Option<usize>
+    ensures { result ≡ lesser a b }
 {
-    match a {
-        Place::Nowhere => b,
-        Place::At(p) => match b {
-            Place::Nowhere => Place::At(p),
-            Place::At(q) => lesser_of_two(p, q),
-        },
+    match (a, b) {
+        (Some(p), Some(q)) => Some(p.min(q)),
+        _ => a.or(b),
     }
 }
 
-fn lesser_of_two(p: usize, q: usize) -> Place
-    ensures { result ≡ lesser_of (Place.At p) (Place.At q) }
+// The least of the places that a test finds among the first count declarations.
+pub fn least_fault<F: Fn(usize) -> Option<usize>>(count: usize, fault: F) -> Option<usize>
+    requires { (i : ℕ) → i < count → F.pre fault i }
+    ensures { (f : ℕ → Option ℕ) → ((i : ℕ) (place : Option ℕ) → i < count → F.post fault i place → place ≡ f i) → result ≡ least_from f count 0 }
 {
-    if p <= q {
-        return Place::At(p);
+    let mut least = None;
+    for i in 0..count {
+        least = lesser(least, fault(i));
     }
-    Place::At(q)
+    least
 }

@@ -1,60 +1,34 @@
 -- The checks over plain lists: one declaration, then all. Assumes nothing.
-use mathlib.Core.Path.{◌≡◌, refl, sym, ap, ◌∙◌}
+use Rattle.std.specs.Prelude.{Option, MatchBool}
+use Rattle.std.specs.List.{range_with_len, HoldsAt, AllWithin}
+use Rattle.std.proofs.lemmas.List.FromFn.{get_or-range_with_len, length-range_with_len}
+use mathlib.Core.Path.{◌≡◌, refl, sym, ap, subst, ◌∙◌}
 use mathlib.Core.Bool.{Bool, true, false, not, ◌&&◌, ◌||◌}
 use mathlib.Core.List.{List, [], ◌∷◌, ◌++◌}
 use Prim.Native.Nat.{ℕ, zero, suc, ◌+◌, ◌-◌, ◌<◌, ◌≤◌}
 use native.Mathlib.Nat.{zero-add, add-zero}
 use native.Mathlib.Omega.{arith}
 use lib.Dec.{eqb, ltb}
+use lib.ListN.{length, get_or}
 use borrow.Author.Tests.{eq-eqb, ne_eqb, eqb-true, eqb-false, ltb-true, ltb-false, lt-ltb, le-ltb}
-use Rattle.classes.specs.Lists.{pick, same_bytes}
+use Rattle.classes.specs.Lists.{pick}
 use Rattle.numbers.specs.Limits.{none16}
-use Rattle.numbers.specs.Range.{MaybeRange, high_of}
+use Rattle.numbers.specs.Range.{high_of}
 use Rattle.reading_rules.specs.Record.{top, under, same_up}
-use Rattle.definition_rules.specs.Words.{kind_of_run, is_reference, name_form, tag_form}
+use Rattle.definition_rules.specs.Words.{is_reference}
 use Rattle.definition_rules.specs.Scan.{place_if}
 use Rattle.definition_rules.specs.Forms.{MaybeRun, absent, given}
 use Rattle.definition_rules.specs.Declarations.{Declaration, Spots, Noted, noted, declarations_of}
-use Rattle.definition_rules.specs.Records.{top_names, record_for, records_for, records_of}
+use Rattle.definition_rules.specs.Records.{record_for, records_for, records_of, find_top, or_none, target_of}
 use Rattle.definition_rules.specs.Table.{number_up}
-use Rattle.definition_rules.specs.Faults.{spots_where, record_spots, name_broken, reference_broken, tag_broken, tag_broken_in, range_broken, count_broken, count_fine, within_kind, kind_of_declaration, kinds_of, is_union_at, is_alternative, is_given, count_on_alternative, void_many, same_key, is_new_key, name_key, repeated_names, dangling, faults5, faults6}
-use Rattle.definition_cells.specs.declared.Place.{Place}
-use Rattle.definition_cells.specs.declared.Place.TheVariants.{Nowhere}
+use Rattle.definition_rules.specs.Faults.{spots_where, record_spots, name_broken, reference_broken, tag_broken, range_broken, count_broken, count_fine, kind_of_declaration, kinds_of, is_union_at, is_alternative, is_given, count_on_alternative, void_many, same_key, is_new_key, name_key, repeated_names, dangling, faults5, faults6}
 use Rattle.definition_cells.specs.Cells.{cell_at, run_at, tag_at, maybe_run_at, noted_at, noted_from}
 use Rattle.definition_cells.specs.Places.{least_place, lesser, at_if, least_from, spot_of}
 use Rattle.definition_cells.proofs.PlaceLaws.{lesser_same, least_if, least_append, from_both, from_same, spots_from}
-use Rattle.definition_headings.specs.Heads.{declared_kind, limits_at, counts_at, names_from, top_at}
-use Rattle.definition_checks.specs.Checks.{form_fault, on_alternative, card_broken, range_fault, key_at, keys_below, same_key_at, repeat_fault, dangling_fault, declaration_fault}
+use Rattle.definition_headings.specs.Heads.{declared_kind, counts_at, names_from, target_at}
+use Rattle.definition_checks.specs.Checks.{form_fault, on_alternative, card_broken, range_fault, key_at, keys_below, same_key_at, repeat_fault, dangling_fault}
 
 -- ---- 5
-
-module _ (t cs : List ℕ) (i p : ℕ) where
-  pub name_form_lem : (r : Place) (b : Bool) (s : List ℕ) → s ≡ run_at t cs i 4 → b ≡ name_form s → p ≡ cell_at cs i 4 → r ≡ at_if (not b) p → r ≡ spot_of name_broken (λ s. s.name_at) (noted_at t cs i)
-  unfolding spot_of name_broken noted_at
-  name_form_lem r b s es eb ep er = er ∙ rw (ep, eb, es)
-
-  pub reference_form : (r : Place) (b : Bool) (s : List ℕ) (k : ℕ) → s ≡ run_at t cs i 0 → k ≡ kind_of_run s → k ≡ 10 → b ≡ name_form s → p ≡ cell_at cs i 0 → r ≡ at_if (not b) p
-      → r ≡ spot_of reference_broken (λ s. s.type_at) (noted_at t cs i)
-  unfolding spot_of reference_broken noted_at is_reference
-  reference_form r b s k es ek h eb ep er = er ∙ rw (ep, eb, es, eq-eqb (kind_of_run (run_at t cs i 0)) 10 (sym (ek ∙ ap kind_of_run es) ∙ h))
-
-  pub tag_form_lem : (r : Place) (b : Bool) (s : List ℕ) (k : ℕ) → k ≡ cell_at cs i 12 → (k ≡ 0 → ⊥) → (k ≡ 1 → ⊥) → s ≡ run_at t cs i 8 → b ≡ tag_form s → p ≡ cell_at cs i 8 → r ≡ at_if (not b) p
-      → r ≡ spot_of tag_broken (λ s. s.tag_at) (noted_at t cs i)
-  unfolding spot_of tag_broken tag_broken_in noted_at tag_at pick
-  tag_form_lem r b s k ek g h es eb ep er = er ∙ rw (ep, eb, es, ne_eqb (cell_at cs i 12) 0 (λ q. g (ek ∙ q)), ne_eqb (cell_at cs i 12) 1 (λ q. h (ek ∙ q)))
-
-module _ (t cs : List ℕ) (i k : ℕ) where
-  pub no_reference : (s : List ℕ) → s ≡ run_at t cs i 0 → k ≡ kind_of_run s → (k ≡ 10 → ⊥) → Nowhere ≡ spot_of reference_broken (λ s. s.type_at) (noted_at t cs i)
-  unfolding spot_of reference_broken noted_at is_reference pick
-  no_reference s es ek h = rw (ne_eqb (kind_of_run (run_at t cs i 0)) 10 (λ q. h (ek ∙ (ap kind_of_run es ∙ q))))
-
-  pub tag_own : k ≡ cell_at cs i 12 → k ≡ 0 → Nowhere ≡ spot_of tag_broken (λ s. s.tag_at) (noted_at t cs i)
-  unfolding spot_of tag_broken tag_broken_in noted_at tag_at pick
-  tag_own ek h = rw (eq-eqb (cell_at cs i 12) 0 (sym ek ∙ h))
-
-  pub tag_none : k ≡ cell_at cs i 12 → (k ≡ 0 → ⊥) → k ≡ 1 → Nowhere ≡ spot_of tag_broken (λ s. s.tag_at) (noted_at t cs i)
-  unfolding spot_of tag_broken tag_broken_in noted_at tag_at pick
-  tag_none ek g h = rw (ne_eqb (cell_at cs i 12) 0 (λ q. g (ek ∙ q)), eq-eqb (cell_at cs i 12) 1 (sym ek ∙ h))
 
 pub form_all : (t cs : List ℕ) (n : ℕ) → least_place (faults5 (noted_from t cs n 0)) ≡ least_from (form_fault t cs) n 0
 unfolding form_fault
@@ -72,16 +46,20 @@ form_all t cs n =
     C : List ℕ
     C = spots_where tag_broken (λ s. s.tag_at) (noted_from t cs n 0)
 
-    f : ℕ → Place
+    f : ℕ → Option ℕ
     f j = spot_of name_broken (λ s. s.name_at) (noted_at t cs j)
 
-    g : ℕ → Place
+    g : ℕ → Option ℕ
     g j = spot_of reference_broken (λ s. s.type_at) (noted_at t cs j)
 
-    h : ℕ → Place
+    h : ℕ → Option ℕ
     h j = spot_of tag_broken (λ s. s.tag_at) (noted_at t cs j)
 
 -- ---- 8
+
+and_no : (b : Bool) → (b && false) ≡ false
+and_no true = refl
+and_no false = refl
 
 -- two parents as numbers
 up_same : (x y : ℕ) → same_up (number_up x) (number_up y) ≡ eqb x y
@@ -98,31 +76,37 @@ pub key_same : (t cs : List ℕ) (i j : ℕ) → same_key (key_at t cs i) (key_a
 unfolding same_key
 key_same t cs i j = rw (up_same (cell_at cs i 15) (cell_at cs j 15))
 
-module _ (t cs : List ℕ) (i j a b : ℕ) (ea : a ≡ cell_at cs i 15) (eb : b ≡ cell_at cs j 15) where
-  pub key_is : (x y : List ℕ) (r : Bool) → a ≡ b → x ≡ run_at t cs i 4 → y ≡ run_at t cs j 4 → r ≡ same_bytes x y → r ≡ same_key_at t cs i j
-  key_is x y r h ex ey er = rw (eq-eqb (cell_at cs i 15) (cell_at cs j 15) (sym ea ∙ (h ∙ eb))) (er ∙ rw (ex, ey))
-
-  pub key_not : (a ≡ b → ⊥) → false ≡ same_key_at t cs i j
-  key_not h = rw (ne_eqb (cell_at cs i 15) (cell_at cs j 15) (λ q. h (ea ∙ (q ∙ sym eb))))
-
-module _ (t cs : List ℕ) (i j : ℕ) where
-  below : 0 < j → is_new_key (key_at t cs i) (keys_below t cs j) ≡ (not (same_key_at t cs i (j - 1)) && is_new_key (key_at t cs i) (keys_below t cs (j - 1)))
+module _ (t cs : List ℕ) (i : ℕ) where
+  -- the keys below with one more
+  below : (j : ℕ) → is_new_key (key_at t cs i) (keys_below t cs (suc j)) ≡ (not (same_key_at t cs i j) && is_new_key (key_at t cs i) (keys_below t cs j))
   unfolding keys_below is_new_key
-  below h = let p : j ≡ suc (j - 1) = omega arith in ap (λ x. is_new_key (key_at t cs i) (keys_below t cs x)) p ∙ rw (key_same t cs i (j - 1))
+  below j = rw (key_same t cs i j)
 
-  pub below_same : 0 < j → same_key_at t cs i (j - 1) ≡ true → not (is_new_key (key_at t cs i) (keys_below t cs j)) ≡ true
-  below_same h e = ap not (below h) ∙ rw e
+  pub old_key : (j k : ℕ) → k < j → same_key_at t cs i k ≡ true → is_new_key (key_at t cs i) (keys_below t cs j) ≡ false
+  old_key zero k h e = absurd (omega arith)
+  old_key (suc j) k h e = by (eqb k j) refl (λ l. old_key j k l e)
+    where
+      by : (b : Bool) → eqb k j ≡ b → (k < j → is_new_key (key_at t cs i) (keys_below t cs j) ≡ false) → is_new_key (key_at t cs i) (keys_below t cs (suc j)) ≡ false
+      by true q f = below j ∙ rw (← eqb-true k j q, e)
+      by false q f = below j ∙ rw (f (omega (arith, eqb-false k j q))) (and_no (not (same_key_at t cs i j)))
 
-  pub below_other : 0 < j → same_key_at t cs i (j - 1) ≡ false → not (is_new_key (key_at t cs i) (keys_below t cs j)) ≡ not (is_new_key (key_at t cs i) (keys_below t cs (j - 1)))
-  below_other h e = ap not (below h) ∙ rw e
-
-  pub below_end : j ≤ 0 → not (is_new_key (key_at t cs i) (keys_below t cs j)) ≡ false
+  pub new_key : (j : ℕ) → ((k : ℕ) → k < j → same_key_at t cs i k ≡ false) → is_new_key (key_at t cs i) (keys_below t cs j) ≡ true
   unfolding keys_below is_new_key
-  below_end h = let p : j ≡ 0 = omega arith in rw p
+  new_key zero a = refl
+  new_key (suc j) a = below j ∙ rw (a j (omega arith), new_key j (λ k h. a k (omega arith)))
 
-pub repeat_is : (t cs : List ℕ) (i p : ℕ) (b : Bool) (r : Place) → b ≡ not (is_new_key (key_at t cs i) (keys_below t cs i)) → p ≡ cell_at cs i 4 → r ≡ at_if b p → r ≡ repeat_fault t cs i
-unfolding repeat_fault
-repeat_is t cs i p b r eb ep er = er ∙ rw (eb, ep)
+  -- what a search among the declarations below answers
+  at_place : (k : ℕ) → k < i → get_or (range_with_len 0 i) k 0 ≡ k
+  at_place k h = get_or-range_with_len 0 i k 0 h ∙ zero-add k
+
+  pub is_old : (r : Bool)
+      → MatchBool r ((k : ℕ) × (k < length (range_with_len 0 i)) × HoldsAt (λ j. same_key_at t cs i j ≡ true) (range_with_len 0 i) k) (AllWithin (λ j. same_key_at t cs i j ≡ false) (range_with_len 0 i) 0 (length (range_with_len 0 i)))
+      → r ≡ not (is_new_key (key_at t cs i) (keys_below t cs i))
+  is_old true m =
+      let h : m.0 < i = omega (arith, m.1, length-range_with_len 0 i) in
+      sym (ap not (old_key i m.0 h (subst (λ (x : ℕ). same_key_at t cs i x ≡ true) (at_place m.0 h) (m.2 0))))
+  is_old false m =
+      sym (ap not (new_key i (λ k h. subst (λ (x : ℕ). same_key_at t cs i x ≡ false) (at_place k h) (m k 0 (omega arith) (omega (arith, length-range_with_len 0 i))))))
 
 repeat_from : (t cs : List ℕ) (n i : ℕ) → least_place (repeated_names (keys_below t cs i) (noted_from t cs n i)) ≡ least_from (repeat_fault t cs) n i
 unfolding repeated_names noted_from least_place least_from
@@ -138,52 +122,21 @@ repeat_all t cs n = repeat_from t cs n 0
 
 -- ---- 9
 
-module _ (t cs : List ℕ) (n i k : ℕ) (s : List ℕ) (es : s ≡ run_at t cs i 0) (ek : k ≡ kind_of_run s) where
-  pub dangling_is : (r : Place) (p x : ℕ) → k ≡ 10 → x ≡ top_at t cs n s → p ≡ cell_at cs i 0 → r ≡ at_if (eqb x 65535) p → r ≡ dangling_fault t cs n i
-  unfolding dangling_fault spot_of dangling noted_at is_reference
-  dangling_is r p x h ex ep er = er ∙ rw (ep, ex, es, eq-eqb (kind_of_run (run_at t cs i 0)) 10 (sym (ek ∙ ap kind_of_run es) ∙ h))
+-- lost where it is a reference and its target is none
+lost : (b : Bool) (x : ℕ) → (b && eqb (pick b x none16) none16) ≡ (b && eqb x none16)
+unfolding pick
+lost true x = refl
+lost false x = refl
 
-  pub dangling_not : (k ≡ 10 → ⊥) → Nowhere ≡ dangling_fault t cs n i
-  unfolding dangling_fault spot_of dangling noted_at is_reference pick
-  dangling_not h = rw (ne_eqb (kind_of_run (run_at t cs i 0)) 10 (λ q. h (ek ∙ (ap kind_of_run es ∙ q))))
+pub dangling_is : (t cs : List ℕ) (n i k x p : ℕ) (r : Option ℕ) → k ≡ declared_kind t cs i → x ≡ target_at t cs n i → p ≡ cell_at cs i 0 → r ≡ at_if (eqb k 10 && eqb x none16) p → r ≡ dangling_fault t cs n i
+unfolding dangling_fault spot_of dangling noted_at is_reference target_of
+dangling_is t cs n i k x p r ek ex ep er = er ∙ rw (ep, ex, ek) (ap (λ b. at_if b (cell_at cs i 0)) (lost (eqb (declared_kind t cs i) 10) (or_none (find_top (names_from t cs n 0) 0 (run_at t cs i 0)))))
 
 pub dangling_all : (t cs : List ℕ) (n : ℕ) → least_place (spots_where (dangling (names_from t cs n 0)) (λ s. s.type_at) (noted_from t cs n 0)) ≡ least_from (dangling_fault t cs n) n 0
 unfolding dangling_fault
 dangling_all t cs n = spots_from (dangling (names_from t cs n 0)) (λ s. s.type_at) t cs n 0
 
 -- ---- 6
-
-pub limits_is : (t cs : List ℕ) (i k p : ℕ) (b : Bool) (x : MaybeRange) (r : Place) → k ≡ declared_kind t cs i → x ≡ limits_at t cs i → b ≡ within_kind k x → p ≡ cell_at cs i 2 → r ≡ at_if (not b) p
-    → r ≡ spot_of range_broken (λ s. s.range_at) (noted_at t cs i)
-unfolding spot_of range_broken noted_at
-limits_is t cs i k p b x r ek ex eb ep er = er ∙ rw (ep, eb, ex, ek)
-
-module _ (t cs : List ℕ) (n i p : ℕ) (ep : p ≡ cell_at cs i 15) where
-  pub alternative_top : p ≡ 65535 → false ≡ on_alternative t cs n i
-  alternative_top h = rw (eq-eqb (cell_at cs i 15) none16 (sym ep ∙ h))
-
-  pub alternative_out : n ≤ p → false ≡ on_alternative t cs n i
-  alternative_out h = rw (le-ltb (cell_at cs i 15) n (omega (arith, ep, h))) (none (not (eqb (cell_at cs i 15) none16)))
-    where
-      none : (b : Bool) → false ≡ (b && false && eqb (cell_at cs i 11) 1)
-      none true = refl
-      none false = refl
-
-  module _ (k : ℕ) (h : p ≡ 65535 → ⊥) (l : p < n) (ek : k ≡ declared_kind t cs p) where
-    pub alternative_not : (k ≡ 9 → ⊥) → false ≡ on_alternative t cs n i
-    alternative_not g = rw (← ep, ne_eqb p none16 h, lt-ltb p n l, ne_eqb (declared_kind t cs p) 9 (λ q. g (ek ∙ q)))
-
-    pub alternative_is : (c : ℕ) → (k ≡ 9) → c ≡ cell_at cs i 11 → eqb c 1 ≡ on_alternative t cs n i
-    alternative_is c g ec = rw (← ep, ne_eqb p none16 h, lt-ltb p n l, eq-eqb (declared_kind t cs p) 9 (sym ek ∙ g), ec)
-
-pub card_is : (t cs : List ℕ) (n i k u : ℕ) (x : MaybeRange) (a b : Bool) → x ≡ counts_at t cs i → a ≡ count_fine x → k ≡ declared_kind t cs i → u ≡ high_of x → b ≡ on_alternative t cs n i
-    → (not a || ((eqb k 1 && ltb 1 u) || b)) ≡ card_broken t cs n i
-card_is t cs n i k u x a b ex ea ek eu eb = rw (ea, eb, ek, eu, ex)
-
-pub range_is : (t cs : List ℕ) (n i p : ℕ) (b : Bool) (x y r : Place) → b ≡ card_broken t cs n i → p ≡ cell_at cs i 6 → y ≡ at_if b p → x ≡ spot_of range_broken (λ s. s.range_at) (noted_at t cs i)
-    → r ≡ lesser x y → r ≡ range_fault t cs n i
-unfolding range_fault
-range_is t cs n i p b x y r eb ep ey ex er = er ∙ rw (ex, ey, eb, ep)
 
 suc_ltb : (p n : ℕ) → ltb (suc p) (suc n) ≡ ltb p n
 suc_ltb p n = by (ltb p n) refl
@@ -272,50 +225,14 @@ range_all t cs n =
     spots : (Declaration → Bool) → (Spots → ℕ) → List ℕ
     spots z at = spots_where z at (noted_from t cs n 0)
 
-    f : ℕ → Place
+    f : ℕ → Option ℕ
     f j = spot_of range_broken (λ s. s.range_at) (noted_at t cs j)
 
-    g : ℕ → Place
+    g : ℕ → Option ℕ
     g j = spot_of count_broken (λ s. s.card_at) (noted_at t cs j)
 
-    h : ℕ → Place
+    h : ℕ → Option ℕ
     h j = spot_of (many_in T) (λ s. s.card_at) (noted_at t cs j)
 
-    k : ℕ → Place
+    k : ℕ → Option ℕ
     k j = spot_of (count_on_alternative ks) (λ s. s.card_at) (noted_at t cs j)
-
--- ---- by number
-
-module _ (t cs : List ℕ) (n k i : ℕ) (r : Place) where
-  pub fault_five : k ≡ 5 → r ≡ form_fault t cs i → r ≡ declaration_fault t cs n k i
-  unfolding declaration_fault pick
-  fault_five h e = rw (eq-eqb k 5 h) e
-
-  pub fault_six : (k ≡ 5 → ⊥) → k ≡ 6 → r ≡ range_fault t cs n i → r ≡ declaration_fault t cs n k i
-  unfolding declaration_fault pick
-  fault_six g h e = rw (ne_eqb k 5 g, eq-eqb k 6 h) e
-
-  pub fault_eight : (k ≡ 5 → ⊥) → (k ≡ 6 → ⊥) → k ≡ 8 → r ≡ repeat_fault t cs i → r ≡ declaration_fault t cs n k i
-  unfolding declaration_fault pick
-  fault_eight g f h e = rw (ne_eqb k 5 g, ne_eqb k 6 f, eq-eqb k 8 h) e
-
-  pub fault_nine : (k ≡ 5 → ⊥) → (k ≡ 6 → ⊥) → (k ≡ 8 → ⊥) → r ≡ dangling_fault t cs n i → r ≡ declaration_fault t cs n k i
-  unfolding declaration_fault pick
-  fault_nine g f h e = rw (ne_eqb k 5 g, ne_eqb k 6 f, ne_eqb k 8 h) e
-
-module _ (t cs : List ℕ) (n : ℕ) (r : Place) where
-  pub all_five : r ≡ least_from (declaration_fault t cs n 5) n 0 → r ≡ least_place (faults5 (noted_from t cs n 0))
-  unfolding declaration_fault pick
-  all_five e = e ∙ sym (form_all t cs n)
-
-  pub all_six : r ≡ least_from (declaration_fault t cs n 6) n 0 → r ≡ least_place (faults6 (records_of (declarations_of (noted_from t cs n 0))) (noted_from t cs n 0))
-  unfolding declaration_fault pick
-  all_six e = e ∙ sym (range_all t cs n)
-
-  pub all_eight : r ≡ least_from (declaration_fault t cs n 8) n 0 → r ≡ least_place (repeated_names [] (noted_from t cs n 0))
-  unfolding declaration_fault pick
-  all_eight e = e ∙ sym (repeat_all t cs n)
-
-  pub all_nine : r ≡ least_from (declaration_fault t cs n 9) n 0 → r ≡ least_place (spots_where (dangling (top_names (declarations_of (noted_from t cs n 0)))) (λ s. s.type_at) (noted_from t cs n 0))
-  unfolding declaration_fault pick
-  all_nine e = e ∙ sym (dangling_all t cs n)

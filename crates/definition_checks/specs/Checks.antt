@@ -1,17 +1,16 @@
 -- The faults of one declaration with the numbers 5, 6, 8 (names) and 9 (references), each as a place.
-use Rattle.std.specs.Prelude.{Bool, not, ◌&&◌, ◌||◌, List, [], ◌∷◌, ℕ, zero, suc, eqb, ltb}
-use Rattle.classes.specs.Lists.{pick, same_bytes}
+use Rattle.std.specs.Prelude.{Bool, not, ◌&&◌, ◌||◌, List, [], ◌∷◌, ℕ, zero, suc, eqb, ltb, Option}
+use Rattle.classes.specs.Lists.{same_bytes}
 use Rattle.numbers.specs.Limits.{none16}
 use Rattle.numbers.specs.Range.{high_of}
 use Rattle.definition_rules.specs.Table.{number_up}
 use Rattle.definition_rules.specs.Faults.{name_broken, reference_broken, tag_broken, range_broken, count_fine, dangling, Key, key, is_new_key}
-use Rattle.definition_cells.specs.declared.Place.{Place}
 use Rattle.definition_cells.specs.Cells.{cell_at, run_at, noted_at, name_cell, card_cell, carded_cell, parent_cell}
 use Rattle.definition_cells.specs.Places.{lesser, at_if, spot_of}
 use Rattle.definition_headings.specs.Heads.{declared_kind, counts_at, names_from}
 
 -- 5: name, reference, tag
-unfoldable pub form_fault : List ℕ → List ℕ → ℕ → Place
+unfoldable pub form_fault : List ℕ → List ℕ → ℕ → Option ℕ
 form_fault text cs i =
     lesser (spot_of name_broken (λ s. s.name_at) (noted_at text cs i))
     (lesser (spot_of reference_broken (λ s. s.type_at) (noted_at text cs i)) (spot_of tag_broken (λ s. s.tag_at) (noted_at text cs i)))
@@ -26,7 +25,7 @@ abbrev pub card_broken : List ℕ → List ℕ → ℕ → ℕ → Bool
 card_broken text cs n i =
     not (count_fine (counts_at text cs i)) || ((eqb (declared_kind text cs i) 1 && ltb 1 (high_of (counts_at text cs i))) || on_alternative text cs n i)
 
-unfoldable pub range_fault : List ℕ → List ℕ → ℕ → ℕ → Place
+unfoldable pub range_fault : List ℕ → List ℕ → ℕ → ℕ → Option ℕ
 range_fault text cs n i = lesser (spot_of range_broken (λ s. s.range_at) (noted_at text cs i)) (at_if (card_broken text cs n i) (cell_at cs i card_cell))
 
 -- 8: names
@@ -41,14 +40,9 @@ keys_below text cs (suc i) = key_at text cs i ∷ keys_below text cs i
 abbrev pub same_key_at : List ℕ → List ℕ → ℕ → ℕ → Bool
 same_key_at text cs i j = eqb (cell_at cs i parent_cell) (cell_at cs j parent_cell) && same_bytes (run_at text cs i name_cell) (run_at text cs j name_cell)
 
-unfoldable pub repeat_fault : List ℕ → List ℕ → ℕ → Place
+unfoldable pub repeat_fault : List ℕ → List ℕ → ℕ → Option ℕ
 repeat_fault text cs i = at_if (not (is_new_key (key_at text cs i) (keys_below text cs i))) (cell_at cs i name_cell)
 
 -- 9: references
-unfoldable pub dangling_fault : List ℕ → List ℕ → ℕ → ℕ → Place
+unfoldable pub dangling_fault : List ℕ → List ℕ → ℕ → ℕ → Option ℕ
 dangling_fault text cs n i = spot_of (dangling (names_from text cs n 0)) (λ s. s.type_at) (noted_at text cs i)
-
--- by the refusal's number
-unfoldable pub declaration_fault : List ℕ → List ℕ → ℕ → ℕ → ℕ → Place
-declaration_fault text cs n rule i =
-    pick (eqb rule 5) (form_fault text cs i) (pick (eqb rule 6) (range_fault text cs n i) (pick (eqb rule 8) (repeat_fault text cs i) (dangling_fault text cs n i)))

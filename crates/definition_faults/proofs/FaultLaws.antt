@@ -1,38 +1,17 @@
--- A parameter's fault by the refusal's number, and the faults of all as the definitions list them.
+-- The faults of all parameters as the definitions list them.
 use mathlib.Core.Path.{◌≡◌, refl, ap, ◌∙◌}
 use mathlib.Core.Bool.{Bool}
 use mathlib.Core.List.{List}
 use Prim.Native.Nat.{ℕ, zero, suc}
-use borrow.Author.Tests.{ne_eqb}
-use Rattle.classes.specs.Lists.{pick}
 use Rattle.reading_rules.specs.Record.{Record}
 use Rattle.definition_rules.specs.Declarations.{Spots}
-use Rattle.definition_rules.specs.Faults.{record_spots, rule7_broken, root_no_struct}
-use Rattle.definition_rules.specs.Finite.{is_endless}
-use Rattle.definition_cells.specs.declared.Place.{Place}
+use Rattle.definition_rules.specs.Faults.{record_spots}
 use Rattle.definition_cells.specs.Cells.{cell_at, noted_at, noted_from}
 use Rattle.definition_cells.specs.Places.{at_if, lesser, least_place, least_from}
 use Rattle.definition_cells.proofs.PlaceLaws.{least_if}
-use Rattle.table_records.specs.Stored.{record_in, records_from, records_at}
-use Rattle.definition_faults.specs.RecordFaults.{record_fault}
+use Rattle.table_records.specs.Stored.{record_in, records_from}
 
--- ---- one parameter
-
-module _ (cs t unpacked : List ℕ) (have : List Bool) (n rule i : ℕ) (r : Place) (hit : Bool) (at : ℕ) (is : r ≡ at_if hit at) where
-  pub fault_seven : rule ≡ 7 → hit ≡ rule7_broken (records_at t unpacked n) i (record_in t unpacked i) → at ≡ cell_at cs i 4 → r ≡ record_fault cs t unpacked have n rule i
-  unfolding record_fault pick
-  fault_seven e h p = is ∙ rw (e, h, p)
-
-  pub fault_nine : (rule ≡ 7 → ⊥) → rule ≡ 9 → hit ≡ root_no_struct i (record_in t unpacked i) → at ≡ cell_at cs i 4 → r ≡ record_fault cs t unpacked have n rule i
-  unfolding record_fault pick
-  fault_nine a e h p = is ∙ rw (e, h, p)
-
-  pub fault_ten : (rule ≡ 7 → ⊥) → (rule ≡ 9 → ⊥) → hit ≡ is_endless have i (record_in t unpacked i) → at ≡ cell_at cs i 4 → r ≡ record_fault cs t unpacked have n rule i
-  unfolding record_fault pick
-  fault_ten a c h p = is ∙ rw (ne_eqb rule 7 a, ne_eqb rule 9 c, h, p)
-
--- ---- all parameters: the spots of the records' faults, at the places that the declarations keep
-
+-- the spots of the records' faults, at the places that the declarations keep
 module _ (f : ℕ → Record → Bool) (at : Spots → ℕ) (text cs t unpacked : List ℕ) where
   -- the place of the j-th declaration's spot
   abbrev place_of : ℕ → ℕ

@@ -1,20 +1,16 @@
 -- The faults that records alone show, by parameter, at the places that its declaration keeps.
-use Rattle.std.specs.Prelude.{Bool, List, ℕ, eqb}
-use Rattle.classes.specs.Lists.{pick}
-use Rattle.definition_rules.specs.Faults.{rule7_broken, tag_repeated, root_no_struct}
-use Rattle.definition_rules.specs.Finite.{is_endless}
-use Rattle.definition_cells.specs.declared.Place.{Place}
+use Rattle.std.specs.Prelude.{Bool, List, ℕ, Option}
+use Rattle.reading_rules.specs.Record.{Record}
+use Rattle.definition_rules.specs.Faults.{tag_repeated}
 use Rattle.definition_cells.specs.Cells.{cell_at, name_cell, tag_cell}
 use Rattle.definition_cells.specs.Places.{at_if}
-use Rattle.table_records.specs.Stored.{record_in, records_at}
+use Rattle.table_records.specs.Shown.{record_of, records_of}
+use Rattle.table_records.specs.declared.Records.{Records}
 
 -- 8 for tags: the fault of parameter i at its tag
-abbrev pub tag_fault : List ℕ → List ℕ → List ℕ → ℕ → ℕ → Place
-tag_fault cs t unpacked n i = at_if (tag_repeated (records_at t unpacked n) i (record_in t unpacked i)) (cell_at cs i tag_cell)
+abbrev pub tag_fault : List ℕ → Records → ℕ → Option ℕ
+tag_fault cs r i = at_if (tag_repeated (records_of r) i (record_of r i)) (cell_at cs i tag_cell)
 
--- the fault of parameter i with the refusal's number, at its name: 7, the root's 9, else 10
-unfoldable pub record_fault : List ℕ → List ℕ → List ℕ → List Bool → ℕ → ℕ → ℕ → Place
-record_fault cs t unpacked have n rule i =
-    pick (eqb rule 7) (at_if (rule7_broken (records_at t unpacked n) i (record_in t unpacked i)) (cell_at cs i name_cell))
-    (pick (eqb rule 9) (at_if (root_no_struct i (record_in t unpacked i)) (cell_at cs i name_cell))
-    (at_if (is_endless have i (record_in t unpacked i)) (cell_at cs i name_cell)))
+-- the fault of parameter i by one test, at its name: that of 7, the root's of 9, or that of 10
+abbrev pub name_fault : (ℕ → Record → Bool) → List ℕ → Records → ℕ → Option ℕ
+name_fault broken cs r i = at_if (broken i (record_of r i)) (cell_at cs i name_cell)

@@ -1,20 +1,19 @@
 -- The declarations in the row: one more is noted, the first 256 are kept, the 257th name's place is.
-use mathlib.Core.Path.{◌≡◌, refl, ap, ◌∙◌}
+use mathlib.Core.Path.{◌≡◌, refl, ap, subst, ◌∙◌}
 use mathlib.Core.List.{List, [], ◌∷◌, ◌++◌}
 use Prim.Native.Nat.{ℕ, zero, suc, ◌+◌, ◌*◌, ◌≤◌, ◌<◌}
 use native.Mathlib.Nat.{add-zero, zero-add}
 use native.Mathlib.Omega.{arith}
 use lib.Dec.{eqb}
 use lib.ListN.{length, get_or, set, drop, length-append, length-set}
-use lib.Seq.{sets, get_or-set_same, get_or-set_other, drop-append-le}
+use lib.Seq.{sets, get_or-set_same, get_or-set_other, drop-append-le, drop-append_seam}
 use Rattle.classes.specs.Lists.{All}
 use Rattle.definition_rules.specs.Declarations.{Declaration, declaration, Spots, Noted, noted}
 use Rattle.definition_rules.specs.Table.{number_up}
 use Rattle.definition_rules.specs.Faults.{name_spots}
 use Rattle.definition_cells.specs.Cells.{run_at, maybe_run_at, tag_at, noted_at, noted_from}
 use Rattle.definition_scanner.proofs.LiveLaws.{AtLeast}
-use Rattle.definition_automaton.specs.Noting.{cells_of}
-use Rattle.definition_automaton.specs.declared.Pending.{Pending}
+use Rattle.definition_automaton.specs.Noting.{Hand, cells_of}
 use Rattle.definition_automaton.proofs.Views.{spots_in, heading_in}
 use Rattle.definition_rules.proofs.Spots.{names_length}
 
@@ -54,7 +53,7 @@ module _ (text cs vs : List ℕ) (n : ℕ) where
   others zero i h = refl
   others (suc m) i h = rw (other i (omega arith), others m (suc i) (omega arith))
 
-module _ (text cs : List ℕ) (n : ℕ) (p : Pending) (x q : ℕ) (room : 16 * n + 16 ≤ length cs) where
+module _ (text cs : List ℕ) (n : ℕ) (p : Hand) (x q : ℕ) (room : 16 * n + 16 ≤ length cs) where
   this : noted_at text (sets cs (16 * n) (cells_of p x q)) n ≡ noted (spots_in p) (declaration (number_up q) (eqb x 1) (heading_in text p))
   unfolding noted_at run_at maybe_run_at tag_at
   this =
@@ -84,10 +83,7 @@ names_append [] ys = refl
 names_append (noted s d ∷ r) ys = ap (λ l. s.name_at ∷ l) (names_append r ys)
 
 drop_seam : (n : ℕ) (xs ys : List ℕ) → length xs ≡ n → drop n (xs ++ ys) ≡ ys
-drop_seam zero [] ys h = refl
-drop_seam zero (x ∷ xs) ys h = absurd (omega arith)
-drop_seam (suc n) [] ys h = absurd (omega arith)
-drop_seam (suc n) (x ∷ xs) ys h = drop_seam n xs ys (omega arith)
+drop_seam n xs ys h = subst (λ k. drop k (xs ++ ys) ≡ ys) h (drop-append_seam xs ys)
 
 least_snoc : (k : ℕ) (r : List ℕ) (p : ℕ) → AtLeast k r → k ≤ p → AtLeast k (r ++ p ∷ [])
 unfolding All

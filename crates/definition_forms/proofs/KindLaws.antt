@@ -12,6 +12,11 @@ use Rattle.classes.specs.Bytes.{is_mark}
 use Rattle.definition_rules.specs.Words.{kw_as, kw_plugin, number_if, number_in, kind_of_run, takes_range, is_compound, is_reference}
 use Rattle.definition_words.proofs.WordLaws.{same_sym}
 use Rattle.definition_automaton.specs.Acts.{type_kind, run_kind}
+use Rattle.definition_automaton.specs.Codes.{token_number, act_number}
+use Rattle.definition_automaton.specs.declared.Action.{Action}
+use Rattle.definition_automaton.specs.declared.Action.TheVariants.{TakeType, OpenRange, TakeRange, CloseRange, TakeName, OpenCard, TakeCard, CloseCard, TakeAs, TakeTag, TakeNoTag, TakePlugin, EndHeading, OpenBody, CloseBody, EndBody, OpenGroup, CloseGroup, TakeNameAfterRange}
+use Rattle.definition_automaton.specs.declared.Token.{Token}
+use Rattle.definition_automaton.specs.declared.Token.TheVariants.{End, Bad, Semicolon, RangeOpens, RangeCloses, Question, BracketOpens, BracketCloses, BraceOpens, BraceCloses, RangedType, SimpleType, CompoundType, Reference, As, Plugin}
 use Rattle.definition_automaton.proofs.StepLaws.{KindFacts}
 use Rattle.definition_rules.proofs.RunLaws.{kind_le}
 
@@ -71,9 +76,50 @@ kind_facts w = go (same_bytes kw_as w) (same_bytes kw_plugin w) refl refl
 
 pub mark_some : (b : ℕ) → is_mark b ≡ true → b ≡ 0 → ⊥
 unfolding is_mark
-mark_some b h e = absurd (let n : false ≡ true = rw e at h in let z : ◌≡◌ {A = ℕ} 0 1 = cc in omega arith)
+mark_some b h e = let n : false ≡ true = rw e at h in cc
 
 -- no run: the empty one
 pub none_kind : run_kind [] ≡ 259
 unfolding run_kind type_kind pick kind_of_run number_in number_if same_bytes
 none_kind = refl
+
+-- only the end's number is 0
+pub end_is : (t : Token) → token_number t ≡ 0 → t ≡ End
+end_is End e = refl
+end_is Bad e = absurd (omega arith)
+end_is Semicolon e = absurd (omega arith)
+end_is RangeOpens e = absurd (omega arith)
+end_is RangeCloses e = absurd (omega arith)
+end_is Question e = absurd (omega arith)
+end_is BracketOpens e = absurd (omega arith)
+end_is BracketCloses e = absurd (omega arith)
+end_is BraceOpens e = absurd (omega arith)
+end_is BraceCloses e = absurd (omega arith)
+end_is RangedType e = absurd (omega arith)
+end_is SimpleType e = absurd (omega arith)
+end_is CompoundType e = absurd (omega arith)
+end_is Reference e = absurd (omega arith)
+end_is As e = absurd (omega arith)
+end_is Plugin e = absurd (omega arith)
+
+-- no act's number is that of none
+pub some_act : (a : Action) → act_number a ≡ 0 → ⊥
+some_act TakeType e = absurd (omega arith)
+some_act OpenRange e = absurd (omega arith)
+some_act TakeRange e = absurd (omega arith)
+some_act CloseRange e = absurd (omega arith)
+some_act TakeName e = absurd (omega arith)
+some_act OpenCard e = absurd (omega arith)
+some_act TakeCard e = absurd (omega arith)
+some_act CloseCard e = absurd (omega arith)
+some_act TakeAs e = absurd (omega arith)
+some_act TakeTag e = absurd (omega arith)
+some_act TakeNoTag e = absurd (omega arith)
+some_act TakePlugin e = absurd (omega arith)
+some_act EndHeading e = absurd (omega arith)
+some_act OpenBody e = absurd (omega arith)
+some_act CloseBody e = absurd (omega arith)
+some_act EndBody e = absurd (omega arith)
+some_act OpenGroup e = absurd (omega arith)
+some_act CloseGroup e = absurd (omega arith)
+some_act TakeNameAfterRange e = absurd (omega arith)

@@ -22,17 +22,15 @@ use Rattle.definition_scanner.specs.Live.{live_from}
 use Rattle.definition_scanner.specs.First.{faults_from}
 use Rattle.definition_scanner.proofs.FaultLaws.{all_faults, least_same}
 use Rattle.definition_automaton.specs.Acts.{run_kind, act_of, next_mode}
-use Rattle.definition_automaton.specs.States.{started, context_of, parent_number, extension_flag, over_of, more_of, after_of}
-use Rattle.definition_automaton.specs.Noting.{span, none, pending_by, cells_of, notes, note_cells}
-use Rattle.definition_automaton.specs.declared.State.{State}
+use Rattle.definition_automaton.specs.States.{Stand, started, context_of, parent_number, extension_flag, over_of, more_of, after_of}
+use Rattle.definition_automaton.specs.Noting.{Hand, span, none, pending_by, cells_of, notes, note_cells}
 use Rattle.definition_automaton.specs.declared.Span.{Span}
-use Rattle.definition_automaton.specs.declared.Pending.{Pending}
 use Rattle.definition_automaton.proofs.Views.{frames_from, open_frames, run_in, spots_in, phase_in, context_in, frames_after, noted_in, action_in}
 use Rattle.definition_automaton.proofs.StepLaws.{KindFacts, mark_step, run_step}
-use Rattle.definition_forms.specs.Formed.{StuckIn, OverIn, CompleteIn, FormedAs}
-use Rattle.definition_forms.specs.Sees.{Told, ended, broken, marked, ran, Sees, finish_of}
-use Rattle.definition_forms.specs.declared.Seen.{Seen}
-use Rattle.definition_forms.specs.declared.Formed.{Formed}
+use Rattle.definition_forms.specs.Formed.{StuckIn, OverIn, CompleteIn, stuck, RefusedAs, stuck_in, over_in, FormedAs}
+use Rattle.definition_forms.specs.Sees.{Told, ended, broken, marked, ran, Sees, Sight, finish_of}
+use Rattle.numbers.specs.declared.Refusal.{Refusal}
+use Rattle.std.specs.Prelude.{Result}
 use Rattle.definition_forms.proofs.PlacedLaws.{places_drop, names_placed, length_placed}
 use Rattle.definition_forms.proofs.Placing.{parse_placed, placed_outcome, outcome_is, stuck_back, complete_back}
 use Rattle.definition_forms.proofs.Keeping.{noted_more, Kept, kept_first, kept_over, kept_past}
@@ -55,7 +53,7 @@ pick_false t a b e = rw e
 
 -- ---- an act in the reading
 
-module _ (text : List ℕ) (σ : List Frame) (k : ℕ) (p : Pending) (a n : ℕ) (x : Span) where
+module _ (text : List ℕ) (σ : List Frame) (k : ℕ) (p : Hand) (a n : ℕ) (x : Span) where
   action_stop : a ≡ 0 → action_in text σ k p a n x ≡ stop
   unfolding action_in pick
   action_stop e = rw e
@@ -99,7 +97,7 @@ unfolding deep_places
 deep_run d is r p w e = rw e
 
 no_bad : {A : Type 0} (is r : List Item) (p : ℕ) → is ≡ bad p ∷ r → bad_places is ≡ [] → A
-no_bad is r p e c = absurd (let y : p ∷ bad_places r ≡ [] = sym (bad_first is r p e) ∙ c in let w : ◌≡◌ {A = ℕ} 0 1 = cc in omega arith)
+no_bad is r p e c = let y : p ∷ bad_places r ≡ [] = sym (bad_first is r p e) ∙ c in cc
 
 map_stuck : (xs : List Noted) (o : Outcome (List Noted)) (p : ℕ) → o ≡ stuck_at p → map_outcome (λ r. xs ++ r) o ≡ stuck_at p
 unfolding map_outcome
@@ -111,7 +109,7 @@ map_done xs o e = rw e (ap complete (append-nil xs))
 
 -- ---- what holds before a token
 
-pub record Inv (text cells : List ℕ) (x : Seen) (s : State) (p : Pending) : Type 0 where
+pub record Inv (text cells : List ℕ) (x : Sight) (s : Stand) (p : Hand) : Type 0 where
   pub at : ℕ
   pub sees : Sees text at x
   pub before : List Noted
@@ -133,7 +131,7 @@ unfolding map_outcome
 map_same (stuck_at i) = refl
 map_same (complete ns) = refl
 
-pub inv_start : (text cells : List ℕ) (x : Seen) (s : State) (p : Pending) → faults2 (items_of text) ≡ [] → Sees text 0 x → s ≡ started → p ≡ none → Inv text cells x s p
+pub inv_start : (text cells : List ℕ) (x : Sight) (s : Stand) (p : Hand) → faults2 (items_of text) ≡ [] → Sees text 0 x → s ≡ started → p ≡ none → Inv text cells x s p
 inv_start text cells x s p clean l es ep =
     let c = both_nil (bad_places (live_from text 0)) (deep_places 0 (live_from text 0)) (unfold faults_from in (sym (all_faults text) ∙ clean)) in
     rw (es, ep) (record {
@@ -155,7 +153,7 @@ inv_start text cells x s p clean l es ep =
     })
 
 -- the row keeps its length
-pub note_length : (s : State) (p : Pending) (a : ℕ) (cs : List ℕ) → length (note_cells s p a cs) ≡ length cs
+pub note_length : (s : Stand) (p : Hand) (a : ℕ) (cs : List ℕ) → length (note_cells s p a cs) ≡ length cs
 unfolding note_cells pick
 note_length s p a cs = by (notes a && ltb s.count 256)
   where
@@ -165,7 +163,7 @@ note_length s p a cs = by (notes a && ltb s.count 256)
 
 -- ---- the token that stands next, and its act
 
-pub record TokenTaken (text : List ℕ) (at : ℕ) (x : Seen) (s : State) (p : Pending) (a deep : ℕ) : Type 0 where
+pub record TokenTaken (text : List ℕ) (at : ℕ) (x : Sight) (s : Stand) (p : Hand) (a deep : ℕ) : Type 0 where
   pub tok : TextToken
   pub cut : live_from text at ≡ item x.start tok ∷ live_from text x.end
   pub goes : step (open_frames s) s.count x.start (phase_in text s.mode p) tok ≡ action_in text (open_frames s) s.count p a x.kind (span x.start x.end)
@@ -176,10 +174,10 @@ pub record TokenTaken (text : List ℕ) (at : ℕ) (x : Seen) (s : State) (p : P
   pub shallow : (a ≡ 0 → ⊥) → length (frames_after (open_frames s) s.count a) ≤ deep_after
   pub kind_after : (pending_by p a x.kind (span x.start x.end)).kind ≡ run_kind (run_in text (pending_by p a x.kind (span x.start x.end)).typed)
 
-abbrev KindKnown : List ℕ → Pending → Type 0
+abbrev KindKnown : List ℕ → Hand → Type 0
 KindKnown text q = q.kind ≡ run_kind (run_in text q.typed)
 
-kind_stays : (text : List ℕ) (p : Pending) (a n : ℕ) (x : Span) → KindKnown text p → (a ≡ 1 → n ≡ run_kind (run_in text x)) → KindKnown text (pending_by p a n x)
+kind_stays : (text : List ℕ) (p : Hand) (a n : ℕ) (x : Span) → KindKnown text p → (a ≡ 1 → n ≡ run_kind (run_in text x)) → KindKnown text (pending_by p a n x)
 unfolding pending_by
 kind_stays text p a n x h f =
     pick_on (KindKnown text) (eqb a 1) _ _ (λ e. f (eqb-true a 1 e))
@@ -191,10 +189,10 @@ kind_stays text p a n x h f =
     (pick_on (KindKnown text) (eqb a 12) _ _ (λ _. h)
     (pick_on (KindKnown text) (eqb a 19) _ _ (λ _. h) h)))))))
 
-abbrev Between : Pending → ℕ → Pending → Type 0
+abbrev Between : Hand → ℕ → Hand → Type 0
 Between p e q = (p.name.start ≤ q.name.start) × (q.name.start ≤ e)
 
-name_between : (p : Pending) (a n : ℕ) (x : Span) → p.name.start ≤ x.start → Between p x.start (pending_by p a n x)
+name_between : (p : Hand) (a n : ℕ) (x : Span) → p.name.start ≤ x.start → Between p x.start (pending_by p a n x)
 unfolding pending_by
 name_between p a n x h =
     let stay : (p.name.start ≤ p.name.start) × (p.name.start ≤ x.start) = (omega arith, h) in
@@ -208,7 +206,7 @@ name_between p a n x h =
     (pick_on (Between p x.start) (eqb a 12) _ _ (λ _. stay)
     (pick_on (Between p x.start) (eqb a 19) _ _ (λ _. new) stay)))))))
 
-module _ {text cells : List ℕ} {x : Seen} {s : State} {p : Pending} (i : Inv text cells x s p) (a : ℕ) (act : a ≡ act_of s.mode (context_of s) p.kind x.kind) where
+module _ {text cells : List ℕ} {x : Sight} {s : Stand} {p : Hand} (i : Inv text cells x s p) (a : ℕ) (act : a ≡ act_of s.mode (context_of s) p.kind x.kind) where
   here : a ≡ act_of s.mode (context_in (open_frames s)) p.kind x.kind
   here = act ∙ ap (λ c. act_of s.mode c p.kind x.kind) (context_is s.mode s.numbers s.bodies s.count s.over s.depth i.sized.low)
 
@@ -268,21 +266,21 @@ module _ {text cells : List ℕ} {x : Seen} {s : State} {p : Pending} (i : Inv t
       by (ran b e) f g h = after_run (rw (f, g, h) at b) (rw (g, h) at e)
 
   -- a token that can't go on
-  pub inv_stuck : (x.kind ≡ 0 → ⊥) → a ≡ 0 → StuckIn text x.start
-  inv_stuck z q =
+  pub inv_stuck : (x.kind ≡ 0 → ⊥) → a ≡ 0 → (r : Refusal) → r ≡ stuck x.start → RefusedAs text r
+  inv_stuck z q r h =
       let t = taken z in
       let f : step (open_frames s) s.count x.start (phase_in text s.mode p) t.tok ≡ stop = t.goes ∙ action_stop text (open_frames s) s.count p a x.kind (span x.start x.end) q in
       let g : parse_placed (length text) (open_frames s) s.count (phase_in text s.mode p) (live_from text i.at) ≡ stuck_at x.start = ap (parse_placed (length text) (open_frames s) s.count (phase_in text s.mode p)) t.cut ∙ stops (length text) (open_frames s) s.count (phase_in text s.mode p) x.start t.tok (live_from text x.end) f in
       let e : placed_outcome text ≡ stuck_at x.start = i.goes ∙ map_stuck i.before _ x.start g in
       let b = stuck_back (token_place text (items_of text)) (outcome_of text) x.start e in
-      record { spot = b.0; is = b.1; place = b.2 }
+      rw h (stuck_in refl (record { spot = b.0; is = b.1; place = b.2 }))
 
   -- a token that goes on
-  module _ (short : length text ≤ 65535) (wide : 4096 ≤ length cells) (nz : x.kind ≡ 0 → ⊥) (az : a ≡ 0 → ⊥) (y : Seen) (next : Sees text x.end y) where
+  module _ (short : length text ≤ 65535) (wide : 4096 ≤ length cells) (nz : x.kind ≡ 0 → ⊥) (az : a ≡ 0 → ⊥) (y : Sight) (next : Sees text x.end y) where
     far : (x.end ≤ y.start) × (x.start < x.end) × (x.end ≤ length text)
     far = (next.after i.sees.within, i.sees.some nz, i.sees.within)
 
-    abbrev after_p : Pending
+    abbrev after_p : Hand
     after_p = pending_by p a x.kind (span x.start x.end)
 
     name_in : Between p x.start after_p
@@ -293,7 +291,7 @@ module _ {text cells : List ℕ} {x : Seen} {s : State} {p : Pending} (i : Inv t
     no_note e = rw e
 
     -- nothing is noted
-    inv_quiet : (t : State) → StateAfter s a p.name.start t → notes a ≡ false → Inv text (note_cells s p a cells) y t after_p
+    inv_quiet : (t : Stand) → StateAfter s a p.name.start t → notes a ≡ false → Inv text (note_cells s p a cells) y t after_p
     unfolding notes
     inv_quiet t f e =
         let k = taken nz in
@@ -322,7 +320,7 @@ module _ {text cells : List ℕ} {x : Seen} {s : State} {p : Pending} (i : Inv t
         })
       where
         not_note : a ≡ 14 → notes a ≡ false → ⊥
-        not_note q e = absurd (let h : true ≡ false = rw q at e in let n : ◌≡◌ {A = ℕ} 0 1 = cc in omega arith)
+        not_note q e = let h : true ≡ false = rw q at e in cc
 
     few : s.count < 65535
     few = omega (arith, i.counted, far.1, far.2)
@@ -366,7 +364,7 @@ module _ {text cells : List ℕ} {x : Seen} {s : State} {p : Pending} (i : Inv t
     twice xs d (stuck_at j) = refl
     twice xs d (complete ns) = ap complete (sym (append_assoc xs (d ∷ []) ns))
 
-    inv_note : (t : State) → StateAfter s a p.name.start t → notes a ≡ true → Inv text (note_cells s p a cells) y t after_p
+    inv_note : (t : Stand) → StateAfter s a p.name.start t → notes a ≡ true → Inv text (note_cells s p a cells) y t after_p
     inv_note t f e =
         let k = taken nz in
         let g = far in
@@ -391,7 +389,7 @@ module _ {text cells : List ℕ} {x : Seen} {s : State} {p : Pending} (i : Inv t
           counted = omega (arith, i.counted, g.0, g.1);
         }
 
-    pub inv_step : (t : State) (q : Pending) (cs : List ℕ) → t ≡ after_of s a p.name.start → q ≡ after_p → cs ≡ note_cells s p a cells → Inv text cs y t q
+    pub inv_step : (t : Stand) (q : Hand) (cs : List ℕ) → t ≡ after_of s a p.name.start → q ≡ after_p → cs ≡ note_cells s p a cells → Inv text cs y t q
     inv_step t q cs et eq ec = rw (et, eq, ec) (by (notes a) refl (after_is s a p.name.start i.sized (taken nz).room (omega (arith, few))))
       where
         by : (u : Bool) → notes a ≡ u → StateAfter s a p.name.start (after_of s a p.name.start) → Inv text (note_cells s p a cells) y (after_of s a p.name.start) after_p
@@ -418,7 +416,7 @@ parse_none : (end : ℕ) (σ : List Frame) (k : ℕ) (φ : Phase) → parse_plac
 unfolding parse_placed
 parse_none end σ k φ = refl
 
-phase_end : (text : List ℕ) (m : ℕ) (p : Pending) (k end : ℕ) → (m ≡ 0 → ⊥) → at_end [] k end (phase_in text m p) ≡ stuck_at end
+phase_end : (text : List ℕ) (m : ℕ) (p : Hand) (k end : ℕ) → (m ≡ 0 → ⊥) → at_end [] k end (phase_in text m p) ≡ stuck_at end
 unfolding phase_in at_end
 phase_end text m p k end h =
     let P : Phase → Type 0 = (λ φ. at_end [] k end φ ≡ stuck_at end) in
@@ -435,7 +433,7 @@ phase_end text m p k end h =
     (pick_on P (eqb m 10) _ _ (λ _. refl)
     (pick_on P (eqb m 11) _ _ (λ _. refl) refl)))))))))))
 
-module _ {text cells : List ℕ} {x : Seen} {s : State} {p : Pending} (i : Inv text cells x s p) (z : x.kind ≡ 0) where
+module _ {text cells : List ℕ} {x : Sight} {s : Stand} {p : Hand} (i : Inv text cells x s p) (z : x.kind ≡ 0) where
   at_last : placed_outcome text ≡ map_outcome (λ r. i.before ++ r) (at_end (open_frames s) s.count (length text) (phase_in text s.mode p))
   at_last = i.goes ∙ ap (map_outcome (λ r. i.before ++ r)) (ap (parse_placed (length text) (open_frames s) s.count (phase_in text s.mode p)) (no_more i.sees.told z i.calm) ∙ parse_none (length text) (open_frames s) s.count (phase_in text s.mode p))
 
@@ -471,13 +469,13 @@ module _ {text cells : List ℕ} {x : Seen} {s : State} {p : Pending} (i : Inv t
   unfolding frames_from at_end phase_in pick
   start_end d ns bs m k end h g = rw (h, g)
 
-  pub inv_end : (r : Formed) → r ≡ finish_of s (length text) → FormedAs text cells r
+  pub inv_end : (r : Result ℕ Refusal) → r ≡ finish_of s (length text) → FormedAs text cells r
   unfolding finish_of pick
   inv_end r e = rw e (by (eqb s.mode 0) (eqb s.depth 0) (eqb s.count 0) (ltb 256 s.count) refl refl refl refl)
     where
       by : (u v w o : Bool) → eqb s.mode 0 ≡ u → eqb s.depth 0 ≡ v → eqb s.count 0 ≡ w → ltb 256 s.count ≡ o → FormedAs text cells (finish_of s (length text))
-      by false v w o e1 e2 e3 e4 = rw e1 (stuck_last (mode_end s.depth s.numbers s.bodies s.mode s.count (length text) (eqb-false s.mode 0 e1)))
-      by true false w o e1 e2 e3 e4 = rw (e1, e2) (stuck_last (top_end s.depth s.numbers s.bodies s.count (length text) (phase_in text s.mode p) (eqb-false s.depth 0 e2)))
-      by true true true o e1 e2 e3 e4 = rw (e1, e2, e3) (stuck_last (start_end s.depth s.numbers s.bodies s.mode s.count (length text) (eqb-true s.mode 0 e1) (eqb-true s.depth 0 e2) ∙ end_true _ (length text) e3))
-      by true true false true e1 e2 e3 e4 = rw (e1, e2, e3, e4) (over_last (done_last (start_end s.depth s.numbers s.bodies s.mode s.count (length text) (eqb-true s.mode 0 e1) (eqb-true s.depth 0 e2) ∙ end_false _ (length text) e3)) (ltb-true 256 s.count e4))
+      by false v w o e1 e2 e3 e4 = rw e1 (stuck_in refl (stuck_last (mode_end s.depth s.numbers s.bodies s.mode s.count (length text) (eqb-false s.mode 0 e1))))
+      by true false w o e1 e2 e3 e4 = rw (e1, e2) (stuck_in refl (stuck_last (top_end s.depth s.numbers s.bodies s.count (length text) (phase_in text s.mode p) (eqb-false s.depth 0 e2))))
+      by true true true o e1 e2 e3 e4 = rw (e1, e2, e3) (stuck_in refl (stuck_last (start_end s.depth s.numbers s.bodies s.mode s.count (length text) (eqb-true s.mode 0 e1) (eqb-true s.depth 0 e2) ∙ end_true _ (length text) e3)))
+      by true true false true e1 e2 e3 e4 = rw (e1, e2, e3, e4) (over_in refl (over_last (done_last (start_end s.depth s.numbers s.bodies s.mode s.count (length text) (eqb-true s.mode 0 e1) (eqb-true s.depth 0 e2) ∙ end_false _ (length text) e3)) (ltb-true 256 s.count e4)))
       by true true false false e1 e2 e3 e4 = rw (e1, e2, e3, e4) (whole_last (done_last (start_end s.depth s.numbers s.bodies s.mode s.count (length text) (eqb-true s.mode 0 e1) (eqb-true s.depth 0 e2) ∙ end_false _ (length text) e3)) (ltb-false 256 s.count e4))

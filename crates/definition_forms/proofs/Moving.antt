@@ -1,5 +1,5 @@
 -- The state after an act: its mode, counts and open bodies.
-use mathlib.Core.Path.{◌≡◌, refl, sym, ap, subst, ◌∙◌}
+use mathlib.Core.Path.{◌≡◌, refl, sym, ap, ◌∙◌}
 use mathlib.Core.Bool.{Bool, true, false, ◌||◌}
 use mathlib.Core.List.{List, [], ◌∷◌}
 use Prim.Native.Nat.{ℕ, zero, suc, ◌+◌, ◌-◌, ◌%◌, ◌≤◌, ◌<◌}
@@ -14,10 +14,8 @@ use Rattle.definition_rules.specs.Table.{number_up}
 use Rattle.definition_rules.specs.Declarations.{BodyMode, in_fields, group_opened, in_group, groups_closed, Frame, frame, is_extension, after_field, field_done, parent_of}
 use Rattle.definition_rules.specs.Declarations.{is_under_extension}
 use Rattle.definition_automaton.specs.Acts.{end_act, plugin_act, as_act, name_act, type_act, closing_act, body_act, start_act, run_act, mark_act, typed_act, tag_act, act_of, next_mode}
-use Rattle.definition_automaton.specs.States.{state, entry_of, body_after, context_number, context_of, parent_number, extension_flag, with_body, field_done_of, pushed_of, popped_of, over_of, more_of, counted_of, mode_moved, after_of}
+use Rattle.definition_automaton.specs.States.{Stand, state, entry_of, body_after, context_number, context_of, parent_number, extension_flag, with_body, field_done_of, pushed_of, popped_of, over_of, more_of, counted_of, mode_moved, after_of}
 use Rattle.definition_automaton.specs.Noting.{notes}
-use Rattle.definition_automaton.specs.declared.State.{State}
-use Rattle.definition_automaton.proofs.AfterLaws.{after_field_lem, after_push, after_pop, after_group, after_close, after_other}
 use Rattle.definition_automaton.proofs.Views.{body_mode_of, frames_from, open_frames, body_context, context_in, pop_frame, in_mode, frames_after}
 
 -- ---- the open bodies after a store
@@ -33,7 +31,7 @@ numbers_above zero ns bs i v h = refl
 numbers_above (suc d) ns bs i v h = rw (get_or-set_other ns i d v 0 (λ q. omega arith), numbers_above d ns bs i v (omega arith))
 
 -- the state's rows have eight places
-pub record Sized (s : State) : Type 0 where
+pub record Sized (s : Stand) : Type 0 where
   pub numbers8 : length s.numbers ≡ 8
   pub bodies8 : length s.bodies ≡ 8
   pub low : s.depth ≤ 8
@@ -150,7 +148,7 @@ below_stay a k σ n b = go (eqb a 13) (eqb a 14) (eqb a 15) (eqb a 17) (eqb a 18
   where
     go : (x y z u v : Bool) → y ≡ false → Below k (pick x (field_done σ) (pick y (frame k in_fields ∷ field_done σ) (pick z (pop_frame σ) (pick u (in_mode group_opened σ) (pick v (in_mode groups_closed σ) σ)))))
     go true y z u v e = unfold pick in (done_below k σ b)
-    go false true z u v e = absurd (let n : ◌≡◌ {A = ℕ} 0 1 = cc in omega arith)
+    go false true z u v e = cc
     go false false true u v e = unfold pick in (pop_below k σ b)
     go false false false true v e = unfold pick in (in_mode_below k group_opened σ b)
     go false false false false true e = unfold pick in (in_mode_below k groups_closed σ b)
@@ -165,7 +163,7 @@ below_after a k σ b = go (eqb a 14) refl
 
 -- ---- the parts of an act
 
-pub record StateMoved (s t : State) (σ : List Frame) : Type 0 where
+pub record StateMoved (s t : Stand) (σ : List Frame) : Type 0 where
   pub mode_same : t.mode ≡ s.mode
   pub count_same : t.count ≡ s.count
   pub over_same : t.over ≡ s.over
@@ -214,7 +212,7 @@ done_length (frame p m ∷ σ) = refl
 
 -- ---- after an act
 
-pub record StateAfter (s : State) (a name : ℕ) (t : State) : Type 0 where
+pub record StateAfter (s : Stand) (a name : ℕ) (t : Stand) : Type 0 where
   pub mode_is : t.mode ≡ next_mode a
   pub count_is : t.count ≡ pick (notes a) (more_of s.count) s.count
   pub over_is : t.over ≡ pick (notes a) (over_of s.count s.over name) s.over
@@ -233,9 +231,9 @@ note_none : (a : ℕ) → eqb a 13 ≡ false → eqb a 14 ≡ false → notes a 
 unfolding notes
 note_none a e f = rw (e, f)
 
-module _ (s : State) (a name : ℕ) (z : Sized s) where
+module _ (s : Stand) (a name : ℕ) (z : Sized s) where
   -- an act that notes nothing
-  quiet : (t : State) → eqb a 13 ≡ false → eqb a 14 ≡ false → StateMoved (mode_moved s a) t (frames_after (open_frames s) s.count a) → StateAfter s a name t
+  quiet : (t : Stand) → eqb a 13 ≡ false → eqb a 14 ≡ false → StateMoved (mode_moved s a) t (frames_after (open_frames s) s.count a) → StateAfter s a name t
   unfolding pick
   quiet t e f w = record {
     mode_is = w.mode_same;
@@ -246,7 +244,7 @@ module _ (s : State) (a name : ℕ) (z : Sized s) where
   }
 
   -- an act that notes a declaration
-  noting : (t : State) → notes a ≡ true → StateMoved (mode_moved s a) t (frames_after (open_frames s) s.count a) → StateAfter s a name (counted_of t name)
+  noting : (t : Stand) → notes a ≡ true → StateMoved (mode_moved s a) t (frames_after (open_frames s) s.count a) → StateAfter s a name (counted_of t name)
   unfolding pick
   noting t e w = record {
     mode_is = w.mode_same;
@@ -256,7 +254,7 @@ module _ (s : State) (a name : ℕ) (z : Sized s) where
     sized = record { numbers8 = w.sized.numbers8; bodies8 = w.sized.bodies8; low = w.sized.low };
   }
 
-  moved_to : {t : State} {σ τ : List Frame} → StateMoved (mode_moved s a) t σ → σ ≡ τ → StateMoved (mode_moved s a) t τ
+  moved_to : {t : Stand} {σ τ : List Frame} → StateMoved (mode_moved s a) t σ → σ ≡ τ → StateMoved (mode_moved s a) t τ
   moved_to w e = record { mode_same = w.mode_same; count_same = w.count_same; over_same = w.over_same; frames = w.frames ∙ e; sized = w.sized }
 
   done_here : StateMoved (mode_moved s a) (field_done_of (mode_moved s a)) (field_done (open_frames s))
@@ -268,7 +266,7 @@ module _ (s : State) (a name : ℕ) (z : Sized s) where
   after_14 : a ≡ 14 → s.depth < 8 → s.count < 65536 → StateAfter s a name (counted_of (pushed_of (field_done_of (mode_moved s a))) name)
   after_14 e h l =
       let w = done_here in
-      let u : State = field_done_of (mode_moved s a) in
+      let u : Stand = field_done_of (mode_moved s a) in
       let d : u.depth ≡ s.depth = sym (frames_length u.depth u.numbers u.bodies) ∙ (ap length w.frames ∙ (done_length (open_frames s) ∙ frames_length s.depth s.numbers s.bodies)) in
       let p : StateMoved u (pushed_of u) (frame u.count in_fields ∷ open_frames u) = push_moved u.mode u.numbers u.bodies u.count u.over w.sized.numbers8 w.sized.bodies8 u.depth (omega arith) (omega (arith, w.count_same)) in
       let g : open_frames (pushed_of u) ≡ frames_after (open_frames s) s.count a = p.frames ∙ (rw (w.count_same, w.frames) (frames_14 (open_frames s) s.count a e)) in
@@ -287,18 +285,16 @@ module _ (s : State) (a name : ℕ) (z : Sized s) where
   after_rest e f g h k = quiet (mode_moved s a) e f (record { mode_same = refl; count_same = refl; over_same = refl; frames = frames_rest (open_frames s) s.count a e f g h k; sized = record { numbers8 = z.numbers8; bodies8 = z.bodies8; low = z.low } })
 
   pub after_is : (a ≡ 14 → s.depth < 8) → s.count < 65536 → StateAfter s a name (after_of s a name)
+  unfolding after_of
   after_is room l = go (eqb a 13) (eqb a 14) (eqb a 15) (eqb a 17) (eqb a 18) refl refl refl refl refl
     where
-      on : {t : State} → StateAfter s a name t → t ≡ after_of s a name → StateAfter s a name (after_of s a name)
-      on x e = subst (StateAfter s a name) e x
-
-      go : (b c d f g : Bool) → eqb a 13 ≡ b → eqb a 14 ≡ c → eqb a 15 ≡ d → eqb a 17 ≡ f → eqb a 18 ≡ g → StateAfter s a name (after_of s a name)
-      go true c d f g e1 e2 e3 e4 e5 = let e = eqb-true a 13 e1 in on (after_13 e) (after_field_lem s (mode_moved s a) a name (field_done_of (mode_moved s a)) _ e refl refl refl)
-      go false true d f g e1 e2 e3 e4 e5 = let e = eqb-true a 14 e2 in on (after_14 e (room e) l) (after_push s (mode_moved s a) a name (field_done_of (mode_moved s a)) (pushed_of (field_done_of (mode_moved s a))) _ e refl refl refl refl)
-      go false false true f g e1 e2 e3 e4 e5 = let e = eqb-true a 15 e3 in on (after_15 e) (after_pop s (mode_moved s a) a name _ e refl refl)
-      go false false false true g e1 e2 e3 e4 e5 = let e = eqb-true a 17 e4 in on (after_17 e) (after_group s (mode_moved s a) a name _ e refl refl)
-      go false false false false true e1 e2 e3 e4 e5 = let e = eqb-true a 18 e5 in on (after_18 e) (after_close s (mode_moved s a) a name _ e refl refl)
-      go false false false false false e1 e2 e3 e4 e5 = on (after_rest e1 e2 e3 e4 e5) (after_other s (mode_moved s a) a name e1 e2 e3 e4 e5 refl)
+      go : (b c d f g : Bool) → eqb a 13 ≡ b → eqb a 14 ≡ c → eqb a 15 ≡ d → eqb a 17 ≡ f → eqb a 18 ≡ g → StateAfter s a name (pick b (counted_of (field_done_of (mode_moved s a)) name) (pick c (counted_of (pushed_of (field_done_of (mode_moved s a))) name) (pick d (popped_of (mode_moved s a)) (pick f (with_body (mode_moved s a) 1) (pick g (with_body (mode_moved s a) 3) (mode_moved s a))))))
+      go true c d f g e1 e2 e3 e4 e5 = unfold pick in (after_13 (eqb-true a 13 e1))
+      go false true d f g e1 e2 e3 e4 e5 = let e = eqb-true a 14 e2 in unfold pick in (after_14 e (room e) l)
+      go false false true f g e1 e2 e3 e4 e5 = unfold pick in (after_15 (eqb-true a 15 e3))
+      go false false false true g e1 e2 e3 e4 e5 = unfold pick in (after_17 (eqb-true a 17 e4))
+      go false false false false true e1 e2 e3 e4 e5 = unfold pick in (after_18 (eqb-true a 18 e5))
+      go false false false false false e1 e2 e3 e4 e5 = unfold pick in (after_rest e1 e2 e3 e4 e5)
 
 -- ---- braces: 14 is for `{` alone, 1 for a run, and `}` for 15 alone
 
@@ -409,11 +405,11 @@ unfolding Braced pick
 closes n a h e z = go (eqb a 14) (eqb a 1) (eqb a 0) (eqb a 15) refl refl refl refl (rw e at h)
   where
     go : (x v y w : Bool) → eqb a 14 ≡ x → eqb a 1 ≡ v → eqb a 0 ≡ y → eqb a 15 ≡ w → pick x false (pick v false (y || w)) ≡ true → a ≡ 15
-    go true v y w p s q r t = absurd (let n : ◌≡◌ {A = ℕ} 0 1 = cc in omega arith)
-    go false true y w p s q r t = absurd (let n : ◌≡◌ {A = ℕ} 0 1 = cc in omega arith)
+    go true v y w p s q r t = cc
+    go false true y w p s q r t = cc
     go false false true w p s q r t = absurd (z (eqb-true a 0 q))
     go false false false true p s q r t = eqb-true a 15 r
-    go false false false false p s q r t = absurd (let n : ◌≡◌ {A = ℕ} 0 1 = cc in omega arith)
+    go false false false false p s q r t = cc
 
 -- how deep the open bodies are after an act
 done_deep : (σ : List Frame) → length (field_done σ) ≤ length σ
@@ -443,11 +439,11 @@ after_deep σ k a = (all (eqb a 13) (eqb a 14) (eqb a 15) (eqb a 17) (eqb a 18),
 
     few : (x y z u v : Bool) → y ≡ false → length (pick x (field_done σ) (pick y (frame k in_fields ∷ field_done σ) (pick z (pop_frame σ) (pick u (in_mode group_opened σ) (pick v (in_mode groups_closed σ) σ))))) ≤ length σ
     few true y z u v e = omega (arith, done_deep σ)
-    few false true z u v e = absurd (let n : ◌≡◌ {A = ℕ} 0 1 = cc in omega arith)
+    few false true z u v e = cc
     few false false true u v e = omega (arith, pop_deep σ)
     few false false false true v e = omega (arith, mode_deep group_opened σ)
     few false false false false true e = omega (arith, mode_deep groups_closed σ)
     few false false false false false e = omega arith
 
-pub depth_is : (s : State) → length (open_frames s) ≡ s.depth
+pub depth_is : (s : Stand) → length (open_frames s) ≡ s.depth
 depth_is s = frames_length s.depth s.numbers s.bodies

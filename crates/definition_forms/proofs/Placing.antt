@@ -203,9 +203,9 @@ outcome_is text = sym (parse_live (length text) (items_of text) [] 0 at_start �
 pub stuck_back : (f : ℕ → ℕ) (o : Outcome (List Noted)) (p : ℕ) → outcome_placed f o ≡ stuck_at p → (i : ℕ) × (o ≡ stuck_at i) × (f i ≡ p)
 unfolding outcome_placed
 stuck_back f (stuck_at i) p e = (i, refl, (cc))
-stuck_back f (complete ns) p e = absurd (let z : ◌≡◌ {A = ℕ} 0 1 = cc in omega arith)
+stuck_back f (complete ns) p e = cc
 
 pub complete_back : (f : ℕ → ℕ) (o : Outcome (List Noted)) (ms : List Noted) → outcome_placed f o ≡ complete ms → (ns : List Noted) × (o ≡ complete ns) × (placed_by f ns ≡ ms)
 unfolding outcome_placed
-complete_back f (stuck_at i) ms e = absurd (let z : ◌≡◌ {A = ℕ} 0 1 = cc in omega arith)
+complete_back f (stuck_at i) ms e = cc
 complete_back f (complete ns) ms e = (ns, refl, (cc))

@@ -1,5 +1,5 @@
 -- What the reading of the forms promises, by its answer.
-use Rattle.std.specs.Prelude.{◌≡◌, List, ◌∷◌, ℕ, ◌≤◌, length}
+use Rattle.std.specs.Prelude.{◌≡◌, List, ◌∷◌, ℕ, ◌≤◌, length, Result, Ok, Err}
 use Rattle.numbers.specs.Limits.{parameter_limit}
 use Rattle.definition_rules.specs.Scan.{items_of}
 use Rattle.definition_rules.specs.Declarations.{Noted, stuck_at, complete}
@@ -7,8 +7,8 @@ use Rattle.definition_rules.specs.Faults.{faults4}
 use Rattle.definition_rules.specs.Compile.{least_of, token_place, token_places, outcome_of}
 use Rattle.definition_cells.specs.Cells.{noted_from}
 use Rattle.definition_forms.specs.Placed.{placed}
-use Rattle.definition_forms.specs.declared.Formed.{Formed}
-use Rattle.definition_forms.specs.declared.Formed.TheVariants.{Stuck, Over, Complete}
+use Rattle.numbers.specs.declared.Rule.TheVariants.{DefinitionForms, ParameterCount}
+use Rattle.numbers.specs.declared.Refusal.{Refusal}
 
 -- 3: the tokens don't fit, from the token at p on
 pub record StuckIn (text : List ℕ) (p : ℕ) : Type 0 where
@@ -32,7 +32,17 @@ pub record CompleteIn (text cells : List ℕ) (n : ℕ) : Type 0 where
   pub counted : length list ≡ n
   pub kept : noted_from text cells n 0 ≡ placed text list
 
-abbrev pub FormedAs : List ℕ → List ℕ → Formed → Type 0
-FormedAs text cells (Stuck p) = StuckIn text p
-FormedAs text cells (Over p) = OverIn text p
-FormedAs text cells (Complete n) = CompleteIn text cells n
+-- what a refusal says of a text
+pub data RefusedAs (text : List ℕ) (r : Refusal) : Type 0 where
+  stuck_in : r.rule ≡ DefinitionForms → StuckIn text r.place → RefusedAs text r
+  over_in : r.rule ≡ ParameterCount → OverIn text r.place → RefusedAs text r
+
+abbrev pub FormedAs : List ℕ → List ℕ → Result ℕ Refusal → Type 0
+FormedAs text cells (Ok n) = CompleteIn text cells n
+FormedAs text cells (Err r) = RefusedAs text r
+
+abbrev pub stuck : ℕ → Refusal
+stuck p = record { rule = DefinitionForms; place = p }
+
+abbrev pub over : ℕ → Refusal
+over p = record { rule = ParameterCount; place = p }

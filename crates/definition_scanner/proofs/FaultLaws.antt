@@ -1,6 +1,7 @@
 -- Refusal 2: the first fault in the text is the least, a law for each answer.
 use mathlib.Core.Path.{◌≡◌, refl, ap, sym, ◌∙◌}
 use mathlib.Core.Bool.{Bool, true, false, ◌&&◌}
+use Rattle.std.specs.Prelude.{Some, None}
 use mathlib.Core.List.{List, [], ◌∷◌, ◌++◌}
 use Prim.Native.Nat.{ℕ, suc, ◌-◌, ◌≤◌, min}
 use native.Mathlib.Omega.{arith}
@@ -14,7 +15,6 @@ use Rattle.definition_scanner.specs.Live.{live_from}
 use Rattle.definition_scanner.specs.Lexed.{RunAt, MarkAt, BadAt}
 use Rattle.definition_scanner.specs.First.{faults_from}
 use Rattle.definition_cells.specs.Places.{least_place}
-use Rattle.definition_cells.specs.declared.Place.TheVariants.{Nowhere, At}
 use Rattle.definition_scanner.proofs.LiveLaws.{bad_live, deep_live, live_ahead, AtLeast, ahead_bad, ahead_deep}
 
 pub least_same : (p : ℕ) (r : List ℕ) → AtLeast p r → least_of p r ≡ p
@@ -28,10 +28,10 @@ least_later x p [] ys h a b = let e : min x p ≡ p = omega arith in ap (λ m. l
 least_later x p (q ∷ xs) ys h a b = least_later (min x q) p xs ys (omega (arith, a.0)) a.1 b
 
 -- a place that none of the others comes before
-pub first_there : (p : ℕ) (xs ys : List ℕ) → AtLeast p xs → AtLeast p ys → least_place (xs ++ p ∷ ys) ≡ At p
+pub first_there : (p : ℕ) (xs ys : List ℕ) → AtLeast p xs → AtLeast p ys → least_place (xs ++ p ∷ ys) ≡ Some p
 unfolding least_place All
-first_there p [] ys a b = ap At (least_same p ys b)
-first_there p (x ∷ xs) ys a b = ap At (least_later x p xs ys a.0 a.1 b)
+first_there p [] ys a b = ap Some (least_same p ys b)
+first_there p (x ∷ xs) ys a b = ap Some (least_later x p xs ys a.0 a.1 b)
 
 all_append : (P : ℕ → Type 0) (xs ys : List ℕ) → All P xs → All P ys → All P (xs ++ ys)
 unfolding All
@@ -43,11 +43,11 @@ unfolding faults2 faults_from
 all_faults text = sym (rw (bad_live (items_of text), deep_live 0 (items_of text)))
 
 module _ (text : List ℕ) (at d : ℕ) where
-  pub fault_end : live_from text at ≡ [] → Nowhere ≡ least_place (faults_from text at d)
+  pub fault_end : live_from text at ≡ [] → None ≡ least_place (faults_from text at d)
   unfolding faults_from bad_places deep_places least_place
   fault_end e = rw e
 
-  pub fault_bad : {p : ℕ} → BadAt text at p → At p ≡ least_place (faults_from text at d)
+  pub fault_bad : {p : ℕ} → BadAt text at p → Some p ≡ least_place (faults_from text at d)
   unfolding faults_from bad_places deep_places
   fault_bad {p} b = rw b.cut (sym (first_there p [] (bad_places b.rest ++ deep_places d b.rest) (unfold All in tt) (all_append (λ q. p ≤ q) _ _ (ahead_bad p b.rest b.later) (ahead_deep p d b.rest b.later))))
 
@@ -59,7 +59,7 @@ module _ (text : List ℕ) (at d : ℕ) where
   unfolding faults_from bad_places deep_places place_if
   fault_mark m t = rw (m.cut, t)
 
-  pub fault_deep : {b a e : ℕ} → MarkAt text at b a e → is_deep_brace d b ≡ true → At a ≡ least_place (faults_from text at d)
+  pub fault_deep : {b a e : ℕ} → MarkAt text at b a e → is_deep_brace d b ≡ true → Some a ≡ least_place (faults_from text at d)
   unfolding faults_from bad_places deep_places place_if
   fault_deep {b} {a} {e} m t =
       let l = live_ahead a text e (omega (arith, m.next)) in

@@ -19,8 +19,8 @@ use Rattle.definition_scanner.specs.Live.{live, live_from, Ahead}
 use Rattle.definition_scanner.specs.Lexed.{LineEnded, CommentEnded, RunAt, MarkAt, BadAt, Lexed, Passed, LexTurned}
 use Rattle.definition_scanner.specs.declared.Lexeme.{Lexeme}
 use Rattle.definition_scanner.specs.declared.Lexeme.TheVariants.{Run, Mark, Bad, End}
-use Rattle.definition_scanner.specs.declared.Turn.{Turn}
-use Rattle.definition_scanner.specs.declared.Turn.TheVariants.{Out}
+use Rattle.std.specs.declared.ops.ControlFlow.{ControlFlow}
+use Rattle.std.specs.declared.ops.ControlFlow.TheVariants.{Break}
 use Rattle.definition_scanner.proofs.LiveLaws.{live_ahead}
 
 -- ---- what a byte begins
@@ -233,7 +233,7 @@ along_start text at = record { same = refl; after = omega arith }
 pub along_on : {text : List ℕ} {from at e : ℕ} → Along text from at → Passed text at e → Along text from e
 along_on i p = record { same = i.same ∙ p.same; after = omega (arith, i.after, p.after) }
 
-pub along_out : {text : List ℕ} {from at : ℕ} → Along text from at → (t : Turn) (x : Lexeme) → t ≡ Out x → LexTurned text at t → Lexed text from x
+pub along_out : {text : List ℕ} {from at : ℕ} → Along text from at → (t : ControlFlow Lexeme ℕ) (x : Lexeme) → t ≡ Break x → LexTurned text at t → Lexed text from x
 along_out {text} {from} {at} i t x e l = by x (rw e at l)
   where
     by : (x : Lexeme) → Lexed text at x → Lexed text from x

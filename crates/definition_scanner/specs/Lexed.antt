@@ -1,15 +1,13 @@
 -- What the cursor promises of a token: it is the first of the items from where it stood, and where the next ones begin.
-use Rattle.std.specs.Prelude.{◌≡◌, List, [], ◌∷◌, ℕ, suc, ◌≤◌, ◌<◌, length, drop, true}
+use Rattle.std.specs.Prelude.{◌≡◌, List, [], ◌∷◌, ℕ, suc, ◌≤◌, ◌<◌, length, drop, true, Option, Some, None}
 use Rattle.classes.specs.Lists.{part}
 use Rattle.classes.specs.Bytes.{is_mark}
 use Rattle.definition_rules.specs.Scan.{Item, item, bad, run, mark, outside, line_comment, comment, scan}
 use Rattle.definition_scanner.specs.Live.{live_from, Ahead}
 use Rattle.definition_scanner.specs.declared.Lexeme.{Lexeme}
 use Rattle.definition_scanner.specs.declared.Lexeme.TheVariants.{Run, Mark, Bad, End}
-use Rattle.definition_scanner.specs.declared.Turn.{Turn}
-use Rattle.definition_scanner.specs.declared.Turn.TheVariants.{On, Out}
-use Rattle.definition_scanner.specs.declared.Comment.{Comment}
-use Rattle.definition_scanner.specs.declared.Comment.TheVariants.{Ends, Endless}
+use Rattle.std.specs.declared.ops.ControlFlow.{ControlFlow}
+use Rattle.std.specs.declared.ops.ControlFlow.TheVariants.{Continue, Break}
 
 pub record LineEnded (text : List ℕ) (from e : ℕ) : Type 0 where
   pub same : scan line_comment from (drop from text) ≡ scan outside e (drop e text)
@@ -21,9 +19,9 @@ pub record CommentEnded (text : List ℕ) (from e : ℕ) : Type 0 where
   pub after : from ≤ e
   pub within : e ≤ length text
 
-abbrev pub CommentClosed : List ℕ → ℕ → Comment → Type 0
-CommentClosed text from (Ends e) = CommentEnded text from e
-CommentClosed text from Endless = (q : ℕ) → scan (comment q) from (drop from text) ≡ bad q ∷ []
+abbrev pub CommentClosed : List ℕ → ℕ → Option ℕ → Type 0
+CommentClosed text from (Some e) = CommentEnded text from e
+CommentClosed text from None = (q : ℕ) → scan (comment q) from (drop from text) ≡ bad q ∷ []
 
 pub record RunAt (text : List ℕ) (at a e : ℕ) : Type 0 where
   pub cut : live_from text at ≡ item a (run (part text a e)) ∷ live_from text e
@@ -56,6 +54,6 @@ pub record Passed (text : List ℕ) (at e : ℕ) : Type 0 where
   pub after : at < e
   pub within : e ≤ length text
 
-abbrev pub LexTurned : List ℕ → ℕ → Turn → Type 0
-LexTurned text at (On e) = Passed text at e
-LexTurned text at (Out x) = Lexed text at x
+abbrev pub LexTurned : List ℕ → ℕ → ControlFlow Lexeme ℕ → Type 0
+LexTurned text at (Continue e) = Passed text at e
+LexTurned text at (Break x) = Lexed text at x

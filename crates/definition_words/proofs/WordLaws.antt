@@ -1,55 +1,36 @@
--- Steps of the questions about a run, said of plain lists.
-use Prim.Native.Nat.{ℕ, ◌+◌, ◌≤◌, ◌<◌}
+-- Laws of the questions about a run, said of plain lists.
+use Prim.Native.Nat.{ℕ, suc}
 use mathlib.Core.Bool.{Bool, true, false}
 use mathlib.Core.List.{List, [], ◌∷◌}
 use mathlib.Core.Path.{◌≡◌, refl, sym}
-use native.Mathlib.Numerals.{add-one}
 use native.Mathlib.Omega.{arith}
-use borrow.Author.Tests.{eq-eqb, ne_eqb, eqb-true, eqb-false, le-leb, lt-leb}
-use lib.Dec.{eqb}
-use lib.ListN.{length, get_or, drop, drop_of_length-le}
-use lib.Seq.{drop-cons}
-use Rattle.classes.specs.Lists.{some, not_empty, same_bytes, pick}
-use Rattle.classes.specs.Bytes.{is_letter}
-use Rattle.definition_rules.specs.Words.{starts_with_letter, kind_takes_range}
-use Rattle.definition_rules.specs.Records.{kind_least, kind_most}
+use borrow.Author.Tests.{eq-eqb, ne_eqb, eqb-true, eqb-false, lt-ltb}
+use lib.Dec.{eqb, ltb}
+use lib.ListN.{length}
+use Rattle.classes.specs.Lists.{not_empty, same_bytes}
+use Rattle.classes.proofs.Rows.{same_length}
+use Rattle.definition_rules.specs.Words.{kw_void, kw_bool, kw_int, kw_ascii, kw_unquoted, kw_date, kw_time, kw_struct, kw_union, kind_of_run, number_in, number_if}
 
--- ---- a byte that some byte of a row is
-
-module _ (f : ℕ → Bool) (s : List ℕ) (i : ℕ) where
-  pub some_more : i < length s → f (get_or s i 0) ≡ false → some f (drop i s) ≡ some f (drop (i + 1) s)
-  unfolding some
-  some_more h t = rw (add-one, drop-cons s i 0, t)
-
-  pub some_stop : i < length s → f (get_or s i 0) ≡ true → some f (drop i s) ≡ true
-  unfolding some
-  some_stop h t = rw (drop-cons s i 0, t)
-
-  pub some_end : length s ≤ i → some f (drop i s) ≡ false
-  unfolding some
-  some_end h = rw (drop_of_length-le s h)
-
--- ---- the first byte
-
-pub starts_none : (w : List ℕ) → length w ≡ 0 → starts_with_letter w ≡ false
-unfolding starts_with_letter
-starts_none [] h = refl
-starts_none (b ∷ w) h = absurd (omega arith)
-
-pub starts_first : (w : List ℕ) → (length w ≡ 0 → ⊥) → starts_with_letter w ≡ is_letter (get_or w 0 0)
-unfolding starts_with_letter
-starts_first [] h = absurd (h refl)
-starts_first (b ∷ w) h = refl
-
-pub empty_none : (w : List ℕ) → length w ≡ 0 → not_empty w ≡ false
+pub some_bytes : (w : List ℕ) → not_empty w ≡ ltb 0 (length w)
 unfolding not_empty
-empty_none [] h = refl
-empty_none (b ∷ w) h = absurd (omega arith)
+some_bytes [] = refl
+some_bytes (b ∷ w) = rw (lt-ltb 0 (suc (length w)) (omega arith))
 
-pub empty_some : (w : List ℕ) → (length w ≡ 0 → ⊥) → not_empty w ≡ true
-unfolding not_empty
-empty_some [] h = absurd (h refl)
-empty_some (b ∷ w) h = refl
+-- a run that is as long as no type keyword
+pub kind_far : (w : List ℕ) → (length w ≡ 3 → ⊥) → (length w ≡ 4 → ⊥) → (length w ≡ 5 → ⊥) → (length w ≡ 6 → ⊥) → (length w ≡ 14 → ⊥) → 10 ≡ kind_of_run w
+unfolding kind_of_run number_in number_if
+kind_far w three four five six long =
+    rw (
+      same_length kw_void w (λ e. four (sym e)),
+      same_length kw_bool w (λ e. four (sym e)),
+      same_length kw_int w (λ e. three (sym e)),
+      same_length kw_ascii w (λ e. five (sym e)),
+      same_length kw_unquoted w (λ e. long (sym e)),
+      same_length kw_date w (λ e. four (sym e)),
+      same_length kw_time w (λ e. four (sym e)),
+      same_length kw_struct w (λ e. six (sym e)),
+      same_length kw_union w (λ e. five (sym e)),
+    )
 
 -- ---- equality of rows goes both ways
 
@@ -66,34 +47,3 @@ same_sym [] [] = refl
 same_sym [] (b ∷ l) = refl
 same_sym (a ∷ k) [] = refl
 same_sym (a ∷ k) (b ∷ l) = rw (eqb_sym a b, same_sym k l)
-
--- ---- the bounds of a kind, a law for each path
-
-module _ (k : ℕ) where
-  pub least_int : k ≡ 3 → 0 ≡ kind_least k
-  unfolding kind_least pick
-  least_int h = rw (eq-eqb k 3 h)
-
-  pub least_one : (k ≡ 3 → ⊥) → k ≡ 5 → 0x8000_0001 ≡ kind_least k
-  unfolding kind_least pick
-  least_one g h = rw (ne_eqb k 3 g, eq-eqb k 5 h)
-
-  pub least_none : (k ≡ 3 → ⊥) → (k ≡ 5 → ⊥) → 0x8000_0000 ≡ kind_least k
-  unfolding kind_least pick
-  least_none g h = rw (ne_eqb k 3 g, ne_eqb k 5 h)
-
-  pub most_int : k ≡ 3 → 0xFFFF_FFFF ≡ kind_most k
-  unfolding kind_most pick
-  most_int h = rw (eq-eqb k 3 h)
-
-  pub most_below : (k ≡ 3 → ⊥) → k < 3 → 0x8000_0000 ≡ kind_most k
-  unfolding kind_most kind_takes_range pick
-  most_below g h = rw (ne_eqb k 3 g, lt-leb 3 k h)
-
-  pub most_length : (k ≡ 3 → ⊥) → 3 ≤ k → k ≤ 5 → 0x8000_0400 ≡ kind_most k
-  unfolding kind_most kind_takes_range pick
-  most_length g a b = rw (ne_eqb k 3 g, le-leb 3 k a, le-leb k 5 b)
-
-  pub most_above : (k ≡ 3 → ⊥) → 3 ≤ k → 5 < k → 0x8000_0000 ≡ kind_most k
-  unfolding kind_most kind_takes_range pick
-  most_above g a b = rw (ne_eqb k 3 g, le-leb 3 k a, lt-leb k 5 b)

@@ -1,51 +1,28 @@
 // Runs of a definition: the kind that a type run names, keywords, the forms of names and tags.
 #![tactic(auto)]
 
-ghost use Rattle.std.specs.Prelude.{◌≡◌, [], ◌∷◌};
-ghost use Rattle.classes.specs.Bytes.{is_name_byte, is_tag_byte};
-ghost use Rattle.classes.specs.Lists.{every, same_bytes};
-ghost use Rattle.definition_rules.specs.Words.{kw_as, kw_plugin, kw_date, kw_time, kw_struct, kw_union, number_in, kind_of_run, is_keyword, starts_with_letter, name_form, tag_form, has_dot};
+ghost use Rattle.std.specs.Prelude.{◌≡◌};
+ghost use Rattle.classes.specs.Lists.{same_bytes};
+ghost use Rattle.definition_rules.specs.Words.{kw_as, kw_plugin, kind_of_run, is_keyword, starts_with_letter, name_form, tag_form, has_dot};
 ghost use Rattle.definition_rules.specs.Records.{kind_least, kind_most};
 
-// 6 to 9 for the last type keywords, 10 for any other run.
-fn later_kind(w: &[u8]) -> u32
-    ensures { result ≡ number_in (kw_date ∷ kw_time ∷ kw_struct ∷ kw_union ∷ []) 6 w.now }
-{
-    if classes::same_bytes(b"date", w) {
-        return numbers::DATE;
-    }
-    if classes::same_bytes(b"time", w) {
-        return numbers::TIME;
-    }
-    if classes::same_bytes(b"struct", w) {
-        return numbers::STRUCT;
-    }
-    if classes::same_bytes(b"union", w) {
-        return numbers::UNION;
-    }
-    numbers::REFERENCE
-}
-
 // 1 to 9 for a type keyword, 10 for a reference.
+#[tactic(auto, unfolding(definition_rules::specs::Words::kind_of_run, definition_rules::specs::Words::number_in, definition_rules::specs::Words::number_if, classes::specs::Lists::same_bytes))]
 pub fn kind_of_run(w: &[u8]) -> u32
     ensures { result ≡ kind_of_run w.now }
 {
-    if classes::same_bytes(b"void", w) {
-        return numbers::VOID;
+    match w {
+        b"void" => numbers::VOID,
+        b"bool" => numbers::BOOL,
+        b"int" => numbers::INT,
+        b"ascii" => numbers::ASCII,
+        b"unquoted-ascii" => numbers::UNQUOTED,
+        b"date" => numbers::DATE,
+        b"time" => numbers::TIME,
+        b"struct" => numbers::STRUCT,
+        b"union" => numbers::UNION,
+        _ => numbers::REFERENCE,
     }
-    if classes::same_bytes(b"bool", w) {
-        return numbers::BOOL;
-    }
-    if classes::same_bytes(b"int", w) {
-        return numbers::INT;
-    }
-    if classes::same_bytes(b"ascii", w) {
-        return numbers::ASCII;
-    }
-    if classes::same_bytes(b"unquoted-ascii", w) {
-        return numbers::UNQUOTED;
-    }
-    later_kind(w)
 }
 
 // The least length of an unquoted value, and the largest of any, counted from the least i32.
@@ -54,32 +31,27 @@ const UNQUOTED_LEAST: u32 = numbers::BIAS + 1;
 const LENGTH_MOST: u32 = numbers::BIAS + numbers::LENGTH_LIMIT;
 
 // What a range of a kind may not lie below, counted from the least i32: 0 itself for kinds without a range.
+#[tactic(auto, unfolding(definition_rules::specs::Records::kind_least, classes::specs::Lists::pick))]
 pub fn kind_least(k: u32) -> u32
     ensures { result ≡ kind_least k }
 {
-    if k == numbers::INT {
-        return 0;
+    match k {
+        numbers::INT => 0,
+        numbers::UNQUOTED => UNQUOTED_LEAST,
+        _ => numbers::BIAS,
     }
-    if k == numbers::UNQUOTED {
-        return UNQUOTED_LEAST;
-    }
-    numbers::BIAS
 }
 
 // What it may not exceed.
+#[tactic(auto, unfolding(definition_rules::specs::Records::kind_most, definition_rules::specs::Words::kind_takes_range, classes::specs::Lists::pick))]
 pub fn kind_most(k: u32) -> u32
     ensures { result ≡ kind_most k }
 {
-    if k == numbers::INT {
-        return numbers::INT_MOST;
+    match k {
+        numbers::INT => numbers::INT_MOST,
+        numbers::ASCII | numbers::UNQUOTED => LENGTH_MOST,
+        _ => numbers::BIAS,
     }
-    if k < numbers::INT {
-        return numbers::BIAS;
-    }
-    if k <= numbers::UNQUOTED {
-        return LENGTH_MOST;
-    }
-    numbers::BIAS
 }
 
 pub fn is_as(w: &[u8]) -> bool
@@ -95,91 +67,37 @@ pub fn is_plugin(w: &[u8]) -> bool
 }
 
 // A type keyword, as or plugin.
+#[tactic(auto, unfolding(definition_rules::specs::Words::is_keyword))]
 pub fn is_keyword(w: &[u8]) -> bool
     ensures { result ≡ is_keyword w.now }
 {
-    if kind_of_run(w) < numbers::REFERENCE {
-        return true;
-    }
-    if is_as(w) {
-        return true;
-    }
-    is_plugin(w)
+    (kind_of_run(w) < numbers::REFERENCE) | is_as(w) | is_plugin(w)
 }
 
+#[tactic(auto, unfolding(definition_rules::specs::Words::starts_with_letter))]
 fn starts_with_letter(w: &[u8]) -> bool
     ensures { result ≡ starts_with_letter w.now }
 {
-    if w.len() == 0 {
-        return false;
-    }
-    classes::is_letter(w[0])
-}
-
-fn all_name_bytes(w: &[u8]) -> bool
-    ensures { result ≡ every is_name_byte w.now }
-{
-    let mut i: usize = 0;
-    while i < w.len() {
-        if !classes::is_name_byte(w[i]) {
-            return false;
-        }
-        i += 1;
-    }
-    true
-}
-
-fn all_tag_bytes(w: &[u8]) -> bool
-    ensures { result ≡ every is_tag_byte w.now }
-{
-    let mut i: usize = 0;
-    while i < w.len() {
-        if !classes::is_tag_byte(w[i]) {
-            return false;
-        }
-        i += 1;
-    }
-    true
+    w.first().is_some_and(|b| classes::is_letter(*b))
 }
 
 // A letter, then letters, digits, - and _; 1 to 63 bytes; no keyword.
 pub fn name_form(w: &[u8]) -> bool
     ensures { result ≡ name_form w.now }
 {
-    if !starts_with_letter(w) {
-        return false;
-    }
-    if !all_name_bytes(w) {
-        return false;
-    }
-    if numbers::LABEL_LIMIT < w.len() {
-        return false;
-    }
-    !is_keyword(w)
+    let is_short = w.len() <= numbers::LABEL_LIMIT;
+    starts_with_letter(w) & w.iter().all(|b| classes::is_name_byte(*b)) & is_short & !is_keyword(w)
 }
 
 // 1 to 63 letters, digits, - _ and dots.
 pub fn tag_form(w: &[u8]) -> bool
     ensures { result ≡ tag_form w.now }
 {
-    if w.len() == 0 {
-        return false;
-    }
-    if !all_tag_bytes(w) {
-        return false;
-    }
-    w.len() <= numbers::LABEL_LIMIT
+    (0 < w.len()) & w.iter().all(|b| classes::is_tag_byte(*b)) & (w.len() <= numbers::LABEL_LIMIT)
 }
 
 pub fn has_dot(w: &[u8]) -> bool
     ensures { result ≡ has_dot w.now }
 {
-    let mut i: usize = 0;
-    while i < w.len() {
-        if w[i] == b'.' {
-            return true;
-        }
-        i += 1;
-    }
-    false
+    w.contains(&b'.')
 }

@@ -1,4 +1,5 @@
 -- The numbers of a declaration's record fit the widths that the table gives them. Assumes nothing.
+use Rattle.std.specs.Prelude.{None}
 use mathlib.Core.Path.{◌≡◌, refl, ap}
 use mathlib.Core.Bool.{Bool, true, false, not, ◌&&◌}
 use mathlib.Core.List.{List, [], ◌∷◌, ◌++◌}
@@ -22,7 +23,6 @@ use Rattle.definition_rules.specs.Declarations.{Declaration, Spots, Noted, noted
 use Rattle.definition_rules.specs.Records.{kind_least, kind_most, limits_of, count_range_of, top_names, is_named, find_top, or_none, target_of, label_of, record_for, records_for, records_of}
 use Rattle.definition_rules.specs.Table.{up_number, number_up, Storable}
 use Rattle.definition_rules.specs.Faults.{spots_where, name_broken, tag_broken, tag_broken_in, reference_broken, faults5}
-use Rattle.definition_cells.specs.declared.Place.TheVariants.{Nowhere}
 use Rattle.definition_cells.specs.Cells.{cell_at, run_at, tag_at, maybe_run_at, noted_at, noted_from}
 use Rattle.definition_cells.specs.Places.{least_place}
 use Rattle.definition_headings.specs.Heads.{declared_kind, label_at, names_from}
@@ -231,7 +231,7 @@ label_short n own_name h e = name_short n h
 label_short n tagless h e = name_short n h
 label_short n (explicit v) h e = tag_short v (not-false (tag_form v) e)
 
-pub labels_short : (t cs : List ℕ) (n : ℕ) → least_place (faults5 (noted_from t cs n 0)) ≡ Nowhere → (i : ℕ) → i < n → length (label_at t cs i) ≤ label_limit
+pub labels_short : (t cs : List ℕ) (n : ℕ) → least_place (faults5 (noted_from t cs n 0)) ≡ None → (i : ℕ) → i < n → length (label_at t cs i) ≤ label_limit
 labels_short t cs n e i h =
     label_short (run_at t cs i 4) (tag_at t cs i)
     (not-false (name_form (run_at t cs i 4)) (name (both_nil A (B ++ C) (least_none (A ++ (B ++ C)) e)).0))

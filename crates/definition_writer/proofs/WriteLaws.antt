@@ -2,15 +2,16 @@
 use mathlib.Core.Path.{◌≡◌, refl, sym, ap, ◌∙◌}
 use mathlib.Core.Bool.{Bool, true, false}
 use mathlib.Core.List.{List, [], ◌∷◌, ◌++◌}
-use Prim.Native.Nat.{ℕ, suc, ◌+◌, ◌-◌, ◌*◌, ◌%◌, ◌<◌, ◌≤◌}
+use Prim.Native.Nat.{ℕ, suc, ◌+◌, ◌-◌, ◌%◌, ◌<◌, ◌≤◌, min}
 use native.Mathlib.Numerals.{add-one}
 use native.Mathlib.Nat.{zero-add}
 use native.Mathlib.Omega.{arith}
-use lib.Dec.{eqb}
-use lib.ListN.{length, get_or, take, drop, set, length-append, length-drop, length-take}
-use lib.Seq.{sets, take-suc, length-take-le, sets-eq}
-use borrow.Author.Tests.{eqb-true}
-use Rattle.classes.proofs.Stores.{sets_append}
+use lib.Dec.{eqb, leb}
+use lib.ListN.{length, take, drop, length-append, length-drop, length-take, take-append-drop}
+use lib.Seq.{sets, length-take-le, take-length, length-sets, drop-drop, sets-eq}
+use borrow.Author.Tests.{eqb-true, leb-true, leb-false}
+use Rattle.std.proofs.Common.{append_assoc}
+use Rattle.classes.proofs.Stores.{sets_append, sets_out}
 use Rattle.classes.specs.Lists.{pick, part}
 use Rattle.numbers.specs.LittleEndian.{put16, put32, signed, set16, set32}
 use Rattle.numbers.specs.Range.{MaybeRange, low_of, high_of}
@@ -18,7 +19,7 @@ use Rattle.reading_rules.specs.Record.{Record}
 use Rattle.definition_rules.specs.Forms.{own_name, tagless, explicit}
 use Rattle.definition_rules.specs.Declarations.{Noted, noted, declarations_of}
 use Rattle.definition_rules.specs.Records.{record_for, records_for, records_of, is_tagless, label_of}
-use Rattle.definition_rules.specs.Table.{bit, flags_number, encode_record, encode}
+use Rattle.definition_rules.specs.Table.{flags_number, encode_record, encode}
 use Rattle.definition_cells.specs.Cells.{cell_at, run_at, tag_at, noted_at, noted_from}
 use Rattle.definition_cells.proofs.CellLaws.{noted_more, noted_end, noted_all}
 use Rattle.definition_headings.specs.Heads.{declared_kind, limits_at, counts_at, label_at, target_at, names_from}
@@ -41,34 +42,40 @@ set_four l at v =
     let p : at + 2 ≡ suc (suc at) = omega arith in
     rw (p, add-one (suc (suc at)), add-one at)
 
-pub copy_more : (l s : List ℕ) (at i : ℕ) → i < length s → set (sets l at (take i s)) (at + i) (get_or s i 0) ≡ sets l at (take (i + 1) s)
-copy_more l s at i h =
-    let p : length (take i s) ≡ i = length-take-le i s (omega arith) in
-    let q : sets (sets l at (take i s)) (at + length (take i s)) (get_or s i 0 ∷ []) ≡ sets l at (take i s ++ (get_or s i 0 ∷ [])) = sets_append (take i s) (get_or s i 0 ∷ []) l at in
-    rw (add-one i, take-suc s i 0 h) (rw p at q)
+-- as many bytes of s as the row has room for from a place on, stored there
+module _ (l s : List ℕ) (at n : ℕ) (e : n ≡ min (length s) (length l - at)) where
+  stored_all : sets l at (take n s) ≡ sets l at s
+  stored_all = by (leb (length s) n) refl
+    where
+      by : (b : Bool) → leb (length s) n ≡ b → sets l at (take n s) ≡ sets l at s
+      by true q = let p : n ≡ length s = omega (arith, leb-true (length s) n q) in rw p (ap (sets l at) (take-length s))
+      by false q =
+          let p : length (take n s) ≡ n = length-take-le n s (omega arith) in
+          let r : sets (sets l at (take n s)) (at + length (take n s)) (drop n s) ≡ sets l at (take n s ++ drop n s) = sets_append (take n s) (drop n s) l at in
+          sym (sets_out (drop n s) (sets l at (take n s)) (at + length (take n s)) (omega (arith, p, length-sets l at (take n s), leb-false (length s) n q)))
+          ∙ (r ∙ ap (sets l at) (take-append-drop n s))
 
--- the front of a table, copied
-pub copy_front : (s p d e : List ℕ) (len : ℕ) → p ≡ part s 0 len → e ≡ sets d 0 p → e ≡ sets d 0 (take len s)
-copy_front s p d e len ep ee = let q : len - 0 ≡ len = omega arith in ee ∙ rw (ep, q)
+  stored_within : at ≤ length l → take at l ++ (take n s ++ drop n (drop at l)) ≡ sets l at s
+  stored_within h =
+      let p : length (take n s) ≡ n = length-take-le n s (omega arith) in
+      let q : sets l at (take n s) ≡ take at l ++ (take n s ++ drop (at + length (take n s)) l) = rw append_assoc at (sets-eq (take n s) l at (omega (arith, p))) in
+      rw (drop-drop n at l) (sym (rw p at q)) ∙ stored_all
+
+pub stored : (l s x : List ℕ) (at a n k : ℕ) → a ≡ min at (length l) → n ≡ min (length s) (length l - a) → k ≡ n → x ≡ take n s → take a l ++ (x ++ drop k (drop a l)) ≡ sets l at s
+stored l s x at a n k ea en ek ex = by (leb at (length l)) refl
+  where
+    by : (b : Bool) → leb at (length l) ≡ b → take a l ++ (x ++ drop k (drop a l)) ≡ sets l at s
+    by true q = let p : a ≡ at = omega (arith, leb-true at (length l) q) in rw (ek, ex, p) (stored_within l s at n (rw p at en) (leb-true at (length l) q))
+    by false q =
+        let p : a ≡ length l = omega (arith, leb-false at (length l) q) in
+        rw (ek, ex) (stored_within l s a n en (omega arith))
+        ∙ (sets_out s l a (omega arith) ∙ sym (sets_out s l at (omega (arith, leb-false at (length l) q))))
 
 -- where both are long enough
 pub copied : (s d : List ℕ) (len : ℕ) → len ≤ length s → len ≤ length d → sets d 0 (take len s) ≡ take len s ++ drop len d
 copied s d len h g = let q : length (take len s) ≡ len = length-take-le len s h in rw q at (sets_front (take len s) d (omega (arith, q)))
 
 -- ---- one record
-
-pub bit_one : (b : Bool) → b ≡ true → (1 ≡ bit b) × (1 ≤ 1)
-unfolding bit
-bit_one b e = (rw e, omega arith)
-
-pub bit_none : (b : Bool) → b ≡ false → (0 ≡ bit b) × (0 ≤ 1)
-unfolding bit
-bit_none b e = (rw e, omega arith)
-
-pub flags_are : (cs : List ℕ) (i a b c x y z : ℕ) → a ≡ cell_at cs i 12 → b ≡ cell_at cs i 14 → c ≡ cell_at cs i 13 → x ≡ bit (eqb a 1) → y ≡ bit (eqb b 1) → z ≡ bit (eqb c 1)
-    → x + 2 * y + 4 * z ≡ flags_number (eqb (cell_at cs i 12) 1) (eqb (cell_at cs i 14) 1) (eqb (cell_at cs i 13) 1)
-unfolding flags_number
-flags_are cs i a b c x y z ea eb ec ex ey ez = rw (ex, ey, ez, ea, eb, ec)
 
 tagless_is : (t cs : List ℕ) (i : ℕ) → is_tagless (tag_at t cs i) ≡ eqb (cell_at cs i 12) 1
 unfolding tag_at
@@ -115,9 +122,6 @@ label_within t cs i = by (eqb (cell_at cs i 12) 0) (eqb (cell_at cs i 12) 1)
     by true b = unfold pick label_of in one (cell_at cs i 4) (cell_at cs i (4 + 1))
     by false true = unfold pick label_of in one (cell_at cs i 4) (cell_at cs i (4 + 1))
     by false false = unfold pick label_of in one (cell_at cs i 8) (cell_at cs i (8 + 1))
-
-pub length_is : (t cs s : List ℕ) (i : ℕ) → s ≡ label_at t cs i → length t ≤ 65535 → (24 + length s ≡ 24 + length (label_at t cs i)) × (24 + length s ≤ 65559)
-length_is t cs s i e h = (rw e, omega (arith, ap length e, label_within t cs i))
 
 -- ---- all records
 

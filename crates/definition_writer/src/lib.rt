@@ -5,14 +5,17 @@ ghost use Rattle.std.specs.Prelude.{◌≡◌, [], ◌+◌, ◌≤◌, ◌%◌, 
 ghost use Rattle.std.proofs.lemmas.List.Edits.{sets};
 ghost use Rattle.numbers.specs.Limits.{text_limit, parameter_limit};
 ghost use Rattle.numbers.specs.LittleEndian.{put16, put32, signed};
-ghost use Rattle.definition_rules.specs.Table.{bit as bit_of, flags_number};
+ghost use Rattle.definition_rules.specs.Table.{flags_number};
 ghost use Rattle.definition_cells.specs.Cells.{cell_at, tagged_cell, plugged_cell, extended_cell};
 ghost use Rattle.definition_headings.specs.Heads.{label_at};
 ghost use Rattle.definition_writer.specs.Written.{record_written, records_written, low16, cut_bytes, WroteRecords};
 
+use definition_cells::Declarations;
+
 // ---- numbers and bytes; nothing is written past the end
 
 // Writes the low 16 bits of a number.
+#[tactic(auto, using(crate::proofs::WriteLaws::set_two))]
 fn put_cut(table: &mut [u8], at: usize, x: usize)
     ensures { table.new ≡ sets table.old at (put16 (low16 x) []) }
 {
@@ -20,6 +23,7 @@ fn put_cut(table: &mut [u8], at: usize, x: usize)
 }
 
 // Writes an i32 that is counted from the least.
+#[tactic(auto, using(crate::proofs::WriteLaws::set_four))]
 fn put_limit(table: &mut [u8], at: usize, v: u32)
     ensures { table.new ≡ sets table.old at (put32 (signed v) []) }
 {
@@ -30,26 +34,12 @@ fn put_limit(table: &mut [u8], at: usize, v: u32)
 fn put_bytes(table: &mut [u8], at: usize, s: &[u8])
     ensures { table.new ≡ sets table.old at s.now }
 {
-    if table.len() <= at {
-        return;
-    }
-    let mut i: usize = 0;
-    while i < s.len() {
-        numbers::set_byte(table, at + i, s[i]);
-        i += 1;
-    }
+    let start = at.min(table.len());
+    let len = s.len().min(table.len() - start);
+    table[start..start + len].copy_from_slice(&s[..len]);
 }
 
 // ---- one record
-
-fn bit(b: bool) -> usize
-    ensures { (result ≡ bit_of b) × (result ≤ 1) }
-{
-    if b {
-        return 1;
-    }
-    0
-}
 
 // What each flag adds.
 const EXTENSION: usize = numbers::EXTENSION as usize;
@@ -57,39 +47,34 @@ const EXTENSION: usize = numbers::EXTENSION as usize;
 const PLUGIN: usize = numbers::PLUGIN as usize;
 
 // Untagged, directly in an extension, plugin.
-fn flags(cells: &[u32], i: usize) -> usize
-    ensures { result ≡ flags_number (eqb (cell_at cells.now i tagged_cell) 1) (eqb (cell_at cells.now i extended_cell) 1) (eqb (cell_at cells.now i plugged_cell) 1) }
+#[tactic(auto, unfolding(definition_rules::specs::Table::flags_number, definition_rules::specs::Table::bit))]
+fn flags(noted: &Declarations, i: usize) -> usize
+    ensures { result ≡ flags_number (eqb (cell_at noted.now.cells.now i tagged_cell) 1) (eqb (cell_at noted.now.cells.now i extended_cell) 1) (eqb (cell_at noted.now.cells.now i plugged_cell) 1) }
 {
-    let untagged = bit(
-        definition_cells::cell(cells, i, definition_cells::TAGGED) == definition_cells::TAGLESS,
-    );
-    let extension = bit(
-        definition_cells::cell(cells, i, definition_cells::EXTENDED) == definition_cells::GIVEN,
-    );
-    let plugin = bit(
-        definition_cells::cell(cells, i, definition_cells::PLUGGED) == definition_cells::GIVEN,
-    );
-    untagged + EXTENSION * extension + PLUGIN * plugin
+    let untagged = noted.cell(i, definition_cells::TAGGED) == definition_cells::TAGLESS;
+    let extension = noted.cell(i, definition_cells::EXTENDED) == definition_cells::GIVEN;
+    let plugin = noted.cell(i, definition_cells::PLUGGED) == definition_cells::GIVEN;
+    usize::from(untagged) + EXTENSION * usize::from(extension) + PLUGIN * usize::from(plugin)
 }
 
-fn write_record(text: &[u8], cells: &[u32], n: usize, i: usize, table: &mut [u8], at: usize)
-    ensures { table.new ≡ sets table.old at (cut_bytes (record_written text.now cells.now n i)) }
+fn write_record(noted: &Declarations, i: usize, table: &mut [u8], at: usize)
+    ensures { table.new ≡ sets table.old at (cut_bytes (record_written noted.now.text.now noted.now.cells.now noted.now.count i)) }
 {
     if table.len() <= at {
         return;
     }
-    let label = definition_headings::label(text, cells, i);
+    let label = definition_headings::label(noted, i);
     let len = label.len() % 65536;
-    let kind = definition_headings::kind(text, cells, i) as usize;
-    let parent = definition_cells::cell(cells, i, definition_cells::PARENT) as usize;
-    let flags = flags(cells, i);
-    let counts = definition_headings::counts(text, cells, i);
+    let kind = definition_headings::kind(noted, i) as usize;
+    let parent = noted.cell(i, definition_cells::PARENT) as usize;
+    let flags = flags(noted, i);
+    let counts = definition_headings::counts(noted, i);
     let lo = definition_headings::low(counts) as usize;
     let hi = definition_headings::high(counts) as usize;
-    let limits = definition_headings::limits(text, cells, i);
+    let limits = definition_headings::limits(noted, i);
     let least = definition_headings::low(limits);
     let most = definition_headings::high(limits);
-    let target = definition_headings::target(text, cells, n, i);
+    let target = definition_headings::target(noted, i);
     put_cut(table, at, numbers::RECORD_HEADER + len);
     put_cut(table, at + numbers::KIND_AT, kind);
     put_cut(table, at + numbers::PARENT_AT, parent);
@@ -106,26 +91,24 @@ fn write_record(text: &[u8], cells: &[u32], n: usize, i: usize, table: &mut [u8]
 // ---- all records
 
 // How long a record is.
-fn record_length(text: &[u8], cells: &[u32], i: usize) -> usize
-    requires { length text.now ≤ text_limit }
-    ensures { (result ≡ 24 + length (label_at text.now cells.now i)) × (result ≤ 65559) }
+#[tactic(auto, using(crate::proofs::WriteLaws::label_within))]
+fn record_length(noted: &Declarations, i: usize) -> usize
+    requires { length noted.now.text.now ≤ text_limit }
+    ensures { (result ≡ 24 + length (label_at noted.now.text.now noted.now.cells.now i)) × (result ≤ 65559) }
 {
-    let label = definition_headings::label(text, cells, i);
-    numbers::RECORD_HEADER + label.len()
+    numbers::RECORD_HEADER + definition_headings::label(noted, i).len()
 }
 
 // Writes the records one after the other; gives the length of all.
 // The sizes are those that the first and the fourth refusal leave: with them the length is a number of 32 bits.
-pub fn write_records(text: &[u8], cells: &[u32], n: usize, table: &mut [u8]) -> usize
-    requires { (n ≤ parameter_limit) × (length text.now ≤ text_limit) }
-    ensures { WroteRecords (records_written text.now cells.now n) result table.old table.new }
+pub fn write_records(noted: &Declarations, table: &mut [u8]) -> usize
+    requires { (noted.now.count ≤ parameter_limit) × (length noted.now.text.now ≤ text_limit) }
+    ensures { WroteRecords (records_written noted.now.text.now noted.now.cells.now noted.now.count) result table.old table.new }
 {
-    let mut i: usize = 0;
-    let mut at: usize = 0;
-    while i < n {
-        write_record(text, cells, n, i, table, at);
-        at += record_length(text, cells, i);
-        i += 1;
+    let mut at = 0;
+    for i in 0..noted.count {
+        write_record(noted, i, table, at);
+        at += record_length(noted, i);
     }
     at
 }

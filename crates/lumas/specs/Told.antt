@@ -1,9 +1,20 @@
 -- What a caller in another language is told: the paper's number, 0 for success, and one value.
-use Rattle.std.specs.Prelude.{◌≡◌, List, ℕ, zero, suc, ◌+◌, ◌*◌, ◌≤◌, ◌<◌, length, take, drop, get_or}
+use Rattle.numbers.specs.Rules.{rule_number}
+use Rattle.numbers.specs.declared.Refusal.{Refusal}
+use Rattle.std.specs.Prelude.{Result, Ok, Err, ◌≡◌, List, ℕ, zero, suc, ◌+◌, ◌*◌, ◌≤◌, ◌<◌, length, take, drop, get_or}
 use Rattle.numbers.specs.Limits.{parameter_limit, row_width}
 use Rattle.definition_rules.specs.Compile as compiler
 use Rattle.message_rules.specs.Verdict as reader
 use Rattle.message_rules.specs.RowBytes.{row_bytes}
+
+-- the number of an answer, 0 for success, and the value that goes with it
+abbrev pub number_told : Result ℕ Refusal → ℕ
+number_told (Ok n) = 0
+number_told (Err r) = rule_number r.rule
+
+abbrev pub value_told : Result ℕ Refusal → ℕ
+value_told (Ok n) = n
+value_told (Err r) = r.place
 
 -- "Success gives the table's length", a refusal its place
 unfoldable pub compile_value : compiler.CompileAnswer → ℕ

@@ -19,17 +19,17 @@ use Rattle.message_rules.specs.Verdict.{RoomFree, fault, rows, outcome, place_of
 use Rattle.message_rules.proofs.RowLaws.{message_counted, cells_counted}
 use Rattle.message_tokens.specs.Cursor.{lexemes_at}
 use Rattle.message_tokens.specs.Scanned.{fault_of}
-use Rattle.message_tokens.specs.declared.Scanned.{Scanned}
-use Rattle.message_tokens.specs.declared.Scanned.TheVariants.{Clean, Fault}
 use Rattle.message_tokens.proofs.CutAt.{cut_start}
 use Rattle.message_unknown.proofs.AlongLaws.{place_left}
 use Rattle.message_rows.proofs.Stores.{rows_append}
 use Rattle.message_lookup.specs.Questions.{schema_at}
-use Rattle.message_frame.specs.declared.Got.{Got}
-use Rattle.message_frame.specs.declared.Got.TheVariants as got
-use Rattle.message_frame.specs.Ends.{Room, Ends}
-use Rattle.message.specs.Reads.{root_frame, reading, Rows, RowsCounted, Fills}
-use Rattle.message.specs.declared.Verdict.TheVariants.{Refused}
+use Rattle.std.specs.Prelude.{Result as Answer, Ok, Err, Option, Some, None}
+use Rattle.numbers.specs.Rules.{rule_number}
+use Rattle.numbers.specs.declared.Refusal.{Refusal}
+use Rattle.message_unknown.specs.Along.{Stopped}
+use Rattle.message_frame.specs.declared.Done.{Done}
+use Rattle.message_frame.specs.Ends.{Room, Ended, Ends}
+use Rattle.message.specs.Reads.{root_frame, reading, Rows, Fills}
 
 -- ---- a row's bytes
 row_there : (len row : ℕ) → row < len / row_width → row_width * row + row_width ≤ len
@@ -71,23 +71,26 @@ module _ (t o : List ℕ) (n : ℕ) (m : List ℕ) (before after : List ℕ) whe
   reading_is : reading t o n m ≡ outcome m (lexemes_at 0 m 0) (body_at (schema_at t o n) 17 false 0 (tokens_of (lexemes_at 0 m 0)))
   reading_is = ap (λ x. outcome m x (body_at (schema_at t o n) 17 false 0 (tokens_of x))) start
 
-  pub counted : (r : Got) → Ends (body_at (schema_at t o n) 17 false 0 (tokens_of (lexemes_at 0 m 0))) m root_frame before after 0 r → RowsCounted (reading t o n m) r
+  pub counted : (d : Done) → Ended (body_at (schema_at t o n) 17 false 0 (tokens_of (lexemes_at 0 m 0))) m root_frame before after 0 d.past.at d.row → Rows (reading t o n m) d.row
   unfolding outcome
-  counted (got.Done u k) h =
+  counted d h =
       let e : reading t o n m ≡ rows (message_rows m (lexemes_at 0 m 0) h.read.tree) = reading_is ∙ ap (outcome m (lexemes_at 0 m 0)) h.read.is in
       record { all = message_rows m (lexemes_at 0 m 0) h.read.tree; is = e; counted = omega (arith, h.read.sized, message_counted m (lexemes_at 0 m 0) h.read.tree) }
-  counted (got.Refused k q) h =
+
+  pub refused_at : (k q : ℕ) → Stopped (body_at (schema_at t o n) 17 false 0 (tokens_of (lexemes_at 0 m 0))) (lexemes_at 0 m 0) (0 + length m) k q → reading t o n m ≡ fault k q
+  unfolding outcome
+  refused_at k q h =
       let p : place_of_left m (lexemes_at 0 m 0) (tokens_of h.rest) ≡ q = place_left m (lexemes_at 0 m 0) h.rest h.along ∙ sym (rw (zero-add (length m)) at h.place) in
       reading_is ∙ (ap (outcome m (lexemes_at 0 m 0)) h.is ∙ ap (fault k) p)
 
-  pub filled : (lent : List ℕ) (r : Got) → before ≡ sets lent (row_width * 0) (cells (record { parameter = 0; parent = no_row; start = 0; end = length m; index = 0 } ∷ [])) → Ends (body_at (schema_at t o n) 17 false 0 (tokens_of (lexemes_at 0 m 0))) m root_frame before after 0 r → Fills (reading t o n m) lent after
+  pub filled : (lent : List ℕ) (r : Answer Done Refusal) → before ≡ sets lent (row_width * 0) (cells (record { parameter = 0; parent = no_row; start = 0; end = length m; index = 0 } ∷ [])) → Ends (body_at (schema_at t o n) 17 false 0 (tokens_of (lexemes_at 0 m 0))) m root_frame before after 0 r → Fills (reading t o n m) lent after
   unfolding outcome message_rows
-  filled lent (got.Done u k) b h rs e =
+  filled lent (Ok d) b h rs e =
       let z : rows rs ≡ rows (message_rows m (lexemes_at 0 m 0) h.read.tree) = sym e ∙ (reading_is ∙ ap (outcome m (lexemes_at 0 m 0)) h.read.is) in
       let y : rs ≡ message_rows m (lexemes_at 0 m 0) h.read.tree = cc in
       rw y (h.read.written ∙ rw b (rows_append lent 0 1 (record { parameter = 0; parent = no_row; start = 0; end = length m; index = 0 } ∷ []) (rows_of (lexemes_at 0 m 0) h.read.tree 0 1 0 0 0) refl))
-  filled lent (got.Refused k q) b h rs e =
-      let z : rows rs ≡ fault k (place_of_left m (lexemes_at 0 m 0) (tokens_of h.rest)) = sym e ∙ (reading_is ∙ ap (outcome m (lexemes_at 0 m 0)) h.is) in
+  filled lent (Err x) b h rs e =
+      let z : rows rs ≡ fault (rule_number x.rule) (place_of_left m (lexemes_at 0 m 0) (tokens_of h.rest)) = sym e ∙ (reading_is ∙ ap (outcome m (lexemes_at 0 m 0)) h.is) in
       let y : ◌≡◌ {A = ℕ} 0 1 = cc in absurd (omega arith)
 
 -- ---- the room
@@ -137,11 +140,11 @@ module _ (table : List ℕ) (o : List ℕ) (n : ℕ) (m : List ℕ) where
   unfolding room_free
   scanned h = rw (le-leb (length m) message_limit h, room_free) refl
 
-  pub bad_byte_lem : (r : Scanned) (at : ℕ) → length m ≤ message_limit → fault_of r ≡ scan_fault (cut m) → r ≡ Fault at → room_free (records_at table o n) m ≡ fault 22 at
+  pub bad_byte_lem : (r : Option ℕ) (at : ℕ) → length m ≤ message_limit → fault_of r ≡ scan_fault (cut m) → r ≡ Some at → room_free (records_at table o n) m ≡ fault 22 at
   unfolding after_scan
   bad_byte_lem r at h e q = scanned h ∙ ap (after_scan (schema_of (records_at table o n)) m (cut m).lexemes) (sym e ∙ ap fault_of q)
 
-  pub no_bad : (r : Scanned) → length m ≤ message_limit → fault_of r ≡ scan_fault (cut m) → r ≡ Clean → room_free (records_at table o n) m ≡ reading table o n m
+  pub no_bad : (r : Option ℕ) → length m ≤ message_limit → fault_of r ≡ scan_fault (cut m) → r ≡ None → room_free (records_at table o n) m ≡ reading table o n m
   unfolding after_scan
   no_bad r h e q = scanned h ∙ ap (after_scan (schema_of (records_at table o n)) m (cut m).lexemes) (sym e ∙ ap fault_of q)
 

@@ -3,26 +3,19 @@
 
 ghost use Rattle.std.specs.Prelude.{◌≡◌, [], ◌≤◌, ◌<◌, length};
 ghost use Rattle.numbers.specs.Limits.{message_limit, parameter_limit};
-ghost use Rattle.table_records.specs.Stored.{records_at};
+ghost use Rattle.table_records.specs.Shown.{records_of};
 ghost use Rattle.table_tags.specs.Search.{Searchable};
 ghost use Rattle.table_walk.specs.Walked.{Enough};
 ghost use Rattle.message_rules.specs.RowBytes.{row_bytes, row_start, further};
 ghost use Rattle.message_rules.specs.Rows.{Row};
 ghost use Rattle.message_rules.specs.Verdict.{room_free, with_room, written, read_answer, rows_after};
 ghost use Rattle.message_rules.specs.Promise.{ReadPromise};
-ghost use Rattle.message.specs.Reads.{answer_of_read, root_frame, reading, RowsCounted, Fills};
+ghost use Rattle.message.specs.Reads.{answer_of_read, root_frame, reading_of, RowsCounted, Fills};
 
-use message_frame::{Frame, Got};
+use message_frame::Frame;
 use message_rows::Row;
-use message_tokens::Scanned;
-use table_walk::Walk;
-
-// The rows' count, or a number and a place.
-#[derive(Clone, Copy)]
-pub enum Verdict {
-    Accepted(usize),
-    Refused(u32, usize),
-}
+use numbers::{Refusal, Rule};
+use table_records::Records;
 
 // The empty part, at the message's start.
 fn empty_part<'a>(message: &'a [u8]) -> &'a [u8]
@@ -40,8 +33,8 @@ pub fn row_bytes<'a>(message: &'a [u8], rows: &[u32], row: usize) -> &'a [u8]
     if rows.len() / numbers::ROW_WIDTH <= row {
         return empty_part(message);
     }
-    let start = numbers::u32_as_usize(rows[numbers::ROW_WIDTH * row + numbers::ROW_START]);
-    let end = numbers::u32_as_usize(rows[numbers::ROW_WIDTH * row + numbers::ROW_END]);
+    let start = rows[numbers::ROW_WIDTH * row + numbers::ROW_START] as usize;
+    let end = rows[numbers::ROW_WIDTH * row + numbers::ROW_END] as usize;
     if end < start {
         return empty_part(message);
     }
@@ -70,20 +63,21 @@ fn root() -> Frame
 }
 
 // The first pass, over no rows: how many there are, or the refusal. The records are at most 256, as a table's are.
-fn count(table: &[u8], unpacked: &[u32], n: usize, message: &[u8], rows: &mut [u32]) -> Got
-    requires message_len_bound { (length message.now ≤ message_limit) × (n ≤ parameter_limit) }
-    requires searchable { Searchable table.now unpacked.now n }
-    ensures rows_counted { RowsCounted (reading table.now unpacked.now n message.now) result }
+fn count(records: &Records, message: &[u8], rows: &mut [u32]) -> Result<usize, Refusal>
+    requires message_len_bound { (length message.now ≤ message_limit) × (records.now.count ≤ parameter_limit) }
+    requires searchable { Searchable records.now.table.now records.now.unpacked.now records.now.count }
+    ensures rows_counted { RowsCounted (reading_of records.now message.now) result }
     ensures rows_unchanged { rows.new ≡ rows.old }
 {
-    message_reader::body(table, unpacked, n, message, &mut rows[0..0], root(), false)
+    let done = message_reader::body(records, message, &mut rows[0..0], root(), false)?;
+    Ok(done.row)
 }
 
 // The second pass, which fills the rows.
-fn fill(table: &[u8], unpacked: &[u32], n: usize, message: &[u8], rows: &mut [u32])
-    requires message_len_bound { (length message.now ≤ message_limit) × (n ≤ parameter_limit) }
-    requires searchable { Searchable table.now unpacked.now n }
-    ensures { Fills (reading table.now unpacked.now n message.now) rows.old rows.new }
+fn fill(records: &Records, message: &[u8], rows: &mut [u32])
+    requires message_len_bound { (length message.now ≤ message_limit) × (records.now.count ≤ parameter_limit) }
+    requires searchable { Searchable records.now.table.now records.now.unpacked.now records.now.count }
+    ensures { Fills (reading_of records.now message.now) rows.old rows.new }
 {
     message_rows::put_row(
         rows,
@@ -96,87 +90,90 @@ fn fill(table: &[u8], unpacked: &[u32], n: usize, message: &[u8], rows: &mut [u3
             index: 0,
         },
     );
-    message_reader::body(table, unpacked, n, message, rows, root(), false);
+    let _ = message_reader::body(records, message, rows, root(), false);
 }
 
-// A message read by the n unpacked records of the table: 21, 22, then the leftmost of 23 to 28 and 30, then 29.
+// A message read by a table's records: 21, 22, then the leftmost of 23 to 28 and 30, then 29.
 // The records are at most 256, as a table's are.
-fn read_records(
-    table: &[u8],
-    unpacked: &[u32],
-    n: usize,
-    message: &[u8],
-    rows: &mut [u32],
-) -> Verdict
-    requires { (n ≤ parameter_limit) × Searchable table.now unpacked.now n }
-    ensures result_value { answer_of_read result ≡ with_room (length rows.old) (room_free (records_at table.now unpacked.now n) message.now) }
-    ensures rows_after { rows.new ≡ written rows.old (room_free (records_at table.now unpacked.now n) message.now) }
+fn read_records(records: &Records, message: &[u8], rows: &mut [u32]) -> Result<usize, Refusal>
+    requires { (records.now.count ≤ parameter_limit) × Searchable records.now.table.now records.now.unpacked.now records.now.count }
+    ensures result_value { answer_of_read result ≡ with_room (length rows.old) (room_free (records_of records.now) message.now) }
+    ensures rows_after { rows.new ≡ written rows.old (room_free (records_of records.now) message.now) }
 {
     let is_long = numbers::MESSAGE_LIMIT < message.len();
     if is_long {
-        return Verdict::Refused(21, numbers::MESSAGE_LIMIT);
+        return Err(Refusal {
+            rule: Rule::MessageLength,
+            place: numbers::MESSAGE_LIMIT,
+        });
     }
     match message_tokens::scan_fault(message) {
-        Scanned::Fault(at) => {
-            return Verdict::Refused(22, at);
-        }
-        Scanned::Clean => {
-            return read_tokens(table, unpacked, n, message, rows);
-        }
+        Some(place) => Err(Refusal {
+            rule: Rule::MessageTokens,
+            place,
+        }),
+        None => read_tokens(records, message, rows),
     }
 }
 
 // The same for a message that has no number 22.
-fn read_tokens(
-    table: &[u8],
-    unpacked: &[u32],
-    n: usize,
-    message: &[u8],
-    rows: &mut [u32],
-) -> Verdict
-    requires message_len_bound { (length message.now ≤ message_limit) × (n ≤ parameter_limit) }
-    requires searchable { Searchable table.now unpacked.now n }
-    ensures result_value { answer_of_read result ≡ with_room (length rows.old) (reading table.now unpacked.now n message.now) }
-    ensures rows_after { rows.new ≡ written rows.old (reading table.now unpacked.now n message.now) }
+fn read_tokens(records: &Records, message: &[u8], rows: &mut [u32]) -> Result<usize, Refusal>
+    requires message_len_bound { (length message.now ≤ message_limit) × (records.now.count ≤ parameter_limit) }
+    requires searchable { Searchable records.now.table.now records.now.unpacked.now records.now.count }
+    ensures result_value { answer_of_read result ≡ with_room (length rows.old) (reading_of records.now message.now) }
+    ensures rows_after { rows.new ≡ written rows.old (reading_of records.now message.now) }
 {
-    match count(table, unpacked, n, message, rows) {
-        Got::Done(_, m) => {
-            if rows.len() / numbers::ROW_WIDTH < m {
-                return Verdict::Refused(29, m);
-            }
-            fill(table, unpacked, n, message, rows);
-            return Verdict::Accepted(m);
-        }
-        Got::Refused(k, q) => {
-            return Verdict::Refused(k, q);
-        }
+    let m = count(records, message, rows)?;
+    if rows.len() / numbers::ROW_WIDTH < m {
+        return Err(Refusal {
+            rule: Rule::RowRoom,
+            place: m,
+        });
     }
+    fill(records, message, rows);
+    Ok(m)
 }
 
 // The same with cells lent, which are enough for the table's records: number 20 first.
-fn read_with(table: &[u8], unpacked: &mut [u32], message: &[u8], rows: &mut [u32]) -> Verdict
+fn read_with(
+    table: &[u8],
+    unpacked: &mut [u32],
+    message: &[u8],
+    rows: &mut [u32],
+) -> Result<usize, Refusal>
     requires { Enough (length table.now) (length unpacked.old) }
     ensures result_value { answer_of_read result ≡ read_answer table.now message.now (length rows.old) }
     ensures rows_after { rows.new ≡ rows_after table.now message.now rows.old }
 {
-    match table::checked(table, unpacked) {
-        Walk::Count(n) => read_records(table, unpacked, n, message, rows),
-        Walk::Bad => Verdict::Refused(20, 0),
-    }
+    let Some(count) = table::checked(table, unpacked) else {
+        return Err(Refusal {
+            rule: Rule::Table,
+            place: 0,
+        });
+    };
+    read_records(
+        &Records {
+            table,
+            unpacked,
+            count,
+        },
+        message,
+        rows,
+    )
 }
 
 // Reads a message by a table. The answer and the lent numbers after are those of the definitions, and they mean what the
 // paper asks: 20 exactly when no definition compiles to the table; accepted exactly when a lawful reading exists and its
 // rows fit, with that reading's rows; never a second reading; 29 with the number of rows that don't fit; else no lawful reading.
-pub fn read(table: &[u8], message: &[u8], rows: &mut [u32]) -> Verdict
+pub fn read(table: &[u8], message: &[u8], rows: &mut [u32]) -> Result<usize, Refusal>
     ensures result_value { answer_of_read result ≡ read_answer table.now message.now (length rows.old) }
     ensures rows_after { rows.new ≡ rows_after table.now message.now rows.old }
     ensures read_promise { ReadPromise table.now message.now rows.old (answer_of_read result) rows.new }
 {
     if table.len() <= table::FEW_BYTES {
-        let mut few = table::few_cells();
+        let mut few = [0u32; table::FEW_CELLS];
         return read_with(table, &mut few, message, rows);
     }
-    let mut many = table::many_cells();
+    let mut many = [0u32; table_records::ALL_CELLS];
     read_with(table, &mut many, message, rows)
 }

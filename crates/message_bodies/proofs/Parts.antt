@@ -2,12 +2,20 @@
 use mathlib.Core.Path.{◌≡◌, refl, sym, ap, ◌∙◌}
 use mathlib.Core.Bool.{Bool, true, false, not}
 use mathlib.Core.List.{List, [], ◌∷◌}
-use Prim.Native.Nat.{ℕ, zero, suc, ◌+◌, ◌-◌, ◌≤◌}
+use Prim.Native.Nat.{ℕ, zero, suc, ◌+◌, ◌-◌, ◌≤◌, ◌<◌}
 use native.Mathlib.Omega.{arith}
 use lib.Dec.{eqb}
 use lib.ListN.{length, drop, get_or}
 use lib.Seq.{drop-drop}
 use borrow.Author.Tests.{ne_eqb, eq-eqb}
+use Rattle.std.specs.Prelude.{Result as Answer, Ok, Err, Option, Some}
+use Rattle.numbers.specs.Rules.{rule_number}
+use Rattle.numbers.specs.declared.Rule.{Rule}
+use Rattle.numbers.specs.declared.Rule.TheVariants.{MessageForms, FieldMissing}
+use Rattle.numbers.specs.declared.Refusal.{Refusal}
+use Rattle.table_records.specs.declared.Records.{Records}
+use Rattle.message_tokens.specs.declared.TokenKind.{TokenKind}
+use Rattle.message_tokens.specs.declared.TokenKind.TheVariants.{Nothing, Word, String, Equals, Comma, Opening, Closing}
 use Rattle.reading_rules.specs.Token.{Token, word, string, equals, comma, opening, closing}
 use Rattle.reading_rules.specs.Schema.{Schema, is_void, nowhere, found}
 use Rattle.reading_rules.specs.Count.{all_in}
@@ -20,18 +28,19 @@ use Rattle.message_rules.specs.Rows.{rows_of, cells}
 use Rattle.reading_rules.proofs.Sound.{unknowns_sound}
 use Rattle.reading_rules.proofs.Complete.{leaves_width}
 use Rattle.message_tokens.specs.Cursor.{part, cut_at, lexemes_at, Step}
-use Rattle.message_tokens.specs.Head.{token_kind, HeadAt}
+use Rattle.message_tokens.specs.Head.{token_kind, kind_number, HeadAt}
 use Rattle.message_tokens.specs.declared.Head.{Head}
+use Rattle.message_tokens.specs.declared.Cursor.{Cursor}
 use Rattle.message_tokens.proofs.Heads.{head_kind, head_not, step_tokens, step_left, step_within}
 use Rattle.message_unknown.specs.Along.{here, tokens_at, Stopped}
-use Rattle.message_unknown.specs.Passing.{left_of, PassedUpTo, Halted}
+use Rattle.message_unknown.specs.Passing.{left_of, PassedUpTo, Halted, PassesTo}
 use Rattle.message_unknown.proofs.AlongLaws.{tail_trans, tail_drop, tokens_length, step_tail}
 use Rattle.message_unknown.proofs.Steps.{left_got, left_refused}
-use Rattle.message_lookup.specs.Questions.{schema_at}
+use Rattle.message_lookup.specs.Questions.{schema_of_records, judged}
 use Rattle.message_lookup.specs.Seen.{Marks}
 use Rattle.message_lookup.proofs.Laws.{find_below}
 use Rattle.message_frame.specs.Ends.{Values, end_of}
-use Rattle.message_bodies.specs.Bodies.{end_number_at, end_at, VoidItem, ListItem, Passes, ItemFor, Skips, UnknownAt, KnownList, KnownAt}
+use Rattle.message_bodies.specs.Bodies.{end_number_at, end_at, end_of_body, end_answer, end_or, VoidItem, ListItem, Passes, ItemFor, Skips, UnknownAt, KnownList, KnownAt}
 use Rattle.message_frame.specs.declared.Frame.{Frame}
 use Rattle.message_bodies.specs.declared.Item.{Item}
 use Rattle.message_bodies.specs.declared.Item.TheVariants as item
@@ -39,29 +48,44 @@ use Rattle.message_frame.proofs.GoingLaws.{stopped_before, then_refused, then_go
 use Rattle.message_frame.proofs.AtToken.{stop_here, stop_at, step_of_equals, equals_none}
 
 -- ---- the end of a body
-pub end_barred : (b c : Bool) → b ≡ true → 23 ≡ end_number_at b c
-unfolding end_number_at
-end_barred b c e = rw e refl
+end_number_lem : (i c : Bool) → judged (end_of_body i c) ≡ end_number_at i c
+unfolding end_of_body end_number_at
+end_number_lem true c = refl
+end_number_lem false true = refl
+end_number_lem false false = refl
 
-pub end_whole : (b c : Bool) → b ≡ false → c ≡ true → 0 ≡ end_number_at b c
-unfolding end_number_at
-end_whole b c e g = rw (e, g) refl
+pub end_answered : (k : TokenKind) (i c : Bool) (d : ℕ) {r : Option (Answer Unit Rule)} → r ≡ end_answer k i c → end_or d r ≡ end_at (kind_number k) i c d
+unfolding end_answer end_at
+end_answered k i c d e = rw e (go k)
+  where
+    go : (k : TokenKind) → end_or d (end_answer k i c) ≡ end_at (kind_number k) i c d
+    go Nothing = end_number_lem i c
+    go Closing = end_number_lem (not i) c
+    go Word = refl
+    go String = refl
+    go Equals = refl
+    go Comma = refl
+    go Opening = refl
 
-pub end_lacking : (b c : Bool) → b ≡ false → c ≡ false → 27 ≡ end_number_at b c
-unfolding end_number_at
-end_lacking b c e g = rw (e, g) refl
+-- what is broken there has a number above those of an end and of another token
+end_broken_lem : (i c : Bool) (x : Rule) → end_of_body i c ≡ Err x → 1 < rule_number x
+unfolding end_of_body
+end_broken_lem true c x e = let q : MessageForms ≡ x = cc in rw (← q) (omega arith)
+end_broken_lem false true x e = let z : ◌≡◌ {A = ℕ} 0 1 = cc in absurd (omega arith)
+end_broken_lem false false x e = let q : FieldMissing ≡ x = cc in rw (← q) (omega arith)
 
-pub end_none : (k : ℕ) (i c : Bool) (d n : ℕ) → k ≡ 0 → n ≡ end_number_at i c → n ≡ end_at k i c d
-unfolding end_at
-end_none k i c d n e m = rw (e, m) refl
-
-pub end_closing : (k : ℕ) (i c : Bool) (d n : ℕ) → k ≡ 6 → n ≡ end_number_at (not i) c → n ≡ end_at k i c d
-unfolding end_at
-end_closing k i c d n e m = rw (e, m) refl
-
-pub end_other : (k : ℕ) (i c : Bool) (d : ℕ) → (k ≡ 0 → ⊥) → (k ≡ 6 → ⊥) → d ≡ end_at k i c d
-unfolding end_at
-end_other k i c d a b = rw (ne_eqb k 0 a, ne_eqb k 6 b, end_at) refl
+pub end_broken : (k : TokenKind) (i c : Bool) (x : Rule) {r : Option (Answer Unit Rule)} → r ≡ end_answer k i c → r ≡ Some (Err x) → 1 < rule_number x
+unfolding end_answer
+end_broken k i c x e f = go k (sym e ∙ f)
+  where
+    go : (k : TokenKind) → end_answer k i c ≡ Some (Err x) → 1 < rule_number x
+    go Nothing q = end_broken_lem i c x (let h : end_of_body i c ≡ Err x = cc in h)
+    go Closing q = end_broken_lem (not i) c x (let h : end_of_body (not i) c ≡ Err x = cc in h)
+    go Word q = let z : ◌≡◌ {A = ℕ} 0 1 = cc in absurd (omega arith)
+    go String q = let z : ◌≡◌ {A = ℕ} 0 1 = cc in absurd (omega arith)
+    go Equals q = let z : ◌≡◌ {A = ℕ} 0 1 = cc in absurd (omega arith)
+    go Comma q = let z : ◌≡◌ {A = ℕ} 0 1 = cc in absurd (omega arith)
+    go Opening q = let z : ◌≡◌ {A = ℕ} 0 1 = cc in absurd (omega arith)
 
 -- the parser's number, by the kind of what stands there
 end_nothing : (i c : Bool) → end_number i c [] ≡ end_number_at i c
@@ -122,7 +146,7 @@ module _ (S : Schema) (Vs : Values) (inside : Bool) where
   lists_end p q qs (closing ∷ r) n a b = ends_by inside (eqb (S.lo q) 0) stopped (closing ∷ r) n (end_token_lem inside (eqb (S.lo q) 0) closing r ∙ a)
 
 -- the head of an untagged field's place; number is the code's
-module _ (S : Schema) (s : List ℕ) (f : Frame) (inside : Bool) (h : Head) (g : HeadAt f.base s f.at h) (complete : Bool) (number : ℕ) (c : complete ≡ eqb (S.lo f.parameter) 0) (m : number ≡ end_at h.kind inside complete 1) where
+module _ (S : Schema) (s : List ℕ) (f : Frame) (inside : Bool) (h : Head) (g : HeadAt f.base s f.at h) (complete : Bool) (number : ℕ) (c : complete ≡ eqb (S.lo f.parameter) 0) (m : number ≡ end_at (kind_number h.kind) inside complete 1) where
   same_number : end_at (token_kind (tokens_at f.base s f.at)) inside (eqb (S.lo f.parameter) 0) 1 ≡ number
   same_number = rw (head_kind f.base s f.at h g, ← c) (sym m)
 
@@ -138,11 +162,11 @@ module _ (S : Schema) (s : List ℕ) (f : Frame) (inside : Bool) (h : Head) (g :
   field_stopped a b Vs p qs = stop_here (lists_at S Vs inside p (f.parameter ∷ qs) (tokens_at f.base s f.at)) f.base s f.at h number g (lists_end S Vs inside p f.parameter qs (tokens_at f.base s f.at) number same_number a ∙ rw (ne_eqb number 0 b) refl)
 
 -- ---- items
-module _ (S : Schema) (s : List ℕ) (f : Frame) (inside : Bool) (ks : List ℕ) (h : Head) (g : HeadAt f.base s f.at h) (complete : Bool) (number : ℕ) (c : complete ≡ all_in (required_of S (S.tagged f.parameter)) ks) (m : number ≡ end_at h.kind inside complete 23) (n : h.kind ≡ 1 → ⊥) where
+module _ (S : Schema) (s : List ℕ) (f : Frame) (inside : Bool) (ks : List ℕ) (h : Head) (g : HeadAt f.base s f.at h) (complete : Bool) (number : ℕ) (c : complete ≡ all_in (required_of S (S.tagged f.parameter)) ks) (m : number ≡ end_at (kind_number h.kind) inside complete 23) (n : h.kind ≡ Word → ⊥) where
   items_number : (Vs : Values) (fuel : ℕ) → items_at S Vs inside f.parameter (suc fuel) ks (tokens_at f.base s f.at) ≡ need (eqb number 0) number (tokens_at f.base s f.at) (got no_item) (tokens_at f.base s f.at)
   items_number Vs fuel =
       let e : end_at (token_kind (tokens_at f.base s f.at)) inside (all_in (required_of S (S.tagged f.parameter)) ks) 23 ≡ number = rw (head_kind f.base s f.at h g, ← c) (sym m) in
-      items_end S Vs inside f.parameter fuel ks (tokens_at f.base s f.at) (head_not f.base s f.at h g 1 n) ∙ rw e refl
+      items_end S Vs inside f.parameter fuel ks (tokens_at f.base s f.at) (head_not f.base s f.at h g Word n) ∙ rw e refl
 
   pub items_done : number ≡ 0 → (Vs : Values) (fuel : ℕ) → items_at S Vs inside f.parameter (suc fuel) ks (tokens_at f.base s f.at) ≡ got no_item (tokens_at f.base s f.at)
   unfolding need
@@ -164,24 +188,24 @@ alone next w (comma ∷ r) a = refl
 alone next w (closing ∷ r) a = refl
 
 module _ (base : ℕ) (s : List ℕ) (e : ℕ) (h : Head) (g : HeadAt base s e h) where
-  pub skip_word : (h.kind ≡ 3 → ⊥) → Skips s base e e
+  pub skip_word : (h.kind ≡ Equals → ⊥) → Skips s base e e
   unfolding width rows_of
   skip_word n = record {
     tokens = 0;
     left = refl;
     wrap = λ w i. unknown_item w i;
-    is = λ next w. alone next w (tokens_at base s e) (head_not base s e h g 3 n);
+    is = λ next w. alone next w (tokens_at base s e) (head_not base s e h g Equals n);
     wide = λ w t. omega arith;
     rows = λ w t x row p up j. refl;
     least = omega arith;
     within = λ k. k;
   }
 
-  listed_after : (next : List Token → Result (Tree items)) (w : List ℕ) → h.kind ≡ 3 → unknown_after next w (tokens_at base s e) ≡ then (unknowns_at (suc (length (tokens_at base s h.past.at))) (tokens_at base s h.past.at)) (λ l r. then (next r) (λ i z. got (unknown_list_item w l i) z))
+  listed_after : (next : List Token → Result (Tree items)) (w : List ℕ) → h.kind ≡ Equals → unknown_after next w (tokens_at base s e) ≡ then (unknowns_at (suc (length (tokens_at base s h.past.at))) (tokens_at base s h.past.at)) (λ l r. then (next r) (λ i z. got (unknown_list_item w l i) z))
   unfolding unknown_after
   listed_after next w q = rw (step_tokens base s e equals h.start h.past.at (step_of_equals base s e h g q)) refl
 
-  module _ (S : Schema) (q : h.kind ≡ 3) where
+  module _ (S : Schema) (q : h.kind ≡ Equals) where
     pub skip_list : (at : ℕ) → PassedUpTo (left_of (unknowns_at (suc (length (tokens_at base s h.past.at))) (tokens_at base s h.past.at))) base s h.past.at at → Skips s base e at
     unfolding width rows_of then
     skip_list at p =
@@ -213,18 +237,22 @@ module _ (base : ℕ) (s : List ℕ) (e : ℕ) (h : Head) (g : HeadAt base s e h
           place = r.place;
         }
 
+    pub skip_ends : (r : Answer Cursor Refusal) → PassesTo (left_of (unknowns_at (suc (length (tokens_at base s h.past.at))) (tokens_at base s h.past.at))) base s h.past.at r → UnknownAt s base e r
+    skip_ends (Ok v) p = skip_list v.at p
+    skip_ends (Err x) p = skip_stopped (rule_number x.rule) x.place p
+
 -- an item from its tag on
-module _ (t o : List ℕ) (n : ℕ) (s : List ℕ) (f : Frame) (inside : Bool) (seen : List Bool) (a e : ℕ) (h : Step (cut_at f.base s f.at) f.base s f.at (word (part s a e)) a e) where
-  item_found : (Vs : Values) (fuel : ℕ) (ks : List ℕ) → items_at (schema_at t o n) Vs inside f.parameter (suc fuel) ks (tokens_at f.base s f.at) ≡ item_at (schema_at t o n) Vs (items_at (schema_at t o n) Vs inside f.parameter fuel) ks (part s a e) ((schema_at t o n).find f.parameter (part s a e)) (tokens_at f.base s e)
+module _ (R : Records) (s : List ℕ) (f : Frame) (inside : Bool) (seen : List Bool) (a e : ℕ) (h : Step (cut_at f.base s f.at) f.base s f.at (word (part s a e)) a e) where
+  item_found : (Vs : Values) (fuel : ℕ) (ks : List ℕ) → items_at (schema_of_records R) Vs inside f.parameter (suc fuel) ks (tokens_at f.base s f.at) ≡ item_at (schema_of_records R) Vs (items_at (schema_of_records R) Vs inside f.parameter fuel) ks (part s a e) ((schema_of_records R).find f.parameter (part s a e)) (tokens_at f.base s e)
   unfolding items_at
   item_found Vs fuel ks = rw (step_tokens f.base s f.at (word (part s a e)) a e h) refl
 
-  module _ (c : (schema_at t o n).find f.parameter (part s a e) ≡ nowhere) where
-    item_unknown : (Vs : Values) (fuel : ℕ) (ks : List ℕ) → items_at (schema_at t o n) Vs inside f.parameter (suc fuel) ks (tokens_at f.base s f.at) ≡ unknown_after (items_at (schema_at t o n) Vs inside f.parameter fuel ks) (part s a e) (tokens_at f.base s e)
+  module _ (c : (schema_of_records R).find f.parameter (part s a e) ≡ nowhere) where
+    item_unknown : (Vs : Values) (fuel : ℕ) (ks : List ℕ) → items_at (schema_of_records R) Vs inside f.parameter (suc fuel) ks (tokens_at f.base s f.at) ≡ unknown_after (items_at (schema_of_records R) Vs inside f.parameter fuel ks) (part s a e) (tokens_at f.base s e)
     unfolding item_at
     item_unknown Vs fuel ks = item_found Vs fuel ks ∙ rw c refl
 
-    passes : (at : ℕ) (ks : List ℕ) → Skips s f.base e at → Passes (schema_at t o n) s f inside ks at
+    passes : (at : ℕ) (ks : List ℕ) → Skips s f.base e at → Passes (schema_of_records R) s f inside ks at
     unfolding cells
     passes at ks k =
         let b = step_within f.base s f.at (word (part s a e)) a e h in
@@ -233,10 +261,10 @@ module _ (t o : List ℕ) (n : ℕ) (s : List ℕ) (f : Frame) (inside : Bool) (
         let l : lexemes_at f.base s at ≡ drop (suc k.tokens) (lexemes_at f.base s f.at) = k.left ∙ (ap (drop k.tokens) x ∙ (drop-drop k.tokens 1 (lexemes_at f.base s f.at) ∙ ap (λ j. drop j (lexemes_at f.base s f.at)) one_more)) in
         record {
           going = λ Vs fuel row up j rows. going_step
-              (items_at (schema_at t o n) Vs inside f.parameter (suc fuel) ks (tokens_at f.base s f.at))
-              (items_at (schema_at t o n) Vs inside f.parameter fuel ks (tokens_at f.base s at))
+              (items_at (schema_of_records R) Vs inside f.parameter (suc fuel) ks (tokens_at f.base s f.at))
+              (items_at (schema_of_records R) Vs inside f.parameter fuel ks (tokens_at f.base s at))
               (lexemes_at f.base s f.at) (lexemes_at f.base s at) rows rows row f.parameter up j row j (k.wrap (part s a e)) (suc k.tokens) []
-              (item_unknown Vs fuel ks ∙ k.is (items_at (schema_at t o n) Vs inside f.parameter fuel ks) (part s a e))
+              (item_unknown Vs fuel ks ∙ k.is (items_at (schema_of_records R) Vs inside f.parameter fuel ks) (part s a e))
               l (k.wide (part s a e)) (λ i. k.rows (part s a e) i (lexemes_at f.base s f.at) row f.parameter up j) refl (omega arith);
           less = omega (arith, b.0, k.least);
           within = k.within b.1;
@@ -248,27 +276,26 @@ module _ (t o : List ℕ) (n : ℕ) (s : List ℕ) (f : Frame) (inside : Bool) (
         shorter (suc j) [] = omega arith
         shorter (suc j) (l ∷ x) = omega (arith, shorter j x)
 
-    pub unknown_ends : (r : Item) → UnknownAt s f.base e r → (ks : List ℕ) → Marks seen ks → ItemFor (schema_at t o n) n s f inside ks r
-    unknown_ends item.End k ks m = absurd k
-    unknown_ends (item.Void q b v) k ks m = absurd k
-    unknown_ends (item.List q v) k ks m = absurd k
-    unknown_ends (item.Unknown v) k ks m = passes v.at ks k
-    unknown_ends (item.Refused i q) k ks m = λ Vs fuel. stopped_before (lexemes_at f.base s f.at) (lexemes_at f.base s e) (step_tail f.base s f.at (word (part s a e)) a e h) (λ j z w. item_unknown Vs fuel ks ∙ w) (k (items_at (schema_at t o n) Vs inside f.parameter fuel ks) (part s a e))
+    pub unknown_ends : (ks : List ℕ) (at : ℕ) → Skips s f.base e at → Passes (schema_of_records R) s f inside ks at
+    unknown_ends ks at k = passes at ks k
 
-  module _ (q : ℕ) (c : (schema_at t o n).find f.parameter (part s a e) ≡ found q) where
-    item_known : (Vs : Values) (fuel : ℕ) (ks : List ℕ) → items_at (schema_at t o n) Vs inside f.parameter (suc fuel) ks (tokens_at f.base s f.at) ≡ item_at (schema_at t o n) Vs (items_at (schema_at t o n) Vs inside f.parameter fuel) ks (part s a e) (found q) (tokens_at f.base s e)
-    item_known Vs fuel ks = item_found Vs fuel ks ∙ ap (λ r. item_at (schema_at t o n) Vs (items_at (schema_at t o n) Vs inside f.parameter fuel) ks (part s a e) r (tokens_at f.base s e)) c
+    pub unknown_stopped : (ks : List ℕ) (i q : ℕ) → ((next : List Token → Result (Tree items)) (w : List ℕ) → Stopped (unknown_after next w (tokens_at f.base s e)) (lexemes_at f.base s e) (end_of s f) i q) → (Vs : Values) (fuel : ℕ) → Stopped (items_at (schema_of_records R) Vs inside f.parameter (suc fuel) ks (tokens_at f.base s f.at)) (lexemes_at f.base s f.at) (end_of s f) i q
+    unknown_stopped ks i q k Vs fuel = stopped_before (lexemes_at f.base s f.at) (lexemes_at f.base s e) (step_tail f.base s f.at (word (part s a e)) a e h) (λ j z w. item_unknown Vs fuel ks ∙ w) (k (items_at (schema_of_records R) Vs inside f.parameter fuel ks) (part s a e))
 
-    void_item_lem : (ks : List ℕ) → Marks seen ks → get_or seen q false ≡ false → is_void ((schema_at t o n).kind q) ≡ true → VoidItem (schema_at t o n) n s f inside ks q a e
+  module _ (q : ℕ) (c : (schema_of_records R).find f.parameter (part s a e) ≡ found q) where
+    item_known : (Vs : Values) (fuel : ℕ) (ks : List ℕ) → items_at (schema_of_records R) Vs inside f.parameter (suc fuel) ks (tokens_at f.base s f.at) ≡ item_at (schema_of_records R) Vs (items_at (schema_of_records R) Vs inside f.parameter fuel) ks (part s a e) (found q) (tokens_at f.base s e)
+    item_known Vs fuel ks = item_found Vs fuel ks ∙ ap (λ r. item_at (schema_of_records R) Vs (items_at (schema_of_records R) Vs inside f.parameter fuel) ks (part s a e) r (tokens_at f.base s e)) c
+
+    void_item_lem : (ks : List ℕ) → Marks seen ks → get_or seen q false ≡ false → is_void ((schema_of_records R).kind q) ≡ true → VoidItem (schema_of_records R) R.count s f inside ks q a e
     unfolding item_at need whether
     void_item_lem ks m d v = record {
       text = part s a e;
       step = h;
       is = λ Vs fuel. item_known Vs fuel ks ∙ rw (sym (m.marked q) ∙ d, v) refl;
-      below = find_below t o n f.parameter (part s a e) q c;
+      below = find_below R.table.now R.unpacked.now R.count f.parameter (part s a e) q c;
     }
 
-    list_item_lem : (ks : List ℕ) (at : ℕ) → Marks seen ks → KnownList (schema_at t o n) s f.base seen q e q at → ListItem (schema_at t o n) n s f inside ks q at
+    list_item_lem : (ks : List ℕ) (at : ℕ) → Marks seen ks → KnownList (schema_of_records R) s f.base seen q e q at → ListItem (schema_of_records R) R.count s f inside ks q at
     unfolding item_at need whether on_equals
     list_item_lem ks at m k = record {
       text = part s a e;
@@ -278,15 +305,15 @@ module _ (t o : List ℕ) (n : ℕ) (s : List ℕ) (f : Frame) (inside : Bool) (
       first = h;
       second = k.step;
       is = λ Vs fuel. item_known Vs fuel ks ∙ rw (sym (m.marked q) ∙ k.new, k.void, step_tokens f.base s e equals k.place at k.step) refl;
-      below = find_below t o n f.parameter (part s a e) q c;
+      below = find_below R.table.now R.unpacked.now R.count f.parameter (part s a e) q c;
     }
 
-    pub known_ends : (r : Item) → KnownAt t o n s f.base seen q a e r → (ks : List ℕ) → Marks seen ks → ItemFor (schema_at t o n) n s f inside ks r
-    known_ends item.End k ks m = absurd k
-    known_ends (item.Void p b v) k ks m = rw (k.same, k.start, k.past) (void_item_lem ks m k.new k.void)
-    known_ends (item.List p v) k ks m = rw k.same (list_item_lem ks v.at m (rw k.same at k))
-    known_ends (item.Unknown v) k ks m = absurd k
-    known_ends (item.Refused i p) k ks m = λ Vs fuel. stopped_before (lexemes_at f.base s f.at) (lexemes_at f.base s f.at) here (λ j z w. item_known Vs fuel ks ∙ w) (k Vs (items_at (schema_at t o n) Vs inside f.parameter fuel) ks (part s a e) f.at m h)
+    pub known_ends : (r : Answer Item Refusal) → KnownAt (schema_of_records R) s f.base seen q a e r → (ks : List ℕ) → Marks seen ks → ItemFor (schema_of_records R) R.count s f inside ks r
+    known_ends (Ok item.End) k ks m = absurd k
+    known_ends (Ok (item.Void p b v)) k ks m = rw (k.same, k.start, k.past) (void_item_lem ks m k.new k.void)
+    known_ends (Ok (item.List p v)) k ks m = rw k.same (list_item_lem ks v.at m (rw k.same at k))
+    known_ends (Ok (item.Unknown v)) k ks m = absurd k
+    known_ends (Err x) k ks m = λ Vs fuel. stopped_before (lexemes_at f.base s f.at) (lexemes_at f.base s f.at) here (λ j z w. item_known Vs fuel ks ∙ w) (k Vs (items_at (schema_of_records R) Vs inside f.parameter fuel) ks (part s a e) f.at m h)
 
 -- the known field's own answers
 module _ (S : Schema) (s : List ℕ) (base : ℕ) (seen : List Bool) (q a e : ℕ) (Vs : Values) (next : List ℕ → List Token → Result (Tree items)) (ks w : List ℕ) (i : ℕ) (m : Marks seen ks) (h : Step (cut_at base s i) base s i (word w) a e) where
@@ -294,8 +321,8 @@ module _ (S : Schema) (s : List ℕ) (base : ℕ) (seen : List Bool) (q a e : �
   unfolding item_at need
   known_again d = stop_at (item_at S Vs next ks w (found q) (tokens_at base s e)) base s i (word w) a e 26 h (rw (sym (m.marked q) ∙ d) refl)
 
-  pub known_bare : (d : Head) → HeadAt base s e d → get_or seen q false ≡ false → is_void (S.kind q) ≡ false → (d.kind ≡ 3 → ⊥) → Stopped (item_at S Vs next ks w (found q) (tokens_at base s e)) (lexemes_at base s i) (base + length s) 23 (base + d.start)
+  pub known_bare : (d : Head) → HeadAt base s e d → get_or seen q false ≡ false → is_void (S.kind q) ≡ false → (d.kind ≡ Equals → ⊥) → Stopped (item_at S Vs next ks w (found q) (tokens_at base s e)) (lexemes_at base s i) (base + length s) 23 (base + d.start)
   unfolding item_at need whether
   known_bare d g k v c =
       stopped_before (lexemes_at base s i) (lexemes_at base s e) (step_tail base s i (word w) a e h) (λ j z r. r)
-      (stop_here (item_at S Vs next ks w (found q) (tokens_at base s e)) base s e d 23 g (rw (sym (m.marked q) ∙ k, v) (equals_none (tokens_at base s e) _ (head_not base s e d g 3 c))))
+      (stop_here (item_at S Vs next ks w (found q) (tokens_at base s e)) base s e d 23 g (rw (sym (m.marked q) ∙ k, v) (equals_none (tokens_at base s e) _ (head_not base s e d g Equals c))))

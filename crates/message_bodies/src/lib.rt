@@ -5,66 +5,62 @@
 ghost use Rattle.std.specs.Prelude.{◌≡◌, ◌+◌, ◌≤◌, length};
 ghost use Rattle.numbers.specs.Limits.{message_limit};
 ghost use Rattle.table_tags.specs.Search.{Searchable};
-ghost use Rattle.message_bodies.specs.Bodies.{end_number_at, end_at, StartAt, ItemAt, KnownAt, UnknownAt};
+ghost use Rattle.message_lookup.specs.Questions.{schema_of_records};
+ghost use Rattle.message_bodies.specs.Bodies.{end_of_body, end_answer, StartAt, ItemAt, KnownAt, UnknownAt};
 
 use message_frame::Frame;
-use message_tokens::Cursor;
-use message_unknown::Passed;
-use table_tags::Found;
+use message_tokens::{Cursor, TokenKind};
+use numbers::{Refusal, Rule};
+use table_records::Records;
 
-// Where no token (kind 0) or a `}` (kind 6) stands at a place where a body may end, its number, 0 where it ends; else other.
-fn end_at(kind: u8, inside: bool, complete: bool, other: u32) -> u32
-    ensures { result ≡ end_at kind inside complete other }
+// Where no token or a `}` stands at a place where a body may end: whether it ends, else what is broken. None at another token.
+#[tactic(auto, unfolding(crate::specs::Bodies::end_answer))]
+fn end_at(kind: TokenKind, inside: bool, complete: bool) -> Option<Result<(), Rule>>
+    ensures { result ≡ end_answer kind inside complete }
 {
-    if kind == message_tokens::NONE {
-        return end_number(inside, complete);
+    match kind {
+        TokenKind::Nothing => Some(end(inside, complete)),
+        TokenKind::Closing => Some(end(!inside, complete)),
+        _ => None,
     }
-    if kind == message_tokens::CLOSING {
-        return end_number(!inside, complete);
-    }
-    other
 }
 
-// 23 where the body can't end here, whether complete or not.
-fn end_number(barred: bool, complete: bool) -> u32
-    ensures { result ≡ end_number_at barred complete }
+// The body ends here, unless it is barred from that, whether complete or not.
+#[tactic(auto, unfolding(crate::specs::Bodies::end_of_body))]
+fn end(barred: bool, complete: bool) -> Result<(), Rule>
+    ensures { result ≡ end_of_body barred complete }
 {
-    if barred {
-        return 23;
+    match (barred, complete) {
+        (true, _) => Err(Rule::MessageForms),
+        (false, true) => Ok(()),
+        (false, false) => Err(Rule::FieldMissing),
     }
-    if complete {
-        return 0;
-    }
-    27
 }
 
-#[derive(Clone, Copy)]
+#[derive(Clone, Copy, Debug, PartialEq, Eq)]
 pub enum Start {
     List,
     End,
-    Refused(u32, usize),
 }
 
 // Whether the list of the untagged field f.parameter starts here.
-pub fn field_at(table: &[u8], unpacked: &[u32], n: usize, s: &[u8], f: Frame, inside: bool) -> Start
+pub fn field_at(records: &Records, s: &[u8], f: Frame, inside: bool) -> Result<Start, Refusal>
     requires { f.base + length s.now ≤ message_limit }
-    ensures { StartAt table.now unpacked.now n s.now f inside result }
+    ensures { StartAt (schema_of_records records.now) s.now f inside result }
 {
     let c = Cursor { at: f.at };
     let h = c.head(s);
-    let number = end_at(
-        h.kind,
-        inside,
-        message_lookup::lo(table, unpacked, n, f.parameter) == 0,
-        1,
-    );
-    if number == 1 {
-        return Start::List;
+    let is_complete = message_lookup::lo(records, f.parameter) == 0;
+    let Some(end) = end_at(h.kind, inside, is_complete) else {
+        return Ok(Start::List);
+    };
+    match end {
+        Ok(()) => Ok(Start::End),
+        Err(rule) => Err(Refusal {
+            rule,
+            place: f.base + h.start,
+        }),
     }
-    if number == 0 {
-        return Start::End;
-    }
-    Start::Refused(number, f.base + h.start)
 }
 
 // An item: a void's tag from a place on; a field whose list is due; an unknown one, passed over.
@@ -74,96 +70,87 @@ pub enum Item {
     Void(usize, usize, Cursor),
     List(usize, Cursor),
     Unknown(Cursor),
-    Refused(u32, usize),
 }
 
-// An item whose tag, which ends at past, isn't in the body.
-fn unknown_item(s: &[u8], base: usize, past: Cursor) -> Item
+// Passes over an item whose tag, which ends at past, isn't in the body.
+fn unknown_item(s: &[u8], base: usize, past: Cursor) -> Result<Cursor, Refusal>
     requires { base + length s.now ≤ message_limit }
     ensures { UnknownAt s.now base past.at result }
 {
     let h = past.head(s);
-    let beyond = h.past;
-    if h.kind == message_tokens::EQUALS {
-        match message_unknown::list(s, base, beyond) {
-            Passed::Past(v) => {
-                return Item::Unknown(v);
-            }
-            Passed::Refused(k, q) => {
-                return Item::Refused(k, q);
-            }
-        }
+    match h.kind {
+        TokenKind::Equals => message_unknown::list(s, base, h.past),
+        _ => Ok(past),
     }
-    Item::Unknown(past)
 }
 
 // The item of the known field q, whose tag stands from a on.
 fn known_item(
-    table: &[u8],
-    unpacked: &[u32],
-    n: usize,
+    records: &Records,
     s: &[u8],
     base: usize,
     seen: &[bool; numbers::PARAMETER_LIMIT],
     q: usize,
     a: usize,
     past: Cursor,
-) -> Item
+) -> Result<Item, Refusal>
     requires { (base + length s.now ≤ message_limit) × (a ≤ length s.now) }
-    ensures { KnownAt table.now unpacked.now n s.now base seen.now q a past.at result }
+    ensures { KnownAt (schema_of_records records.now) s.now base seen.now q a past.at result }
 {
-    if numbers::mark_at(seen, q) {
-        return Item::Refused(26, base + a);
+    if numbers::get_or(seen, q, false) {
+        return Err(Refusal {
+            rule: Rule::TagTwice,
+            place: base + a,
+        });
     }
-    if message_lookup::is_void(table, unpacked, n, q) {
-        return Item::Void(q, a, past);
+    if message_lookup::is_void(records, q) {
+        return Ok(Item::Void(q, a, past));
     }
     let h = past.head(s);
-    let beyond = h.past;
-    if h.kind == message_tokens::EQUALS {
-        return Item::List(q, beyond);
+    match h.kind {
+        TokenKind::Equals => Ok(Item::List(q, h.past)),
+        _ => Err(Refusal {
+            rule: Rule::MessageForms,
+            place: base + h.start,
+        }),
     }
-    Item::Refused(23, base + h.start)
 }
 
 // What stands at an item's place in the body of f.parameter. Its tag is looked for from a record on and round.
 pub fn item_at(
-    table: &[u8],
-    unpacked: &[u32],
-    n: usize,
+    records: &Records,
     s: &[u8],
     f: Frame,
     inside: bool,
     seen: &[bool; numbers::PARAMETER_LIMIT],
     from: usize,
-) -> Item
+) -> Result<Item, Refusal>
     requires s_bound { f.base + length s.now ≤ message_limit }
-    requires searchable { Searchable table.now unpacked.now n }
-    ensures { ItemAt table.now unpacked.now n s.now f inside seen.now result }
+    requires searchable { Searchable records.now.table.now records.now.unpacked.now records.now.count }
+    ensures { ItemAt records.now s.now f inside seen.now result }
 {
     let c = Cursor { at: f.at };
     let h = c.head(s);
     let a = h.start;
     let past = h.past;
-    let e = past.at;
-    if h.kind == message_tokens::WORD {
-        match message_lookup::find(table, unpacked, n, f.parameter, &s[a..e], from) {
-            Found::Nowhere => {
-                return unknown_item(s, f.base, past);
-            }
-            Found::At(q) => {
-                return known_item(table, unpacked, n, s, f.base, seen, q, a, past);
-            }
-        }
+    if let TokenKind::Word = h.kind {
+        return match message_lookup::find(records, f.parameter, &s[a..past.at], from) {
+            Some(q) => known_item(records, s, f.base, seen, q, a, past),
+            None => Ok(Item::Unknown(unknown_item(s, f.base, past)?)),
+        };
     }
-    let number = end_at(
-        h.kind,
-        inside,
-        message_lookup::complete(table, unpacked, n, f.parameter, seen),
-        23,
-    );
-    if number == 0 {
-        return Item::End;
+    let is_complete = message_lookup::complete(records, f.parameter, seen);
+    let Some(end) = end_at(h.kind, inside, is_complete) else {
+        return Err(Refusal {
+            rule: Rule::MessageForms,
+            place: f.base + a,
+        });
+    };
+    match end {
+        Ok(()) => Ok(Item::End),
+        Err(rule) => Err(Refusal {
+            rule,
+            place: f.base + a,
+        }),
     }
-    Item::Refused(number, f.base + a)
 }

@@ -1,6 +1,9 @@
 -- What each decision at a union ensures, against the parser.
 use Rattle.std.specs.Prelude.{◌≡◌, Bool, true, false, List, [], ◌∷◌, ℕ, ◌<◌}
+use Rattle.std.specs.Prelude.{Result, Option, Ok, Err}
 use Rattle.classes.specs.Lists.{pick}
+use Rattle.numbers.specs.Rules.{rule_number}
+use Rattle.numbers.specs.declared.Refusal.{Refusal}
 use Rattle.numbers.specs.Decimal.{is_int_like}
 use Rattle.reading_rules.specs.Token.{word, equals}
 use Rattle.reading_rules.specs.Schema.{Schema, is_void, is_under, found}
@@ -12,10 +15,10 @@ use Rattle.message_rules.specs.Rows.{row_over, rows_of}
 use Rattle.message_tokens.specs.Cursor.{part, cut_at, lexemes_at, Step}
 use Rattle.message_unknown.specs.Along.{tokens_at, Stopped}
 use Rattle.table_records.specs.Stored.{record_in}
-use Rattle.message_lookup.specs.Questions.{schema_at}
+use Rattle.table_records.specs.declared.Records.{Records}
+use Rattle.message_lookup.specs.Questions.{schema_of_records}
 use Rattle.message_frame.specs.Ends.{Values, end_of}
 use Rattle.message_frame.specs.declared.Frame.{Frame}
-use Rattle.table_tags.specs.declared.Found.{Found}
 use Rattle.message_choices.specs.declared.Choice.{Choice}
 use Rattle.message_choices.specs.declared.Choice.TheVariants as choice
 use Rattle.table_tags.specs.Search.{found_of}
@@ -44,10 +47,10 @@ pub record Whole (S : Schema) (n : ℕ) (s : List ℕ) (f : Frame) (u q a e : �
   pub rows : (x : List Lex) (row p up j : ℕ) → rows_of x tree 0 row p up j ≡ row_over x 0 1 p up j ∷ row_over x 0 1 q row 0 ∷ []
   pub below : q < n
 
-abbrev pub ChoiceAt : List ℕ → List ℕ → ℕ → List ℕ → Frame → ℕ → Choice → Type 0
-ChoiceAt t o n s f u (choice.Deeper q a v) = Deeper (schema_at t o n) n s f u q a v.at
-ChoiceAt t o n s f u (choice.Last q a v) = Whole (schema_at t o n) n s f u q a v.at
-ChoiceAt t o n s f u (choice.Refused k q) = (Vs : Values) → Stopped (union_at (schema_at t o n) Vs u (tokens_at f.base s f.at)) (lexemes_at f.base s f.at) (end_of s f) k q
+abbrev pub ChoiceAt : Records → List ℕ → Frame → ℕ → Result Choice Refusal → Type 0
+ChoiceAt k s f u (Ok (choice.Deeper q a v)) = Deeper (schema_of_records k) k.count s f u q a v.at
+ChoiceAt k s f u (Ok (choice.Last q a v)) = Whole (schema_of_records k) k.count s f u q a v.at
+ChoiceAt k s f u (Err r) = (Vs : Values) → Stopped (union_at (schema_of_records k) Vs u (tokens_at f.base s f.at)) (lexemes_at f.base s f.at) (end_of s f) (rule_number r.rule) r.place
 
 -- the same where the word from a to e is known to be no untagged int
 pub record Known (S : Schema) (n : ℕ) (s : List ℕ) (f : Frame) (u q a e : ℕ) (b : Bool) : Type 0 where
@@ -64,12 +67,12 @@ pub record KnownWhole (S : Schema) (n : ℕ) (s : List ℕ) (f : Frame) (u q a e
   pub known : Known S n s f u q a e true
   pub same : at ≡ e
 
-abbrev pub ChosenAt : List ℕ → List ℕ → ℕ → List ℕ → Frame → ℕ → ℕ → ℕ → Choice → Type 0
-ChosenAt t o n s f u a e (choice.Deeper q b v) = (b ≡ a) × KnownEquals (schema_at t o n) n s f u q a e v.at
-ChosenAt t o n s f u a e (choice.Last q b v) = (b ≡ a) × KnownWhole (schema_at t o n) n s f u q a e v.at
-ChosenAt t o n s f u a e (choice.Refused k q) =
+abbrev pub ChosenAt : Records → List ℕ → Frame → ℕ → ℕ → ℕ → Result Choice Refusal → Type 0
+ChosenAt k s f u a e (Ok (choice.Deeper q b v)) = (b ≡ a) × KnownEquals (schema_of_records k) k.count s f u q a e v.at
+ChosenAt k s f u a e (Ok (choice.Last q b v)) = (b ≡ a) × KnownWhole (schema_of_records k) k.count s f u q a e v.at
+ChosenAt k s f u a e (Err r) =
     (Vs : Values) (x : List Lex) → x ≡ lexemes_at f.base s f.at → Step (cut_at f.base s f.at) f.base s f.at (word (part s a e)) a e
-    → Stopped (alternative (schema_at t o n) Vs (part s a e) ((schema_at t o n).find u (part s a e)) (tokens_at f.base s e)) x (end_of s f) k q
+    → Stopped (alternative (schema_of_records k) Vs (part s a e) ((schema_of_records k).find u (part s a e)) (tokens_at f.base s e)) x (end_of s f) (rule_number r.rule) r.place
 
-abbrev pub bare_at : List ℕ → List ℕ → ℕ → ℕ → List ℕ → Found → Type 0
-bare_at t o n u w r = found_of r ≡ bare_for ((schema_at t o n).bare u) (is_int_like w)
+abbrev pub bare_at : Records → ℕ → List ℕ → Option ℕ → Type 0
+bare_at k u w r = found_of r ≡ bare_for ((schema_of_records k).bare u) (is_int_like w)

@@ -8,95 +8,97 @@ ghost use Rattle.table_tags.specs.Search.{Searchable};
 ghost use Rattle.message_choices.specs.Choices.{ChoiceAt, ChosenAt, bare_at, start_of};
 
 use message_frame::Frame;
-use message_tokens::Cursor;
-use table_tags::Found;
+use message_tokens::{Cursor, TokenKind};
+use numbers::{Refusal, Rule};
+use table_records::Records;
 
 // A step down a chain of choices, with the alternative and its word's start: its value is due past the cursor, or it is whole.
 #[derive(Clone, Copy)]
 pub enum Choice {
     Deeper(usize, usize, Cursor),
     Last(usize, usize, Cursor),
-    Refused(u32, usize),
 }
 
 // The record that a tag of the union u is looked for from: the alternative p that was chosen last, where it is one of u's,
 // so that a chain of the same choices finds each at once; else the union's own.
-fn start_of(table: &[u8], unpacked: &[u32], p: usize, u: usize) -> usize
-    ensures { result ≡ start_of table.now unpacked.now p u }
+#[tactic(auto, unfolding(classes::specs::Lists::pick))]
+fn start_of(records: &Records, p: usize, u: usize) -> usize
+    ensures { result ≡ start_of records.now.table.now records.now.unpacked.now p u }
 {
-    if table_records::is_under(table, unpacked, p, u) {
-        return p;
-    }
-    u
+    if records.is_under(p, u) { p } else { u }
 }
 
 // The alternative of the union u with the word from a on as its tag.
 fn alternative(
-    table: &[u8],
-    unpacked: &[u32],
-    n: usize,
+    records: &Records,
     s: &[u8],
     f: Frame,
     u: usize,
     a: usize,
     past: Cursor,
-) -> Choice
+) -> Result<Choice, Refusal>
     requires s_bound { (f.base + length s.now ≤ message_limit) × (a ≤ past.at) × (past.at ≤ length s.now) }
-    requires searchable { Searchable table.now unpacked.now n }
-    ensures { ChosenAt table.now unpacked.now n s.now f u a past.at result }
+    requires searchable { Searchable records.now.table.now records.now.unpacked.now records.now.count }
+    ensures { ChosenAt records.now s.now f u a past.at result }
 {
     let e = past.at;
-    let from = start_of(table, unpacked, f.parameter, u);
-    match message_lookup::find(table, unpacked, n, u, &s[a..e], from) {
-        Found::Nowhere => Choice::Refused(28, f.base + a),
-        Found::At(q) => {
-            if message_lookup::is_void(table, unpacked, n, q) {
-                return Choice::Last(q, a, past);
-            }
-            let h = past.head(s);
-            let beyond = h.past;
-            if h.kind == message_tokens::EQUALS {
-                return Choice::Deeper(q, a, beyond);
-            }
-            Choice::Refused(23, f.base + h.start)
-        }
+    let from = start_of(records, f.parameter, u);
+    let Some(q) = message_lookup::find(records, u, &s[a..e], from) else {
+        return Err(Refusal {
+            rule: Rule::Alternative,
+            place: f.base + a,
+        });
+    };
+    if message_lookup::is_void(records, q) {
+        return Ok(Choice::Last(q, a, past));
+    }
+    let h = past.head(s);
+    match h.kind {
+        TokenKind::Equals => Ok(Choice::Deeper(q, a, h.past)),
+        _ => Err(Refusal {
+            rule: Rule::MessageForms,
+            place: f.base + h.start,
+        }),
     }
 }
 
 // The untagged int of the union u that the word is judged as.
-fn bare_for(table: &[u8], unpacked: &[u32], n: usize, u: usize, word: &[u8]) -> Found
-    ensures { bare_at table.now unpacked.now n u word.now result }
+fn bare_for(records: &Records, u: usize, word: &[u8]) -> Option<usize>
+    ensures { bare_at records.now u word.now result }
 {
     if numbers::is_int_like(word) {
-        return message_lookup::bare(table, unpacked, n, u);
+        return message_lookup::bare(records, u);
     }
-    Found::Nowhere
+    None
 }
 
 // What a union's value begins with.
-pub fn choose(table: &[u8], unpacked: &[u32], n: usize, s: &[u8], f: Frame, u: usize) -> Choice
+pub fn choose(records: &Records, s: &[u8], f: Frame, u: usize) -> Result<Choice, Refusal>
     requires s_bound { f.base + length s.now ≤ message_limit }
-    requires searchable { Searchable table.now unpacked.now n }
-    ensures { ChoiceAt table.now unpacked.now n s.now f u result }
+    requires searchable { Searchable records.now.table.now records.now.unpacked.now records.now.count }
+    ensures { ChoiceAt records.now s.now f u result }
 {
     let c = Cursor { at: f.at };
     let h = c.head(s);
     let a = h.start;
     let past = h.past;
-    let e = past.at;
-    if h.kind == message_tokens::WORD {
-        match bare_for(table, unpacked, n, u, &s[a..e]) {
-            Found::At(q) => {
-                let number = message_lookup::judge(table, unpacked, n, q, &s[a..e], false);
-                if number == 0 {
-                    return Choice::Last(q, a, past);
-                }
-                return Choice::Refused(number, f.base + a);
-            }
-            Found::Nowhere => {
-                return alternative(table, unpacked, n, s, f, u, a, past);
+    match h.kind {
+        TokenKind::Word => {
+            let word = &s[a..past.at];
+            match bare_for(records, u, word) {
+                Some(q) => match message_lookup::judge(records, q, word, false) {
+                    Ok(()) => Ok(Choice::Last(q, a, past)),
+                    Err(rule) => Err(Refusal {
+                        rule,
+                        place: f.base + a,
+                    }),
+                },
+                None => alternative(records, s, f, u, a, past),
             }
         }
+        _ => Err(Refusal {
+            rule: message_frame::unfit(h.kind),
+            place: f.base + a,
+        }),
     }
-    Choice::Refused(message_frame::unfit(h.kind), f.base + a)
 }

@@ -1,7 +1,10 @@
 -- What a reader ensures of its answer and of the rows that it leaves, against the parser's answer and the rows of what was read.
 use Rattle.std.specs.Prelude.{◌≡◌, List, ℕ, ◌+◌, ◌-◌, ◌*◌, ◌≤◌, ◌<◌, length, drop}
+use Rattle.std.specs.Prelude.{Result as Answer, Ok, Err}
 use Rattle.std.proofs.lemmas.List.Edits.{sets}
 use Rattle.numbers.specs.Limits.{message_limit, parameter_limit, row_width}
+use Rattle.numbers.specs.Rules.{rule_number}
+use Rattle.numbers.specs.declared.Refusal.{Refusal}
 use Rattle.reading_rules.specs.Token.{Token}
 use Rattle.reading_rules.specs.Reading.{TreeSort, value, Tree, width}
 use Rattle.message_rules.specs.Scan.{tokens_of, Lexeme as Lex}
@@ -10,8 +13,7 @@ use Rattle.message_rules.specs.Rows.{row_count, lexeme_at, rows_of, cells}
 use Rattle.message_tokens.specs.Cursor.{lexemes_at}
 use Rattle.message_unknown.specs.Along.{Stopped}
 use Rattle.message_frame.specs.declared.Frame.{Frame}
-use Rattle.message_frame.specs.declared.Got.{Got}
-use Rattle.message_frame.specs.declared.Got.TheVariants.{Done, Refused}
+use Rattle.message_frame.specs.declared.Done.{Done}
 
 -- readers of the values of a parameter
 abbrev pub Values : Type 0
@@ -48,9 +50,9 @@ pub record Ended {k : TreeSort} (o : Result (Tree k)) (s : List ℕ) (f : Frame)
   pub read : Read o (lexemes_at f.base s f.at) (lexemes_at f.base s at) before after f.row f.parameter f.parent f.index next
   pub moved : Moved (length s) f.at least f.row at next
 
-abbrev pub Ends : {k : TreeSort} → Result (Tree k) → List ℕ → Frame → List ℕ → List ℕ → ℕ → Got → Type 0
-Ends o s f before after least (Done u next) = Ended o s f before after least u.at next
-Ends o s f before after least (Refused n q) = Stopped o (lexemes_at f.base s f.at) (f.base + length s) n q
+abbrev pub Ends : {k : TreeSort} → Result (Tree k) → List ℕ → Frame → List ℕ → List ℕ → ℕ → Answer Done Refusal → Type 0
+Ends o s f before after least (Ok d) = Ended o s f before after least d.past.at d.row
+Ends o s f before after least (Err r) = Stopped o (lexemes_at f.base s f.at) (f.base + length s) (rule_number r.rule) r.place
 
 -- a value has a token, and its last one ends where the reader does
 pub record EndedValue (o : Result (Tree value)) (s : List ℕ) (f : Frame) (before after : List ℕ) (at next : ℕ) : Type 0 where
@@ -58,6 +60,6 @@ pub record EndedValue (o : Result (Tree value)) (s : List ℕ) (f : Frame) (befo
   pub wide : 1 ≤ width ended.read.tree
   pub last : (lexeme_at (lexemes_at f.base s f.at) (width ended.read.tree - 1)).end ≡ f.base + at
 
-abbrev pub EndsValue : Result (Tree value) → List ℕ → Frame → List ℕ → List ℕ → Got → Type 0
-EndsValue o s f before after (Done u next) = EndedValue o s f before after u.at next
-EndsValue o s f before after (Refused n q) = Stopped o (lexemes_at f.base s f.at) (f.base + length s) n q
+abbrev pub EndsValue : Result (Tree value) → List ℕ → Frame → List ℕ → List ℕ → Answer Done Refusal → Type 0
+EndsValue o s f before after (Ok d) = EndedValue o s f before after d.past.at d.row
+EndsValue o s f before after (Err r) = Stopped o (lexemes_at f.base s f.at) (f.base + length s) (rule_number r.rule) r.place

@@ -2,9 +2,12 @@
 #![tactic(auto)]
 
 ghost use Rattle.std.specs.Prelude.{◌≡◌};
+ghost use Rattle.numbers.specs.Rules.{rule_number};
+ghost use Rattle.message_tokens.specs.Head.{kind_number};
 ghost use Rattle.message_frame.specs.AtToken.{unfit_of};
 
-use message_tokens::Cursor;
+use message_tokens::{Cursor, TokenKind};
+use numbers::Rule;
 
 // Where a reader stands: at in s, the next row, the parameter that is read, the row above, the value's index (its place in
 // its list), how many braces may still open.
@@ -19,25 +22,21 @@ pub struct Frame {
     pub depth: usize,
 }
 
-// What was read, up to the cursor, and the next row; or a number and a place.
+// How far a reader got: up to the cursor, and the next row.
 #[derive(Clone, Copy)]
-pub enum Got {
-    Done(Cursor, usize),
-    Refused(u32, usize),
+pub struct Done {
+    pub past: Cursor,
+    pub row: usize,
 }
 
-// 24 for a word, a string or a `{`, 23 for what can't be a value's start.
-pub fn unfit(kind: u8) -> u32
-    ensures { result ≡ unfit_of kind }
+// What a token that no value starts with breaks: that of a value's form at a word, a string or a `{`, that of the message's forms
+// at what can't be a value's start.
+#[tactic(auto, unfolding(crate::specs::AtToken::unfit_of))]
+pub fn unfit(kind: TokenKind) -> Rule
+    ensures { rule_number result ≡ unfit_of (kind_number kind) }
 {
-    if kind == message_tokens::WORD {
-        return numbers::NO_FORM;
+    match kind {
+        TokenKind::Word | TokenKind::String | TokenKind::Opening => Rule::ValueForm,
+        _ => Rule::MessageForms,
     }
-    if kind == message_tokens::STRING {
-        return numbers::NO_FORM;
-    }
-    if kind == message_tokens::OPENING {
-        return numbers::NO_FORM;
-    }
-    23
 }

@@ -12,6 +12,7 @@ use Rattle.reading_rules.specs.Parse.{Result, got, need, may_grow, list_ends, af
 use Rattle.message_tokens.specs.Cursor.{lexemes_at}
 use Rattle.message_tokens.specs.Head.{token_kind, HeadAt, LacksComma}
 use Rattle.message_tokens.specs.declared.Head.{Head}
+use Rattle.message_tokens.specs.declared.TokenKind.TheVariants.{Comma}
 use Rattle.message_tokens.proofs.Heads.{head_not, step_tokens}
 use Rattle.message_unknown.specs.Along.{tokens_at, Stopped}
 use Rattle.message_lists.specs.Lists.{Grows}
@@ -32,19 +33,19 @@ unfolding list_ends need
 value_bare S base s q v c a b next w = value_ends S q c next w (tokens_at base s v) (a base) ∙ rw (le-leb (S.lo q) c b) refl
 
 module _ (S : Schema) (base : ℕ) (s : List ℕ) (q v c : ℕ) (h : Head) (g : HeadAt base s v h) where
-  pub value_last : (h.kind ≡ 4 → ⊥) → S.lo q ≤ c → (next : List Token → Result (Tree list)) (w : Tree value) → after_value S q c next w (tokens_at base s v) ≡ got (last w) (tokens_at base s v)
+  pub value_last : (h.kind ≡ Comma → ⊥) → S.lo q ≤ c → (next : List Token → Result (Tree list)) (w : Tree value) → after_value S q c next w (tokens_at base s v) ≡ got (last w) (tokens_at base s v)
   unfolding list_ends need
-  value_last a b next w = value_ends S q c next w (tokens_at base s v) (head_not base s v h g 4 a) ∙ rw (le-leb (S.lo q) c b) refl
+  value_last a b next w = value_ends S q c next w (tokens_at base s v) (head_not base s v h g Comma a) ∙ rw (le-leb (S.lo q) c b) refl
 
-  pub value_short : (h.kind ≡ 4 → ⊥) → c < S.lo q → (next : List Token → Result (Tree list)) (w : Tree value) → Stopped (after_value S q c next w (tokens_at base s v)) (lexemes_at base s v) (base + length s) 25 (base + h.start)
+  pub value_short : (h.kind ≡ Comma → ⊥) → c < S.lo q → (next : List Token → Result (Tree list)) (w : Tree value) → Stopped (after_value S q c next w (tokens_at base s v)) (lexemes_at base s v) (base + length s) 25 (base + h.start)
   unfolding list_ends need
-  value_short a b next w = stop_here (after_value S q c next w (tokens_at base s v)) base s v h 25 g (value_ends S q c next w (tokens_at base s v) (head_not base s v h g 4 a) ∙ rw (lt-leb (S.lo q) c b) refl)
+  value_short a b next w = stop_here (after_value S q c next w (tokens_at base s v)) base s v h 25 g (value_ends S q c next w (tokens_at base s v) (head_not base s v h g Comma a) ∙ rw (lt-leb (S.lo q) c b) refl)
 
-  pub value_long : h.kind ≡ 4 → may_grow (S.hi q) c ≡ false → (next : List Token → Result (Tree list)) (w : Tree value) → Stopped (after_value S q c next w (tokens_at base s v)) (lexemes_at base s v) (base + length s) 25 (base + h.start)
+  pub value_long : h.kind ≡ Comma → may_grow (S.hi q) c ≡ false → (next : List Token → Result (Tree list)) (w : Tree value) → Stopped (after_value S q c next w (tokens_at base s v)) (lexemes_at base s v) (base + length s) 25 (base + h.start)
   unfolding after_value need
   value_long e b next w =
       let k = step_of_comma base s v h g e in
       stop_at (after_value S q c next w (tokens_at base s v)) base s v comma h.start h.past.at 25 k (rw (step_tokens base s v comma h.start h.past.at k, b) refl)
 
-  pub value_grows : h.kind ≡ 4 → may_grow (S.hi q) c ≡ true → Grows S s base q v c h.past.at
+  pub value_grows : h.kind ≡ Comma → may_grow (S.hi q) c ≡ true → Grows S s base q v c h.past.at
   value_grows e b = record { place = h.start; step = step_of_comma base s v h g e; may = b }

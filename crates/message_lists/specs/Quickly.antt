@@ -1,5 +1,5 @@
 -- A value of a list of ints that is plain digits.
-use Rattle.std.specs.Prelude.{◌≡◌, List, [], ◌∷◌, ℕ, ◌+◌, ◌*◌, ◌≤◌, ◌<◌}
+use Rattle.std.specs.Prelude.{◌≡◌, Option, Some, None, List, [], ◌∷◌, ℕ, ◌+◌, ◌*◌, ◌≤◌, ◌<◌}
 use Rattle.std.proofs.lemmas.List.Edits.{sets}
 use Rattle.numbers.specs.Limits.{row_width}
 use Rattle.numbers.specs.Packed.{packed_limit}
@@ -12,8 +12,8 @@ use Rattle.message_lookup.specs.declared.Ints.{Ints}
 use Rattle.message_frame.specs.Ends.{EndedValue}
 use Rattle.message_lists.specs.Lists.{Grows}
 use Rattle.message_frame.specs.declared.Frame.{Frame}
-use Rattle.message_lists.specs.declared.Quick.{Quick}
-use Rattle.message_lists.specs.declared.Quick.TheVariants.{On, Value, Slow}
+use Rattle.message_lists.specs.declared.Taken.{Taken}
+use Rattle.message_lists.specs.declared.Taken.TheVariants.{On, Last}
 
 -- the packed digits lie in the range
 pub record Takes (e : Ints) (d : ℕ) : Type 0 where
@@ -36,7 +36,7 @@ pub record QuickOn (S : Schema) (s : List ℕ) (f : Frame) (before after : List 
   pub value : QuickValue S s f before after end next
   pub more : Grows S s f.base f.parameter end (f.index + 1) at
 
-abbrev pub QuickAt : Schema → List ℕ → Frame → List ℕ → List ℕ → Quick → Type 0
-QuickAt S s f before after (On u next) = QuickOn S s f before after u.at next
-QuickAt S s f before after (Value u next) = QuickValue S s f before after u.at next
-QuickAt S s f before after Slow = after ≡ before
+abbrev pub QuickAt : Schema → List ℕ → Frame → List ℕ → List ℕ → Option Taken → Type 0
+QuickAt S s f before after (Some (On u next)) = QuickOn S s f before after u.at next
+QuickAt S s f before after (Some (Last u next)) = QuickValue S s f before after u.at next
+QuickAt S s f before after None = after ≡ before

@@ -2,9 +2,9 @@
 // s is the message from base on. It is short, and the rows so far are few (`Room`), so that no sum of places overflows.
 #![tactic(auto)]
 
-ghost use Rattle.std.specs.Prelude.{◌≡◌, ◌+◌, ◌≤◌, ◌<◌, length, true};
+ghost use Rattle.std.specs.Prelude.{◌≡◌, ◌+◌, ◌≤◌, ◌<◌, length, true, IfSome};
 ghost use Rattle.numbers.specs.Limits.{message_limit};
-ghost use Rattle.message_lookup.specs.Questions.{schema_at};
+ghost use Rattle.message_lookup.specs.Questions.{schema_of_records};
 ghost use Rattle.message_lookup.specs.IntList.{IntsOf};
 ghost use Rattle.message_frame.specs.Ends.{Room};
 ghost use Rattle.message_lists.specs.Quickly.{Takes, int_row, QuickAt};
@@ -13,55 +13,56 @@ ghost use Rattle.message_lists.specs.Lists.{AfterAt};
 use message_frame::Frame;
 use message_lookup::Ints;
 use message_rows::Row;
-use message_tokens::{Cursor, Digits};
+use message_tokens::{Cursor, Digits, TokenKind};
+use numbers::{Refusal, Rule};
+use table_records::Records;
 
-#[derive(Clone, Copy)]
-pub enum After {
-    More(Cursor),
-    Last,
-    Refused(u32, usize),
-}
-
-// What follows the c-th value of the field q, which ends at v.
+// What follows the c-th value of the field q, which ends at v: the cursor past a comma, where another value is due.
 pub fn after_value(
-    table: &[u8],
-    unpacked: &[u32],
-    n: usize,
+    records: &Records,
     s: &[u8],
     base: usize,
     q: usize,
     v: Cursor,
     c: usize,
-) -> After
+) -> Result<Option<Cursor>, Refusal>
     requires { base + length s.now ≤ message_limit }
-    ensures { AfterAt table.now unpacked.now n s.now base q v.at c result }
+    ensures { AfterAt (schema_of_records records.now) s.now base q v.at c result }
 {
     if v.lacks_comma(s) {
-        if message_lookup::lo(table, unpacked, n, q) <= c {
-            return After::Last;
+        if message_lookup::lo(records, q) <= c {
+            return Ok(None);
         }
     }
     let h = v.head(s);
-    let past = h.past;
-    if h.kind == message_tokens::COMMA {
-        if message_lookup::may_grow(message_lookup::hi(table, unpacked, n, q), c) {
-            return After::More(past);
+    let refusal = Refusal {
+        rule: Rule::ValueCount,
+        place: base + h.start,
+    };
+    match h.kind {
+        TokenKind::Comma => {
+            if message_lookup::may_grow(message_lookup::hi(records, q), c) {
+                Ok(Some(h.past))
+            } else {
+                Err(refusal)
+            }
         }
-        return After::Refused(25, base + h.start);
+        _ => {
+            if message_lookup::lo(records, q) <= c {
+                Ok(None)
+            } else {
+                Err(refusal)
+            }
+        }
     }
-    if message_lookup::lo(table, unpacked, n, q) <= c {
-        return After::Last;
-    }
-    After::Refused(25, base + h.start)
 }
 
-// The value of a list of ints, where it is plain digits. On: a comma follows at once, and another value may;
-// the cursor past the comma, and the next row. Value: the cursor past the digits, and the next row. Slow: nothing is written.
+// A value of a list that is read, and the next row: On, up to the cursor past a comma, behind which another is due; Last, up
+// to the cursor. A cursor that shares its place with no tag stays in one register, so no `Done` stands in it.
 #[derive(Clone, Copy)]
-pub enum Quick {
+pub enum Taken {
     On(Cursor, usize),
-    Value(Cursor, usize),
-    Slow,
+    Last(Cursor, usize),
 }
 
 // The packed digits d are a value of the list.
@@ -90,38 +91,38 @@ fn int_row(rows: &mut [u32], f: Frame, end: usize)
     );
 }
 
+// The value of a list of ints, where it is plain digits: On, where a comma follows at once and another value may; else Last,
+// up to the digits' end, whatever follows. None, with nothing written, where a value has to be read.
 pub fn quick_int(
-    table: &[u8],
-    unpacked: &[u32],
-    n: usize,
+    records: &Records,
     s: &[u8],
     rows: &mut [u32],
     f: Frame,
-    e: Ints,
-) -> Quick
-    requires room { Room f (length s.now) n }
-    requires parameter_lt_n { f.parameter < n }
-    requires ints_of { IntsOf (schema_at table.now unpacked.now n) f.parameter e }
-    ensures { QuickAt (schema_at table.now unpacked.now n) s.now f rows.old rows.new result }
+    ints: Option<Ints>,
+) -> Option<Taken>
+    requires room { Room f (length s.now) records.now.count }
+    requires parameter_lt_n { f.parameter < records.now.count }
+    requires ints_of { IfSome ints (λ e. IntsOf (schema_of_records records.now) f.parameter e) }
+    ensures { QuickAt (schema_of_records records.now) s.now f rows.old rows.new result }
 {
-    if !e.on {
-        return Quick::Slow;
-    }
+    let Some(e) = ints else {
+        return None;
+    };
     match message_tokens::digits_at(s, f.at) {
-        Digits::Other => Quick::Slow,
+        Digits::Other => None,
         Digits::Before(end, d) => {
             if takes(e, d) & (f.index + 1 < e.hi) {
                 int_row(rows, f, end);
-                return Quick::On(Cursor { at: end + 1 }, f.row + 1);
+                return Some(Taken::On(Cursor { at: end + 1 }, f.row + 1));
             }
-            Quick::Slow
+            None
         }
         Digits::Number(end, d) => {
             if takes(e, d) {
                 int_row(rows, f, end);
-                return Quick::Value(Cursor { at: end }, f.row + 1);
+                return Some(Taken::Last(Cursor { at: end }, f.row + 1));
             }
-            Quick::Slow
+            None
         }
     }
 }

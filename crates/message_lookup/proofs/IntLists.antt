@@ -1,21 +1,20 @@
 -- What a list of ints takes, from the record of its type.
 use mathlib.Core.Path.{◌≡◌, refl, sym, ap, ◌∙◌}
-use mathlib.Core.Bool.{Bool, true, false, ◌&&◌, ◌||◌}
+use mathlib.Core.Bool.{Bool, true, false, ◌||◌}
 use mathlib.Core.List.{List}
 use Prim.Native.Nat.{ℕ, ◌+◌, ◌-◌, ◌≤◌, ◌<◌}
 use native.Mathlib.Omega.{arith}
-use lib.Dec.{eqb, leb}
-use borrow.Author.Tests.{le-leb, leb-true, lt-ltb, eqb-true}
+use lib.Dec.{eqb}
+use borrow.Author.Tests.{le-leb, lt-ltb}
 use Rattle.numbers.specs.Limits.{bias, no_limit}
 use Rattle.numbers.specs.Decimal.{number_of, is_natural, is_int}
 use Rattle.numbers.specs.Packed.{PackedBound}
 use Rattle.numbers.proofs.Digits.{int_plain, within_number, natural_first}
 use Rattle.reading_rules.specs.Token.{word}
 use Rattle.reading_rules.specs.Record.{Record}
-use Rattle.reading_rules.specs.Schema.{Schema, schema_of, kind_of, simple}
+use Rattle.reading_rules.specs.Schema.{schema_of, kind_of, simple}
 use Rattle.reading_rules.specs.Value.{value_number}
 use Rattle.reading_rules.specs.Parse.{may_grow}
-use Rattle.reading_rules.proofs.CountLaws.{clash_bool, and_both}
 use Rattle.table_records.specs.Stored.{record_in}
 use Rattle.message_lookup.specs.Questions.{schema_at, int_lies}
 use Rattle.message_lookup.specs.IntList.{IntsOf}
@@ -40,9 +39,6 @@ under_limit hi c h = rw (lt-ltb c hi h) (or_true (eqb hi no_limit))
     or_true true = refl
     or_true false = refl
 
-pub ints_none : (S : Schema) (p hi most : ℕ) → hi ≡ S.hi p → ((c : ℕ) → c < most → may_grow hi c ≡ true) → IntsOf S p (record { on = false; least = 0; most = 0; hi = most })
-ints_none S p hi most h g = record { plain = λ e. clash_bool e; judged = λ e. clash_bool e; grows = λ c l. ap (λ x. may_grow x c) (sym h) ∙ g c l }
-
 module _ (t unpacked : List ℕ) (n p u : ℕ) (c : u ≡ (schema_at t unpacked n).core p) (l : u < n) where
   plain_kind : (record_in t unpacked u).kind ≡ 3 → (schema_at t unpacked n).kind u ≡ simple
   unfolding schema_of kind_of
@@ -52,9 +48,9 @@ module _ (t unpacked : List ℕ) (n p u : ℕ) (c : u ≡ (schema_at t unpacked 
   unfolding schema_of
   word_judged k w e a b = sym (here (λ (r : Record). value_number r (word w)) t unpacked n u l (natural_int (record_in t unpacked u) w k e a b))
 
-  pub ints_some : (x y : Bool) (low high least most hi many : ℕ) → x ≡ eqb (record_in t unpacked u).kind 3 → y ≡ leb bias (record_in t unpacked u).most → low ≡ (record_in t unpacked u).least - bias → high ≡ (record_in t unpacked u).most - bias → PackedBound low least → PackedBound high most → hi ≡ (schema_at t unpacked n).hi p → ((c : ℕ) → c < many → may_grow hi c ≡ true) → IntsOf (schema_at t unpacked n) p (record { on = x && y; least = least; most = most; hi = many })
-  ints_some x y low high least most hi many k o a b f g h m = record {
-    plain = λ e. and_both x y e (λ p q. rw (← c) (plain_kind (eqb-true _ 3 (sym k ∙ p))));
-    judged = λ e w d v z l i j. and_both x y e (λ p q. rw (← c) (word_judged (eqb-true _ 3 (sym k ∙ p)) w v (omega (arith, f.least (number_of w) d z l i)) (omega (arith, g.most (number_of w) d z l j, leb-true bias (record_in t unpacked u).most (sym o ∙ q)))));
+  pub ints_some : (low high least most hi many : ℕ) → (record_in t unpacked u).kind ≡ 3 → bias ≤ (record_in t unpacked u).most → low ≡ (record_in t unpacked u).least - bias → high ≡ (record_in t unpacked u).most - bias → PackedBound low least → PackedBound high most → hi ≡ (schema_at t unpacked n).hi p → ((c : ℕ) → c < many → may_grow hi c ≡ true) → IntsOf (schema_at t unpacked n) p (record { least = least; most = most; hi = many })
+  ints_some low high least most hi many k o a b f g h m = record {
+    plain = rw (← c) (plain_kind k);
+    judged = λ w d v z l i j. rw (← c) (word_judged k w v (omega (arith, f.least (number_of w) d z l i)) (omega (arith, g.most (number_of w) d z l j, o)));
     grows = λ c l. ap (λ x. may_grow x c) (sym h) ∙ m c l;
   }

@@ -1,7 +1,9 @@
 -- The value rule that each kind's number picks.
-use mathlib.Core.Path.{◌≡◌, refl, sym, ◌∙◌}
+use mathlib.Core.Path.{◌≡◌, refl, sym, ap, ◌∙◌}
 use mathlib.Core.Bool.{Bool, true, false, ◌&&◌}
-use mathlib.Core.List.{List}
+use mathlib.Core.List.{List, [], ◌∷◌}
+use lib.Pointwise.{pointwise}
+use Rattle.classes.specs.Lists.{same_bytes}
 use Prim.Native.Nat.{ℕ, ◌+◌, ◌<◌}
 use native.Mathlib.Omega.{arith}
 use borrow.Author.Tests.{ne_eqb, lt-leb}
@@ -17,6 +19,14 @@ use Rattle.reading_rules.specs.Value.{is_bool, word_form, word_within, token_for
 use Rattle.reading_rules.proofs.CountLaws.{clash_bool}
 use Rattle.reading_rules.proofs.Values.{by_form, by_both}
 use Rattle.message_lookup.specs.Questions.{text_token, length_lies, int_lies}
+
+-- slices are equal as the paper's bytes are
+pub same_slices : (a b : List ℕ) → pointwise eqb a b ≡ same_bytes a b
+unfolding pointwise same_bytes
+same_slices [] [] = refl
+same_slices [] (y ∷ b) = refl
+same_slices (x ∷ a) [] = refl
+same_slices (x ∷ a) (y ∷ b) = ap (λ z. eqb x y && z) (same_slices a b)
 
 -- ---- form, then range
 

@@ -1,22 +1,23 @@
-// The questions that a reading asks of a table: each is answered from its n unpacked records; a number past them is the
-// blank record's.
+// The questions that a reading asks of a table: each is answered from its records; a number past them is the blank record's.
 #![tactic(auto)]
 
-ghost use Rattle.std.specs.Prelude.{◌≡◌, true, false, ℕ, ◌+◌, ◌-◌, ◌<◌, length, set};
+ghost use Rattle.std.specs.Prelude.{◌≡◌, ◌≢◌, OnErr, true, false, ℕ, ◌+◌, ◌-◌, ◌<◌, length, set, IfSome};
 ghost use Rattle.classes.specs.Bytes.{between};
 ghost use Rattle.numbers.specs.Limits.{bias};
 ghost use Rattle.calendar.specs.Calendar.{date_form, date_within, time_form, time_within};
 ghost use Rattle.reading_rules.specs.Token.{word, string};
 ghost use Rattle.reading_rules.specs.Value.{is_bool, form_then_range, value_number};
+ghost use Rattle.reading_rules.specs.Record.{record_at};
 ghost use Rattle.reading_rules.specs.Schema.{is_void, is_untagged_of, is_tagged_of, first};
 ghost use Rattle.reading_rules.specs.Parse.{may_grow};
-ghost use Rattle.table_records.specs.Stored.{record_in, records_at};
+ghost use Rattle.table_records.specs.Shown.{record_of, records_of};
 ghost use Rattle.table_tags.specs.Search.{found_of, Searchable};
-ghost use Rattle.message_lookup.specs.Questions.{schema_at, nth, shape_of, untagged_from, text_token, length_lies, int_lies};
-ghost use Rattle.message_lookup.specs.Seen.{no_marks, is_required_of, is_missing, complete_from};
+ghost use Rattle.message_lookup.specs.Questions.{schema_of_records, untagged_in, shape_of, judged, text_token, length_lies, int_lies};
+ghost use Rattle.message_lookup.specs.Seen.{is_required_of, is_missing, complete_from};
 ghost use Rattle.message_lookup.specs.IntList.{IntsOf};
 
-use table_tags::Found;
+use numbers::Rule;
+use table_records::Records;
 
 // The bias and the largest number of a range, as places are counted.
 const ZERO: usize = numbers::BIAS as usize;
@@ -24,7 +25,7 @@ const ZERO: usize = numbers::BIAS as usize;
 const LARGEST: usize = numbers::INT_MOST as usize;
 
 // How a parameter's values are read.
-#[derive(Clone, Copy)]
+#[derive(Clone, Copy, Debug, PartialEq, Eq)]
 pub enum Shape {
     Void,
     Simple,
@@ -36,19 +37,21 @@ pub enum Shape {
 // ---- one parameter
 
 // The kind's number.
-pub fn kind_number(table: &[u8], unpacked: &[u32], n: usize, p: usize) -> u32
-    ensures { result ≡ (nth table.now unpacked.now n p).kind }
+#[tactic(auto, using(table_records::proofs::Laws::record_past, table_records::proofs::Laws::record_at_lem), unfolding(reading_rules::specs::Record::blank))]
+pub fn kind_number(records: &Records, p: usize) -> u32
+    ensures { result ≡ (record_at (records_of records.now) p).kind }
 {
-    if n <= p {
+    if records.count <= p {
         return numbers::VOID;
     }
-    table_records::kind_at(table, unpacked, p)
+    records.kind_at(p)
 }
 
-pub fn kind(table: &[u8], unpacked: &[u32], n: usize, p: usize) -> Shape
-    ensures { shape_of result ≡ (schema_at table.now unpacked.now n).kind p }
+#[tactic(auto, unfolding(reading_rules::specs::Schema::schema_of, reading_rules::specs::Schema::kind_of))]
+pub fn kind(records: &Records, p: usize) -> Shape
+    ensures { shape_of result ≡ (schema_of_records records.now).kind p }
 {
-    let number = kind_number(table, unpacked, n, p);
+    let number = kind_number(records, p);
     match number {
         numbers::VOID => Shape::Void,
         numbers::STRUCT => Shape::Struct,
@@ -58,56 +61,59 @@ pub fn kind(table: &[u8], unpacked: &[u32], n: usize, p: usize) -> Shape
     }
 }
 
-pub fn is_void(table: &[u8], unpacked: &[u32], n: usize, p: usize) -> bool
-    ensures { result ≡ is_void ((schema_at table.now unpacked.now n).kind p) }
+#[tactic(auto, using(crate::proofs::Steps::void_number), unfolding(reading_rules::specs::Schema::schema_of))]
+pub fn is_void(records: &Records, p: usize) -> bool
+    ensures { result ≡ is_void ((schema_of_records records.now).kind p) }
 {
-    kind_number(table, unpacked, n, p) == numbers::VOID
+    kind_number(records, p) == numbers::VOID
 }
 
 // A reference's target, else the parameter itself.
-pub fn core(table: &[u8], unpacked: &[u32], n: usize, p: usize) -> usize
-    ensures { result ≡ (schema_at table.now unpacked.now n).core p }
+pub fn core(records: &Records, p: usize) -> usize
+    ensures { result ≡ (schema_of_records records.now).core p }
 {
-    if n <= p {
+    if records.count <= p {
         return p;
     }
-    if table_records::kind_at(table, unpacked, p) == numbers::REFERENCE {
-        return table_records::target_at(table, unpacked, p);
+    if records.kind_at(p) == numbers::REFERENCE {
+        return records.target_at(p);
     }
     p
 }
 
-pub fn lo(table: &[u8], unpacked: &[u32], n: usize, p: usize) -> usize
-    ensures { result ≡ (schema_at table.now unpacked.now n).lo p }
+// This and `hi` stay two: one function of both would take the count that it reads as a closure, and be no shorter.
+#[tactic(auto, using(table_records::proofs::Laws::record_past, table_records::proofs::Laws::record_at_lem), unfolding(reading_rules::specs::Record::blank, reading_rules::specs::Schema::schema_of))]
+pub fn lo(records: &Records, p: usize) -> usize
+    ensures { result ≡ (schema_of_records records.now).lo p }
 {
-    if n <= p {
+    if records.count <= p {
         return 1;
     }
-    table_records::lo_count_at(table, unpacked, p)
+    records.lo_count_at(p)
 }
 
 // 65,535 is no limit.
-pub fn hi(table: &[u8], unpacked: &[u32], n: usize, p: usize) -> usize
-    ensures { result ≡ (schema_at table.now unpacked.now n).hi p }
+#[tactic(auto, using(table_records::proofs::Laws::record_past, table_records::proofs::Laws::record_at_lem), unfolding(reading_rules::specs::Record::blank, reading_rules::specs::Schema::schema_of))]
+pub fn hi(records: &Records, p: usize) -> usize
+    ensures { result ≡ (schema_of_records records.now).hi p }
 {
-    if n <= p {
+    if records.count <= p {
         return 1;
     }
-    table_records::hi_count_at(table, unpacked, p)
+    records.hi_count_at(p)
 }
 
 // A list of c values may have one more.
+#[tactic(auto, unfolding(reading_rules::specs::Parse::may_grow))]
 pub fn may_grow(hi: usize, c: usize) -> bool
     ensures { result ≡ may_grow hi c }
 {
     (hi == table_records::NO_LIMIT) | (c < hi)
 }
 
-// What a list of ints takes, in packed digits: from least to most; fewer than hi values may have one more. Without on it is
-// another list, or takes no natural number.
+// What a list of ints takes, in packed digits: from least to most; fewer than hi values may have one more.
 #[derive(Clone, Copy)]
 pub struct Ints {
-    pub on: bool,
     pub least: u64,
     pub most: u64,
     pub hi: usize,
@@ -124,6 +130,7 @@ fn above_zero(x: u32) -> u32
 }
 
 // How many values a list may have, where no limit is more than any list has.
+#[tactic(auto, using(crate::proofs::IntLists::no_limit_lem, crate::proofs::IntLists::under_limit))]
 fn most_values(hi: usize) -> usize
     ensures { (c : ℕ) → c < result → may_grow hi c ≡ true }
 {
@@ -133,149 +140,139 @@ fn most_values(hi: usize) -> usize
     hi
 }
 
-// What the list of p takes.
-pub fn ints_of(table: &[u8], unpacked: &[u32], n: usize, p: usize) -> Ints
-    ensures { IntsOf (schema_at table.now unpacked.now n) p result }
+// What the list of p takes, where it is one of ints, of which some may be natural numbers.
+pub fn ints_of(records: &Records, p: usize) -> Option<Ints>
+    ensures { IfSome result (λ e. IntsOf (schema_of_records records.now) p e) }
 {
-    let u = core(table, unpacked, n, p);
-    let most_count = most_values(hi(table, unpacked, n, p));
-    if n <= u {
-        return Ints {
-            on: false,
-            least: 0,
-            most: 0,
-            hi: most_count,
-        };
+    let u = core(records, p);
+    if records.count <= u {
+        return None;
     }
-    let most = table_records::most_at(table, unpacked, u);
-    Ints {
-        on: (table_records::kind_at(table, unpacked, u) == numbers::INT) & (numbers::BIAS <= most),
-        least: numbers::packed(above_zero(table_records::least_at(table, unpacked, u))),
+    if records.kind_at(u) != numbers::INT {
+        return None;
+    }
+    let most = records.most_at(u);
+    if most < numbers::BIAS {
+        return None;
+    }
+    Some(Ints {
+        least: numbers::packed(above_zero(records.least_at(u))),
         most: numbers::packed(above_zero(most)),
-        hi: most_count,
-    }
+        hi: most_values(hi(records, p)),
+    })
 }
 
 // ---- the fields of p
 
-fn is_untagged_of(table: &[u8], unpacked: &[u32], p: usize, i: usize) -> bool
-    ensures { result ≡ is_untagged_of p (record_in table.now unpacked.now i) }
+fn is_untagged_of(records: &Records, p: usize, i: usize) -> bool
+    ensures { result ≡ is_untagged_of p (record_of records.now i) }
 {
-    if table_records::is_under(table, unpacked, i, p) {
-        return table_records::untagged_at(table, unpacked, i);
+    if records.is_under(i, p) {
+        return records.untagged_at(i);
     }
     false
 }
 
-fn is_tagged_of(table: &[u8], unpacked: &[u32], p: usize, i: usize) -> bool
-    ensures { result ≡ is_tagged_of p (record_in table.now unpacked.now i) }
+fn is_tagged_of(records: &Records, p: usize, i: usize) -> bool
+    ensures { result ≡ is_tagged_of p (record_of records.now i) }
 {
-    if table_records::is_under(table, unpacked, i, p) {
-        return !table_records::untagged_at(table, unpacked, i);
+    if records.is_under(i, p) {
+        return !records.untagged_at(i);
     }
     false
 }
 
 // The first untagged field from record i on.
-pub fn next_untagged(table: &[u8], unpacked: &[u32], n: usize, p: usize, i: usize) -> Found
-    ensures { found_of result ≡ first (untagged_from table.now unpacked.now n p i) }
+pub fn next_untagged(records: &Records, p: usize, i: usize) -> Option<usize>
+    ensures { found_of result ≡ first (untagged_in records.now p i) }
 {
-    let mut at = i;
-    while at < n {
-        if is_untagged_of(table, unpacked, p, at) {
-            return Found::At(at);
+    for at in i..records.count {
+        if is_untagged_of(records, p, at) {
+            return Some(at);
         }
-        at += 1;
     }
-    Found::Nowhere
+    None
 }
 
 // The untagged int of a union.
-pub fn bare(table: &[u8], unpacked: &[u32], n: usize, p: usize) -> Found
-    ensures { found_of result ≡ (schema_at table.now unpacked.now n).bare p }
+#[tactic(auto, unfolding(reading_rules::specs::Schema::schema_of))]
+pub fn bare(records: &Records, p: usize) -> Option<usize>
+    ensures { found_of result ≡ (schema_of_records records.now).bare p }
 {
-    next_untagged(table, unpacked, n, p, 0)
+    next_untagged(records, p, 0)
 }
 
 // The tag search: the field or alternative of p with this wire tag, looked for from a record on and round. Made again by a
 // match: handed on as it is, the reader's loop over ints is compiled into slower code (docs/PERFORMANCE.md).
-pub fn find(table: &[u8], unpacked: &[u32], n: usize, p: usize, word: &[u8], from: usize) -> Found
-    requires { Searchable table.now unpacked.now n }
-    ensures { found_of result ≡ (schema_at table.now unpacked.now n).find p word.now }
+#[tactic(auto, unfolding(reading_rules::specs::Schema::schema_of))]
+pub fn find(records: &Records, p: usize, word: &[u8], from: usize) -> Option<usize>
+    requires { Searchable records.now.table.now records.now.unpacked.now records.now.count }
+    ensures { found_of result ≡ (schema_of_records records.now).find p word.now }
 {
-    match table_tags::find(table, unpacked, n, p, word, from) {
-        Found::Nowhere => Found::Nowhere,
-        Found::At(q) => Found::At(q),
+    match table_tags::find(records, p, word, from) {
+        None => None,
+        Some(q) => Some(q),
     }
 }
 
 // ---- the fields that have appeared
 
-pub fn no_marks() -> [bool; numbers::PARAMETER_LIMIT]
-    ensures { result ≡ no_marks }
-{
-    [false; numbers::PARAMETER_LIMIT]
-}
-
 pub fn mark(seen: &mut [bool], k: usize)
     ensures { seen.new ≡ set seen.old k true }
 {
-    numbers::set_mark(seen, k, true);
+    numbers::set(seen, k, true);
 }
 
-fn is_required_of(table: &[u8], unpacked: &[u32], p: usize, i: usize) -> bool
-    ensures { result ≡ is_required_of p (record_in table.now unpacked.now i) }
+fn is_required_of(records: &Records, p: usize, i: usize) -> bool
+    ensures { result ≡ is_required_of p (record_of records.now i) }
 {
-    if is_tagged_of(table, unpacked, p, i) {
-        return !(table_records::extension_at(table, unpacked, i)
-            | table_records::plugin_at(table, unpacked, i)
-            | (table_records::lo_count_at(table, unpacked, i) == 0));
+    if is_tagged_of(records, p, i) {
+        return !(records.extension_at(i) | records.plugin_at(i) | (records.lo_count_at(i) == 0));
     }
     false
 }
 
-fn is_missing(table: &[u8], unpacked: &[u32], p: usize, seen: &[bool], i: usize) -> bool
-    ensures { result ≡ is_missing p seen.now i (record_in table.now unpacked.now i) }
+fn is_missing(records: &Records, p: usize, seen: &[bool], i: usize) -> bool
+    ensures { result ≡ is_missing p seen.now i (record_of records.now i) }
 {
-    if numbers::mark_at(seen, i) {
+    if numbers::get_or(seen, i, false) {
         return false;
     }
-    is_required_of(table, unpacked, p, i)
+    is_required_of(records, p, i)
 }
 
 // Every required tagged field of p has a mark.
-pub fn complete(table: &[u8], unpacked: &[u32], n: usize, p: usize, seen: &[bool]) -> bool
-    ensures { result ≡ complete_from p seen.now 0 (records_at table.now unpacked.now n) }
+pub fn complete(records: &Records, p: usize, seen: &[bool]) -> bool
+    ensures { result ≡ complete_from p seen.now 0 (records_of records.now) }
 {
-    let mut i = 0;
-    while i < n {
-        if is_missing(table, unpacked, p, seen, i) {
+    for i in 0..records.count {
+        if is_missing(records, p, seen, i) {
             return false;
         }
-        i += 1;
     }
     true
 }
 
 // ---- values
 
-// 0 where the form is right and the value lies in its range; else the number for what is wrong, the form first.
-fn form_then_range(form: bool, within: bool) -> u32
-    ensures { result ≡ form_then_range form within }
+// Whether the form is right and the value lies in its range; else what is wrong, the form first.
+#[tactic(auto, unfolding(reading_rules::specs::Value::form_then_range))]
+fn form_then_range(form: bool, within: bool) -> Result<(), Rule>
+    ensures number { judged result ≡ form_then_range form within }
+    ensures broken { OnErr result (judged result ≢ 0) }
 {
-    if form & within {
-        return 0;
+    match (form, within) {
+        (false, _) => Err(Rule::ValueForm),
+        (true, false) => Err(Rule::ValueRange),
+        (true, true) => Ok(()),
     }
-    if form {
-        return numbers::OUTSIDE;
-    }
-    numbers::NO_FORM
 }
 
+#[tactic(auto, unfolding(reading_rules::specs::Value::is_bool))]
 fn is_bool(text: &[u8]) -> bool
     ensures { result ≡ is_bool text.now }
 {
-    classes::same_bytes(text, b"true") | classes::same_bytes(text, b"false")
+    (text == b"true".as_slice()) | (text == b"false".as_slice())
 }
 
 // The text's length lies in the range, which is counted from the least i32.
@@ -289,83 +286,80 @@ fn length_within(text: &[u8], least: u32, most: u32) -> bool
     (least as usize <= ZERO + n) & (ZERO + n <= most as usize)
 }
 
-fn length_in_range(table: &[u8], unpacked: &[u32], q: usize, text: &[u8]) -> bool
-    ensures { result ≡ length_lies (record_in table.now unpacked.now q) text.now }
+fn length_in_range(records: &Records, q: usize, text: &[u8]) -> bool
+    ensures { result ≡ length_lies (record_of records.now q) text.now }
 {
-    length_within(
-        text,
-        table_records::least_at(table, unpacked, q),
-        table_records::most_at(table, unpacked, q),
-    )
+    length_within(text, records.least_at(q), records.most_at(q))
 }
 
-fn int_in_range(table: &[u8], unpacked: &[u32], q: usize, text: &[u8]) -> bool
-    ensures { result ≡ int_lies (record_in table.now unpacked.now q) text.now }
+fn int_in_range(records: &Records, q: usize, text: &[u8]) -> bool
+    ensures { result ≡ int_lies (record_of records.now q) text.now }
 {
-    numbers::int_within(
-        text,
-        table_records::least_at(table, unpacked, q),
-        table_records::most_at(table, unpacked, q),
-    )
+    numbers::int_within(text, records.least_at(q), records.most_at(q))
 }
 
 // A date: eight digits, then a day of the calendar.
-fn judge_date(text: &[u8]) -> u32
-    ensures { result ≡ form_then_range (date_form text.now) (date_within text.now) }
+// This and `judge_time` stay two: one of both would take both tests as closures, the second with what it requires, and be longer.
+fn judge_date(text: &[u8]) -> Result<(), Rule>
+    ensures number { judged result ≡ form_then_range (date_form text.now) (date_within text.now) }
+    ensures broken { OnErr result (judged result ≢ 0) }
 {
-    if !calendar::date_form(text) {
-        return numbers::NO_FORM;
+    if calendar::date_form(text) {
+        form_then_range(true, calendar::date_within(text))
+    } else {
+        Err(Rule::ValueForm)
     }
-    form_then_range(true, calendar::date_within(text))
 }
 
 // A time: six digits, then a time of the day.
-fn judge_time(text: &[u8]) -> u32
-    ensures { result ≡ form_then_range (time_form text.now) (time_within text.now) }
+fn judge_time(text: &[u8]) -> Result<(), Rule>
+    ensures number { judged result ≡ form_then_range (time_form text.now) (time_within text.now) }
+    ensures broken { OnErr result (judged result ≢ 0) }
 {
-    if !calendar::time_form(text) {
-        return numbers::NO_FORM;
+    if calendar::time_form(text) {
+        form_then_range(true, calendar::time_within(text))
+    } else {
+        Err(Rule::ValueForm)
     }
-    form_then_range(true, calendar::time_within(text))
 }
 
 // The value rule of each kind, for a word.
-fn judge_word(table: &[u8], unpacked: &[u32], q: usize, text: &[u8]) -> u32
-    ensures { result ≡ value_number (record_in table.now unpacked.now q) (word text.now) }
+fn judge_word(records: &Records, q: usize, text: &[u8]) -> Result<(), Rule>
+    ensures number { judged result ≡ value_number (record_of records.now q) (word text.now) }
+    ensures broken { OnErr result (judged result ≢ 0) }
 {
-    let kind = table_records::kind_at(table, unpacked, q);
+    let kind = records.kind_at(q);
     match kind {
         numbers::BOOL => form_then_range(is_bool(text), true),
-        numbers::INT => form_then_range(
-            numbers::is_int(text),
-            int_in_range(table, unpacked, q, text),
-        ),
-        numbers::UNQUOTED => form_then_range(true, length_in_range(table, unpacked, q, text)),
+        numbers::INT => form_then_range(numbers::is_int(text), int_in_range(records, q, text)),
+        numbers::UNQUOTED => form_then_range(true, length_in_range(records, q, text)),
         numbers::DATE => judge_date(text),
         numbers::TIME => judge_time(text),
-        _ => numbers::NO_FORM,
+        _ => Err(Rule::ValueForm),
     }
 }
 
 // The same for a string, without its quotes: only an ascii takes one.
-fn judge_string(table: &[u8], unpacked: &[u32], q: usize, text: &[u8]) -> u32
-    ensures { result ≡ value_number (record_in table.now unpacked.now q) (string text.now) }
+fn judge_string(records: &Records, q: usize, text: &[u8]) -> Result<(), Rule>
+    ensures number { judged result ≡ value_number (record_of records.now q) (string text.now) }
+    ensures broken { OnErr result (judged result ≢ 0) }
 {
     form_then_range(
-        table_records::kind_at(table, unpacked, q) == numbers::ASCII,
-        length_in_range(table, unpacked, q, text),
+        records.kind_at(q) == numbers::ASCII,
+        length_in_range(records, q, text),
     )
 }
 
-// The number that refuses a word, or a string without its quotes, as a value of the parameter q; 0 where it is one.
-pub fn judge(table: &[u8], unpacked: &[u32], n: usize, q: usize, text: &[u8], quoted: bool) -> u32
-    ensures { result ≡ (schema_at table.now unpacked.now n).judge q (text_token quoted text.now) }
+// Whether a word, or a string without its quotes, is a value of the parameter q; else the rule that it breaks.
+pub fn judge(records: &Records, q: usize, text: &[u8], quoted: bool) -> Result<(), Rule>
+    ensures number { judged result ≡ (schema_of_records records.now).judge q (text_token quoted text.now) }
+    ensures broken { OnErr result (judged result ≢ 0) }
 {
-    if n <= q {
-        return numbers::NO_FORM;
+    if records.count <= q {
+        return Err(Rule::ValueForm);
     }
     if quoted {
-        return judge_string(table, unpacked, q, text);
+        return judge_string(records, q, text);
     }
-    judge_word(table, unpacked, q, text)
+    judge_word(records, q, text)
 }

@@ -31,7 +31,9 @@ use Rattle.message_unknown.proofs.AlongLaws.{tail_trans, drop_tail, step_tail, t
 use Rattle.message_rows.proofs.Stores.{row_first}
 use Rattle.message_rows.proofs.Trees.{rows_at, place_at, body_any}
 use Rattle.reading_rules.specs.Schema.{first, found}
-use Rattle.message_lookup.specs.Questions.{schema_at, untagged_from}
+use Rattle.message_lookup.specs.Questions.{schema_at, untagged_from, shape_of}
+use Rattle.message_lookup.specs.declared.Shape.{Shape}
+use Rattle.message_lookup.specs.declared.Shape.TheVariants.{Void, Simple, Struct, Union, Reference}
 use Rattle.message_lookup.specs.Seen.{Marks, no_marks}
 use Rattle.reading_rules.specs.Schema.{numbers_where, is_untagged_of}
 use Rattle.table_records.specs.Stored.{records_at}
@@ -39,12 +41,15 @@ use Rattle.table_records.proofs.Laws.{length_records}
 use Rattle.message_lookup.proofs.Laws.{untagged_all, untagged_below, next_in}
 use Rattle.message_lookup.proofs.Marked.{marks_none}
 use Rattle.message_frame.specs.declared.Frame.{Frame}
-use Rattle.message_frame.specs.declared.Got.{Got}
-use Rattle.message_frame.specs.declared.Got.TheVariants.{Done, Refused}
+use Rattle.message_frame.specs.declared.Done.{Done}
+use Rattle.numbers.specs.Rules.{rule_number}
+use Rattle.numbers.specs.declared.Refusal.{Refusal}
+use Rattle.std.specs.Prelude.{Result as Answer, Ok, Err, Some}
+use Rattle.message_rows.specs.Filled.{with_ends}
 use Rattle.message_frame.specs.Ends.{Room, Moved, Ended, Ends, EndedValue, EndsValue}
 use Rattle.message_lookup.specs.IntList.{IntsOf}
 use Rattle.message_lookup.specs.declared.Ints.{Ints}
-use Rattle.message_lists.specs.Quickly.{QuickValue, QuickOn}
+use Rattle.message_lists.specs.Quickly.{QuickValue, QuickOn, QuickAt}
 use Rattle.message_frame.specs.Going.{Going, Chain}
 use Rattle.message_frame.specs.Ends.{Values}
 use Rattle.message_values.specs.Values.{Shut, ShutAt}
@@ -53,9 +58,9 @@ use Rattle.message_lists.specs.Lists.{Grows}
 use Rattle.message_bodies.specs.Bodies.{VoidItem, ListItem, Passes}
 use Rattle.message_frame.proofs.GoingLaws.{stopped_before, stopped_then, stopped_same, then_refused, then_got, read_same, going_start, going_stopped, going_on, going_read, going_step, chain_start, chain_stopped, chain_on, chain_read}
 use Rattle.message_frame.proofs.AtToken.{stop_here}
-use Rattle.message_reader.specs.Turning.{values_of, here, Fewer, Turned, Line, Loop, ElementAt, Itemed, PlainAt, closed_rows, end_place, is_union, placed_of, moved_of, next_of, field_of, under_of, inner_of, deeper_of, open_row, WholeAt, left_at, body_of, Bodying, Due}
-use Rattle.message_reader.specs.declared.Taken.{Taken}
-use Rattle.message_reader.specs.declared.Taken.TheVariants as taken
+use Rattle.message_reader.specs.Turning.{values_of, here, Fewer, Turned, Line, Loop, ElementAt, TakenAt, Itemed, PlainAt, is_union, placed_of, moved_of, next_of, field_of, under_of, inner_of, deeper_of, open_row, WholeAt, left_at, body_of, Bodying, Due}
+use Rattle.message_lists.specs.declared.Taken.{Taken}
+use Rattle.message_lists.specs.declared.Taken.TheVariants as taken
 
 shorter : {A : Type 0} (j : ℕ) (x : List A) → length (drop j x) ≤ length x
 shorter zero x = omega arith
@@ -76,9 +81,9 @@ pub room_inner : (f : Frame) (s : List ℕ) (n e u : ℕ) → Room f (length s) 
 room_inner f s n e u r l h = record { short = omega (arith, part_end f.base s e h, r.short); here = omega arith; few = omega (arith, r.few, l); above = omega (arith, r.few, r.short, r.here); indexed = omega arith; known = r.known }
 
 -- ---- answers that are equal
-pub value_same : {o o' : Result (Tree value)} (s : List ℕ) (f : Frame) (before after : List ℕ) (g : Got) → o ≡ o' → EndsValue o' s f before after g → EndsValue o s f before after g
-value_same s f before after (Done u m) e h = record { ended = record { read = record { tree = h.ended.read.tree; is = e ∙ h.ended.read.is; left = h.ended.read.left; written = h.ended.read.written; sized = h.ended.read.sized }; moved = h.ended.moved }; wide = h.wide; last = h.last }
-value_same s f before after (Refused n q) e h = stopped_same e h
+pub value_same : {o o' : Result (Tree value)} (s : List ℕ) (f : Frame) (before after : List ℕ) (g : Answer Done Refusal) → o ≡ o' → EndsValue o' s f before after g → EndsValue o s f before after g
+value_same s f before after (Ok d) e h = record { ended = record { read = record { tree = h.ended.read.tree; is = e ∙ h.ended.read.is; left = h.ended.read.left; written = h.ended.read.written; sized = h.ended.read.sized }; moved = h.ended.moved }; wide = h.wide; last = h.last }
+value_same s f before after (Err x) e h = stopped_same e h
 
 -- ---- loops: the answer at the start, and the answer now
 pub line_start_lem : {k : TreeSort} (o : Result (Tree k)) (s : List ℕ) (f : Frame) (before : List ℕ) → f.at ≤ length s → Line o o s f before before f.at f.row f.index
@@ -94,9 +99,9 @@ module _ {k k' : TreeSort} {o : Result (Tree k)} {o' : Result (Tree k')} {s : Li
   pub line_on : {o'' : Result (Tree k')} {mid : List ℕ} {e m j' : ℕ} → Turned o' o'' s (placed_of f at row j) after mid e m j' → Line o o'' s f before mid e m j'
   line_on t = record { going = going_on l.going t.going; moved = record { far = omega (arith, l.moved.far, t.moved.far); within = t.moved.within; counted = omega (arith, l.moved.counted, t.moved.counted) } }
 
-  pub line_out : (mid : List ℕ) (least : ℕ) (r : Got) → Ends o' s (placed_of f at row j) after mid least r → Ends o s f before mid least r
-  line_out mid least (Done u m) w = record { read = going_read l.going w.read; moved = moved_on w.moved }
-  line_out mid least (Refused n q) w = going_stopped l.going w
+  pub line_out : (mid : List ℕ) (least : ℕ) (r : Answer Done Refusal) → Ends o' s (placed_of f at row j) after mid least r → Ends o s f before mid least r
+  line_out mid least (Ok d) w = record { read = going_read l.going w.read; moved = moved_on w.moved }
+  line_out mid least (Err x) w = going_stopped l.going w
 
 -- with fuel
 pub loop_start : {k : TreeSort} (now : ℕ → Result (Tree k)) (s : List ℕ) (f : Frame) (before : List ℕ) → f.at ≤ length s → Loop (now (suc (length (tokens_at f.base s f.at)))) now s f before before f.at f.row f.index
@@ -114,12 +119,19 @@ module _ {k k' : TreeSort} {o : Result (Tree k)} {now : ℕ → Result (Tree k')
       go zero h g = absurd (omega arith)
       go (suc fuel) h g = record { fuel = fuel; enough = omega (arith, h, w); line = line_on g (t fuel) }
 
-  pub loop_out : (mid : List ℕ) (least : ℕ) (r : Got) → ((fuel : ℕ) → Ends (now (suc fuel)) s (placed_of f at row j) after mid least r) → Ends o s f before mid least r
+  pub loop_out : (mid : List ℕ) (least : ℕ) (r : Answer Done Refusal) → ((fuel : ℕ) → Ends (now (suc fuel)) s (placed_of f at row j) after mid least r) → Ends o s f before mid least r
   loop_out mid least r t = go l.fuel l.enough l.line
     where
       go : (fuel : ℕ) → length (tokens_at f.base s at) < fuel → Line o (now fuel) s f before after at row j → Ends o s f before mid least r
       go zero h g = absurd (omega arith)
       go (suc fuel) h g = line_out g mid least r (t fuel)
+
+  pub loop_stopped : (n q : ℕ) → ((fuel : ℕ) → Stopped (now (suc fuel)) (lexemes_at f.base s at) (f.base + length s) n q) → Stopped o (lexemes_at f.base s f.at) (f.base + length s) n q
+  loop_stopped n q t = go l.fuel l.enough l.line
+    where
+      go : (fuel : ℕ) → length (tokens_at f.base s at) < fuel → Line o (now fuel) s f before after at row j → Stopped o (lexemes_at f.base s f.at) (f.base + length s) n q
+      go zero h g = absurd (omega arith)
+      go (suc fuel) h g = going_stopped g.going (t fuel)
 
 -- ---- lists
 module _ (S : Schema) (Vs : Values) (q c : ℕ) (x : List Lex) where
@@ -299,16 +311,16 @@ pub body_none : (S : Schema) (s : List ℕ) (f : Frame) (inside : Bool) (h : Hea
 unfolding body_at
 body_none S s f inside h g e = stop_here (body_at S f.depth inside f.parameter (here s f)) f.base s f.at h 0 g (rw e refl)
 
-pub body_ends_lem : (S : Schema) (s : List ℕ) (f : Frame) (inside : Bool) (before after : List ℕ) (g : Got) → (f.depth ≡ 0 → ⊥) → Ends (lists_at S (values_of S (f.depth - 1)) inside f.parameter (S.untagged f.parameter) (here s f)) s (deeper_of f) before after 0 g → Ends (body_at S f.depth inside f.parameter (here s f)) s f before after 0 g
+pub body_ends_lem : (S : Schema) (s : List ℕ) (f : Frame) (inside : Bool) (before after : List ℕ) (g : Answer Done Refusal) → (f.depth ≡ 0 → ⊥) → Ends (lists_at S (values_of S (f.depth - 1)) inside f.parameter (S.untagged f.parameter) (here s f)) s (deeper_of f) before after 0 g → Ends (body_at S f.depth inside f.parameter (here s f)) s f before after 0 g
 unfolding body_at
 body_ends_lem S s f inside before after g d h =
     let e : f.depth ≡ suc (f.depth - 1) = omega (arith, d) in
     let i : body_at S f.depth inside f.parameter (here s f) ≡ lists_at S (values_of S (f.depth - 1)) inside f.parameter (S.untagged f.parameter) (here s f) = ap (λ k. body_at S k inside f.parameter (here s f)) e in
     go g h i
   where
-    go : (g : Got) → Ends (lists_at S (values_of S (f.depth - 1)) inside f.parameter (S.untagged f.parameter) (here s f)) s (deeper_of f) before after 0 g → body_at S f.depth inside f.parameter (here s f) ≡ lists_at S (values_of S (f.depth - 1)) inside f.parameter (S.untagged f.parameter) (here s f) → Ends (body_at S f.depth inside f.parameter (here s f)) s f before after 0 g
-    go (Done u m) h i = record { read = read_same i h.read; moved = h.moved }
-    go (Refused n q) h i = stopped_same i h
+    go : (g : Answer Done Refusal) → Ends (lists_at S (values_of S (f.depth - 1)) inside f.parameter (S.untagged f.parameter) (here s f)) s (deeper_of f) before after 0 g → body_at S f.depth inside f.parameter (here s f) ≡ lists_at S (values_of S (f.depth - 1)) inside f.parameter (S.untagged f.parameter) (here s f) → Ends (body_at S f.depth inside f.parameter (here s f)) s f before after 0 g
+    go (Ok d) h i = record { read = read_same i h.read; moved = h.moved }
+    go (Err x) h i = stopped_same i h
 
 -- ---- structs
 place_first : (base : ℕ) (x : List Lex) (a e : ℕ) {t : Token} {y : List Lex} → x ≡ lexeme t (base + a) (base + e) ∷ y → (lexeme_at x 0).start ≡ base + a
@@ -387,9 +399,9 @@ module _ (S : Schema) (s : List ℕ) (f : Frame) (u a e : ℕ) (before mid after
         shut_is : (t : Tree body) (at p : ℕ) → Step (cut_at f.base s (e + v.at)) f.base s (e + v.at) closing p at → shut t (tokens_at f.base s (e + v.at)) ≡ got (braced t) (tokens_at f.base s at)
         shut_is t at p k = closing_shut t (tokens_at f.base s (e + v.at)) (tokens_at f.base s at) (step_tokens f.base s (e + v.at) closing p at k)
 
-    pub braced_ends : (r : Got) → ShutAt s f a (e + v.at) m mid after r → EndsValue (struct_at (body_at S f.depth true) u (here s f)) s f before after r
-    braced_ends (Done q next) k = shut_done q.at next k
-    braced_ends (Refused n q) k =
+    pub braced_ends : (r : Answer Done Refusal) → ShutAt s f a (e + v.at) m mid after r → EndsValue (struct_at (body_at S f.depth true) u (here s f)) s f before after r
+    braced_ends (Ok d) k = shut_done d.past.at d.row k
+    braced_ends (Err x) k =
         stopped_before (lexemes_at f.base s f.at) (lexemes_at f.base s (e + v.at)) (rw inside_left (drop_tail (1 + width h.read.tree) (lexemes_at f.base s f.at)))
         (λ j z g. struct_is ∙ (then_got (body_at S f.depth true u (tokens_at f.base s e)) shut h.read.tree (tokens_at f.base s (e + v.at)) inside_is ∙ g)) (k h.read.tree)
 
@@ -398,7 +410,7 @@ value_is : (S : Schema) (B : ℕ → List Token → Result (Tree body)) (fuel q 
 unfolding value_at
 value_is S B fuel q x k e = rw e refl
 
-module _ (S : Schema) (s : List ℕ) (f : Frame) (before after : List ℕ) (g : Got) where
+module _ (S : Schema) (s : List ℕ) (f : Frame) (before after : List ℕ) (g : Answer Done Refusal) where
   pub plain_none : (k : schema.Kind) → S.kind (S.core f.parameter) ≡ k → is_place k ≡ false → ((b a : List ℕ) → EndsValue (none_at (here s f)) s f b a g) → PlainAt S s f before after g
   unfolding by_kind
   plain_none k e p h fuel n = value_same s f before after g (value_is S (body_at S f.depth true) fuel f.parameter (here s f) k e ∙ none_is k p (λ z. n (e ∙ z))) (h before after)
@@ -419,12 +431,32 @@ module _ (S : Schema) (s : List ℕ) (f : Frame) (before after : List ℕ) (g : 
   plain_struct u c e h fuel n = value_same s f before after g (value_is S (body_at S f.depth true) fuel f.parameter (here s f) schema.struct (rw c at e)) (rw c at h)
 
 -- a value of a list of ints that is plain digits, and with a comma behind
-pub quick_ended : (S : Schema) (s : List ℕ) (f : Frame) (before after : List ℕ) (u : Cursor) (m : ℕ) → QuickValue S s f before after u.at m → EndsValue (values_of S f.depth f.parameter (here s f)) s f before after (Done u m)
+pub quick_ended : (S : Schema) (s : List ℕ) (f : Frame) (before after : List ℕ) (u : Cursor) (m : ℕ) → QuickValue S s f before after u.at m → EndedValue (values_of S f.depth f.parameter (here s f)) s f before after u.at m
 unfolding by_kind
-quick_ended S s f before after u m q = value_same s f before after (Done u m) (value_is S (body_at S f.depth true) (length (here s f)) f.parameter (here s f) schema.simple q.simple) q.value
+quick_ended S s f before after u m q = value_same s f before after (Ok (record { past = u; row = m })) (value_is S (body_at S f.depth true) (length (here s f)) f.parameter (here s f) schema.simple q.simple) q.value
 
-pub quick_element : (S : Schema) (s : List ℕ) (f : Frame) (before after : List ℕ) (u : Cursor) (m : ℕ) → QuickOn S s f before after u.at m → ElementAt S s f before after (taken.On u m)
+pub quick_element : (S : Schema) (s : List ℕ) (f : Frame) (before after : List ℕ) (u : Cursor) (m : ℕ) → QuickOn S s f before after u.at m → ElementAt S s f before after (Ok (taken.On u m))
 quick_element S s f before after u m q = element_more S s f before after (record { at = q.end }) m (quick_ended S s f before after (record { at = q.end }) m q.value) u.at q.more
+
+pub quick_taken : (S : Schema) (s : List ℕ) (f : Frame) (before after : List ℕ) (r : Taken) → QuickAt S s f before after (Some r) → TakenAt S s f before after (Ok r)
+quick_taken S s f before after (taken.On u m) q = quick_element S s f before after u m q
+quick_taken S s f before after (taken.Last u m) q = quick_ended S s f before after u m q
+
+-- the code's shapes
+pub no_place : (z : Shape) → (z ≡ Simple → ⊥) → (z ≡ Struct → ⊥) → is_place (shape_of z) ≡ false
+no_place Void a b = refl
+no_place Simple a b = absurd (a refl)
+no_place Struct a b = absurd (b refl)
+no_place Union a b = refl
+no_place Reference a b = refl
+
+pub no_choice : (z : Shape) → (z ≡ Union → ⊥) → is_union (shape_of z) ≡ false
+unfolding is_union
+no_choice Void a = refl
+no_choice Simple a = refl
+no_choice Struct a = refl
+no_choice Union a = absurd (a refl)
+no_choice Reference a = refl
 
 -- ---- choices
 pub is_union_lem : (k : schema.Kind) → is_union k ≡ true → k ≡ schema.union
@@ -438,6 +470,11 @@ is_union_lem schema.reference e = let z : ◌≡◌ {A = ℕ} 0 1 = cc in absurd
 pub no_union : (k : schema.Kind) → is_union k ≡ false → k ≡ schema.union → ⊥
 unfolding is_union
 no_union k e q = let h : is_union schema.union ≡ false = rw q at e in let z : ◌≡◌ {A = ℕ} 0 1 = cc in omega arith
+
+-- the rows of a chain of choices, with their end where one was read
+abbrev pub closed_rows : Answer Done Refusal → ℕ → ℕ → ℕ → List ℕ → List ℕ
+closed_rows (Ok d) base first row before = with_ends before first (row - first) (base + d.past.at)
+closed_rows (Err x) base first row before = before
 
 -- the frame of what is read next down a chain
 abbrev pub chain_of : Frame → ℕ → ℕ → ℕ → ℕ → ℕ → Frame
@@ -499,9 +536,9 @@ module _ (S : Schema) (s : List ℕ) (f : Frame) (at row q up j n : ℕ) (before
 
   -- what the chain holds is read
   down_read : (o : Result (Tree value)) → Chain (values_of S f.depth f.parameter (here s f)) o (lexemes_at f.base s f.at) (lexemes_at f.base s at) before after f.row f.parameter f.parent f.index row q up j
-      → (mid final : List ℕ) (r : Got) → EndsValue o s (chain_of f at row q up j) after mid r → final ≡ closed_rows r f.base f.row row mid
+      → (mid final : List ℕ) (r : Answer Done Refusal) → EndsValue o s (chain_of f at row q up j) after mid r → final ≡ closed_rows r f.base f.row row mid
       → EndsValue (values_of S f.depth f.parameter (here s f)) s f before final r
-  down_read o z mid final (Done v m) h e =
+  down_read o z mid final (Ok v) h e =
       let c = chain_read z h.ended.read h.wide h.last e in
       record {
         ended = record {
@@ -511,18 +548,18 @@ module _ (S : Schema) (s : List ℕ) (f : Frame) (at row q up j n : ℕ) (before
         wide = c.1;
         last = c.2;
       }
-  down_read o z mid final (Refused k p) h e = chain_stopped z h
+  down_read o z mid final (Err x) h e = chain_stopped z h
 
-  pub down_value : (mid final : List ℕ) (r g : Got) → is_union (S.kind (S.core q)) ≡ false → PlainAt S s (chain_of f at row q up j) after mid g → r ≡ g → final ≡ closed_rows g f.base f.row row mid → EndsValue (values_of S f.depth f.parameter (here s f)) s f before final r
-  down_value mid final r g u h i e = rw i (go d.fuel d.enough d.chain)
+  pub down_value : (mid final : List ℕ) (g : Answer Done Refusal) → is_union (S.kind (S.core q)) ≡ false → PlainAt S s (chain_of f at row q up j) after mid g → final ≡ closed_rows g f.base f.row row mid → EndsValue (values_of S f.depth f.parameter (here s f)) s f before final g
+  down_value mid final g u h e = go d.fuel d.enough d.chain
     where
       go : (fuel : ℕ) → length (tokens_at f.base s at) < fuel → Chain (values_of S f.depth f.parameter (here s f)) (value_at S (body_at S f.depth true) fuel q (tokens_at f.base s at)) (lexemes_at f.base s f.at) (lexemes_at f.base s at) before after f.row f.parameter f.parent f.index row q up j → EndsValue (values_of S f.depth f.parameter (here s f)) s f before final g
       go zero l z = absurd (omega arith)
       go (suc fuel) l z = down_read (value_at S (body_at S f.depth true) (suc fuel) q (tokens_at f.base s at)) z mid final g (h fuel (no_union (S.kind (S.core q)) u)) e
 
-  whole_read : (u c a e : ℕ) (mid : List ℕ) (fuel : ℕ) → u ≡ S.core q → is_union (S.kind u) ≡ true → Whole S n s (chain_of f at row q up j) u c a e → (g : Got) → WholeAt (chain_of f at row q up j) c a e after mid g → EndsValue (value_at S (body_at S f.depth true) (suc fuel) q (tokens_at f.base s at)) s (chain_of f at row q up j) after mid g
+  whole_read : (u c a e : ℕ) (mid : List ℕ) (fuel : ℕ) → u ≡ S.core q → is_union (S.kind u) ≡ true → Whole S n s (chain_of f at row q up j) u c a e → (g : Done) → WholeAt (chain_of f at row q up j) c a e after mid g → EndsValue (value_at S (body_at S f.depth true) (suc fuel) q (tokens_at f.base s at)) s (chain_of f at row q up j) after mid (Ok g)
   unfolding row_over lexeme_at
-  whole_read u c a e mid fuel i k w (Done v m) t =
+  whole_read u c a e mid fuel i k w g t =
       let x = step_lex f.base s at (word w.text) a e w.step in
       let b = step_within f.base s at (word w.text) a e w.step in
       let y : rows_of (lexemes_at f.base s at) w.tree 0 row q up j ≡ record { parameter = q; parent = up; start = f.base + a; end = f.base + e; index = j } ∷ record { parameter = c; parent = row; start = f.base + a; end = f.base + e; index = 0 } ∷ [] = w.rows (lexemes_at f.base s at) row q up j ∙ rw x refl in
@@ -540,14 +577,13 @@ module _ (S : Schema) (s : List ℕ) (f : Frame) (at row q up j n : ℕ) (before
         wide = omega (arith, w.wide);
         last = rw (w.wide, x, t.same) refl;
       }
-  whole_read u c a e mid fuel i k w (Refused j p) t = absurd t
 
-  pub down_whole : (u c a e : ℕ) (mid final : List ℕ) (r g : Got) → u ≡ S.core q → is_union (S.kind u) ≡ true → Whole S n s (chain_of f at row q up j) u c a e → WholeAt (chain_of f at row q up j) c a e after mid g → r ≡ g → final ≡ closed_rows g f.base f.row row mid → EndsValue (values_of S f.depth f.parameter (here s f)) s f before final r
-  down_whole u c a e mid final r g i k w t y z = rw y (go d.fuel d.enough d.chain)
+  pub down_whole : (u c a e : ℕ) (mid final : List ℕ) (g : Done) → u ≡ S.core q → is_union (S.kind u) ≡ true → Whole S n s (chain_of f at row q up j) u c a e → WholeAt (chain_of f at row q up j) c a e after mid g → final ≡ closed_rows (Ok g) f.base f.row row mid → EndsValue (values_of S f.depth f.parameter (here s f)) s f before final (Ok g)
+  down_whole u c a e mid final g i k w t z = go d.fuel d.enough d.chain
     where
-      go : (fuel : ℕ) → length (tokens_at f.base s at) < fuel → Chain (values_of S f.depth f.parameter (here s f)) (value_at S (body_at S f.depth true) fuel q (tokens_at f.base s at)) (lexemes_at f.base s f.at) (lexemes_at f.base s at) before after f.row f.parameter f.parent f.index row q up j → EndsValue (values_of S f.depth f.parameter (here s f)) s f before final g
+      go : (fuel : ℕ) → length (tokens_at f.base s at) < fuel → Chain (values_of S f.depth f.parameter (here s f)) (value_at S (body_at S f.depth true) fuel q (tokens_at f.base s at)) (lexemes_at f.base s f.at) (lexemes_at f.base s at) before after f.row f.parameter f.parent f.index row q up j → EndsValue (values_of S f.depth f.parameter (here s f)) s f before final (Ok g)
       go zero l x = absurd (omega arith)
-      go (suc fuel) l x = down_read (value_at S (body_at S f.depth true) (suc fuel) q (tokens_at f.base s at)) x mid final g (whole_read u c a e mid fuel i k w g t) z
+      go (suc fuel) l x = down_read (value_at S (body_at S f.depth true) (suc fuel) q (tokens_at f.base s at)) x mid final (Ok g) (whole_read u c a e mid fuel i k w g t) z
 
   pub down_stopped : (u k p : ℕ) → u ≡ S.core q → is_union (S.kind u) ≡ true → ((Vs : Values) → Stopped (union_at S Vs u (tokens_at f.base s at)) (lexemes_at f.base s at) (f.base + length s) k p) → Stopped (values_of S f.depth f.parameter (here s f)) (lexemes_at f.base s f.at) (f.base + length s) k p
   down_stopped u k p i e h = go d.fuel d.enough d.chain
@@ -589,27 +625,28 @@ module _ {S : Schema} {s : List ℕ} {f g : Frame} {before after : List ℕ} (i 
   pub listing_ints : (e : Ints) → IntsOf S f.parameter e → IntsOf S g.parameter e
   listing_ints e h = subst (λ q. IntsOf S q e) (sym listing_named) h
 
-  pub listing_turn : (mid : List ℕ) (t : Taken) (u : Cursor) (m : ℕ) → ElementAt S s g after mid t → t ≡ taken.On u m → (g.at < u.at) × (u.at ≤ length s)
-  listing_turn mid t u m h e = let w : (fuel : ℕ) → Fewer s g u.at × Turned (list_at S (values_of S g.depth) (suc fuel) g.parameter g.index (here s g)) (list_at S (values_of S g.depth) fuel g.parameter (suc g.index) (tokens_at g.base s u.at)) s g after mid u.at m (suc g.index) = subst (ElementAt S s g after mid) e h in (omega (arith, (w 0).1.moved.far), (w 0).1.moved.within)
+  module _ (mid : List ℕ) (u : Cursor) (m : ℕ) where
+    pub listing_turn : ElementAt S s g after mid (Ok (taken.On u m)) → (g.at < u.at) × (u.at ≤ length s)
+    listing_turn w = (omega (arith, (w 0).1.moved.far), (w 0).1.moved.within)
 
-  pub listing_on : (mid : List ℕ) (t : Taken) (u : Cursor) (m : ℕ) (g' : Frame) → ElementAt S s g after mid t → t ≡ taken.On u m → g' ≡ next_of g u.at m g.parent → Listing S s f g' before mid
-  listing_on mid t u m g' h e q =
-      let w : (fuel : ℕ) → Fewer s (placed_of f g.at g.row g.index) u.at × Turned (list_at S (values_of S f.depth) (suc fuel) f.parameter g.index (tokens_at f.base s g.at)) (list_at S (values_of S f.depth) fuel f.parameter (suc g.index) (tokens_at f.base s u.at)) s (placed_of f g.at g.row g.index) after mid u.at m (suc g.index)
-      = subst (λ z. ElementAt S s z after mid (taken.On u m)) i.same (subst (ElementAt S s g after mid) e h) in
-      let b = listing_turn mid t u m h e in
-      let k : g' ≡ placed_of f u.at m (suc g.index) = q ∙ (ap (λ z. next_of z u.at m z.parent) i.same ∙ ap (λ j. placed_of f u.at m j) (add-one g.index)) in
-      rw k record {
-        same = refl;
-        loop = loop_on i.loop (w 0).0 (λ fuel. (w fuel).1);
-        few = omega (arith, i.few, b.0);
-        size = sets_length after mid (row_width * g.row) (cells (w 0).1.going.acc) (w 0).1.going.written ∙ i.size;
-      }
+    pub listing_on : (g' : Frame) → ElementAt S s g after mid (Ok (taken.On u m)) → g' ≡ next_of g u.at m g.parent → Listing S s f g' before mid
+    listing_on g' h q =
+        let w : (fuel : ℕ) → Fewer s (placed_of f g.at g.row g.index) u.at × Turned (list_at S (values_of S f.depth) (suc fuel) f.parameter g.index (tokens_at f.base s g.at)) (list_at S (values_of S f.depth) fuel f.parameter (suc g.index) (tokens_at f.base s u.at)) s (placed_of f g.at g.row g.index) after mid u.at m (suc g.index)
+        = subst (λ z. ElementAt S s z after mid (Ok (taken.On u m))) i.same h in
+        let b = listing_turn h in
+        let k : g' ≡ placed_of f u.at m (suc g.index) = q ∙ (ap (λ z. next_of z u.at m z.parent) i.same ∙ ap (λ j. placed_of f u.at m j) (add-one g.index)) in
+        rw k record {
+          same = refl;
+          loop = loop_on i.loop (w 0).0 (λ fuel. (w fuel).1);
+          few = omega (arith, i.few, b.0);
+          size = sets_length after mid (row_width * g.row) (cells (w 0).1.going.acc) (w 0).1.going.written ∙ i.size;
+        }
 
-  pub listing_done : (mid : List ℕ) (t : Taken) (u : Cursor) (m : ℕ) → ElementAt S s g after mid t → t ≡ taken.Done u m → Ends (whole_list S (values_of S f.depth) f.parameter (here s f)) s f before mid 1 (Done u m)
-  listing_done mid t u m h e = loop_out i.loop mid 1 (Done u m) (subst (λ z. ElementAt S s z after mid (taken.Done u m)) i.same (subst (ElementAt S s g after mid) e h))
+    pub listing_done : ElementAt S s g after mid (Ok (taken.Last u m)) → Ended (whole_list S (values_of S f.depth) f.parameter (here s f)) s f before mid 1 u.at m
+    listing_done h = loop_out i.loop mid 1 (Ok (record { past = u; row = m })) (subst (λ z. ElementAt S s z after mid (Ok (taken.Last u m))) i.same h)
 
-  pub listing_refused : (mid : List ℕ) (t : Taken) (n q : ℕ) → ElementAt S s g after mid t → t ≡ taken.Refused n q → Ends (whole_list S (values_of S f.depth) f.parameter (here s f)) s f before mid 1 (Refused n q)
-  listing_refused mid t n q h e = loop_out i.loop mid 1 (Refused n q) (subst (λ z. ElementAt S s z after mid (taken.Refused n q)) i.same (subst (ElementAt S s g after mid) e h))
+  pub listing_refused : (mid : List ℕ) (x : Refusal) → ElementAt S s g after mid (Err x) → Stopped (whole_list S (values_of S f.depth) f.parameter (here s f)) (lexemes_at f.base s f.at) (f.base + length s) (rule_number x.rule) x.place
+  listing_refused mid x h = loop_stopped i.loop (rule_number x.rule) x.place (subst (λ z. ElementAt S s z after mid (Err x)) i.same h)
 
 -- a body: lists of untagged fields, then items
 left_start : (S : Schema) (Vs : Values) (inside : Bool) (p : ℕ) (qs : List ℕ) (x : List Lex) (rows : List ℕ) (row up j : ℕ) → Going (lists_at S Vs inside p qs (tokens_of x)) (left_at S Vs inside p qs [] (suc (length (tokens_of x))) (tokens_of x)) x x rows rows row p up j row j
@@ -641,8 +678,11 @@ module _ {S : Schema} {s : List ℕ} {f g : Frame} {inside : Bool} {before after
   pub bodying_depth : g.depth ≡ f.depth
   bodying_depth = ap (λ (z : Frame). z.depth) i.same
 
-  pub bodying_out : (mid : List ℕ) (r : Got) → ((fuel : ℕ) → Ends (left_at S (values_of S g.depth) inside g.parameter qs i.seen (suc fuel) (here s g)) s g after mid 0 r) → Ends (body_of S s f inside) s f before mid 0 r
+  pub bodying_out : (mid : List ℕ) (r : Answer Done Refusal) → ((fuel : ℕ) → Ends (left_at S (values_of S g.depth) inside g.parameter qs i.seen (suc fuel) (here s g)) s g after mid 0 r) → Ends (body_of S s f inside) s f before mid 0 r
   bodying_out mid r h = loop_out i.loop mid 0 r (subst (λ z. (fuel : ℕ) → Ends (left_at S (values_of S z.depth) inside z.parameter qs i.seen (suc fuel) (here s z)) s z after mid 0 r) i.same h)
+
+  pub bodying_stopped : (n q : ℕ) → ((fuel : ℕ) → Stopped (left_at S (values_of S g.depth) inside g.parameter qs i.seen (suc fuel) (here s g)) (lexemes_at g.base s g.at) (g.base + length s) n q) → Stopped (body_of S s f inside) (lexemes_at f.base s f.at) (f.base + length s) n q
+  bodying_stopped n q h = loop_stopped i.loop n q (subst (λ z. (fuel : ℕ) → Stopped (left_at S (values_of S z.depth) inside z.parameter qs i.seen (suc fuel) (here s z)) (lexemes_at z.base s z.at) (z.base + length s) n q) i.same h)
 
 -- after the untagged fields
 module _ {S : Schema} {s : List ℕ} {f g : Frame} {inside : Bool} {before after : List ℕ} {marks : List Bool} (i : Bodying S s f g inside before after marks []) where
@@ -669,7 +709,7 @@ module _ {S : Schema} {s : List ℕ} {f g : Frame} {inside : Bool} {before after
         far = omega (arith, b.0, c.0);
         within = c.1;
         read = λ mid at m h. (bodying_item mid new at m (item_list S n s g inside i.seen new after mid q e v at m k h)).1;
-        refused = λ j p h. bodying_out i after (Refused j p) (item_refused S n s g inside i.seen new after after q e v j p h);
+        refused = λ j p h. bodying_stopped i j p (item_refused S n s g inside i.seen new after after q e v j p h);
       }
 
 -- before the list of the untagged field q
@@ -698,7 +738,7 @@ module _ {S : Schema} {s : List ℕ} {f g : Frame} {inside : Bool} {before after
     far = omega arith;
     within = i.loop.line.moved.within;
     read = λ mid at m h. bodying_field mid at m (field_on S s g inside after q qs e mid at m h);
-    refused = λ k p h. bodying_out i after (Refused k p) (λ fuel. field_refused S s g inside after q qs e k p h);
+    refused = λ k p h. bodying_stopped i k p (λ fuel. field_refused S s g inside after q qs e k p h);
   }
 
 -- none is left from the last record on
@@ -722,11 +762,11 @@ module _ {S : Schema} {s : List ℕ} {f g : Frame} {n : ℕ} {before after : Lis
   pub choosing_depth : g.depth ≡ f.depth
   choosing_depth = ap (λ (z : Frame). z.depth) i.same
 
-  pub choosing_value : (u : ℕ) (mid final : List ℕ) (r x : Got) → u ≡ S.core g.parameter → is_union (S.kind u) ≡ false → PlainAt S s g after mid x → r ≡ x → final ≡ closed_rows x f.base f.row g.row mid → EndsValue (values_of S f.depth f.parameter (here s f)) s f before final r
-  choosing_value u mid final r x c k h e w = down_value S s f g.at g.row g.parameter g.parent g.index n before after i.down mid final r x (rw c at k) (subst (λ z. PlainAt S s z after mid x) i.same h) e w
+  pub choosing_value : (u : ℕ) (mid final : List ℕ) (x : Answer Done Refusal) → u ≡ S.core g.parameter → is_union (S.kind u) ≡ false → PlainAt S s g after mid x → final ≡ closed_rows x f.base f.row g.row mid → EndsValue (values_of S f.depth f.parameter (here s f)) s f before final x
+  choosing_value u mid final x c k h w = down_value S s f g.at g.row g.parameter g.parent g.index n before after i.down mid final x (rw c at k) (subst (λ z. PlainAt S s z after mid x) i.same h) w
 
-  pub choosing_whole : (u c a e : ℕ) (mid final : List ℕ) (r x : Got) → u ≡ S.core g.parameter → is_union (S.kind u) ≡ true → Whole S n s g u c a e → WholeAt g c a e after mid x → r ≡ x → final ≡ closed_rows x f.base f.row g.row mid → EndsValue (values_of S f.depth f.parameter (here s f)) s f before final r
-  choosing_whole u c a e mid final r x d k h t q w = down_whole S s f g.at g.row g.parameter g.parent g.index n before after i.down u c a e mid final r x d k (subst (λ z. Whole S n s z u c a e) i.same h) (subst (λ z. WholeAt z c a e after mid x) i.same t) q w
+  pub choosing_whole : (u c a e : ℕ) (mid final : List ℕ) (x : Done) → u ≡ S.core g.parameter → is_union (S.kind u) ≡ true → Whole S n s g u c a e → WholeAt g c a e after mid x → final ≡ closed_rows (Ok x) f.base f.row g.row mid → EndedValue (values_of S f.depth f.parameter (here s f)) s f before final x.past.at x.row
+  choosing_whole u c a e mid final x d k h t w = down_whole S s f g.at g.row g.parameter g.parent g.index n before after i.down u c a e mid final x d k (subst (λ z. Whole S n s z u c a e) i.same h) (subst (λ z. WholeAt z c a e after mid x) i.same t) w
 
   pub choosing_stopped : (u k p : ℕ) → u ≡ S.core g.parameter → is_union (S.kind u) ≡ true → ((Vs : Values) → Stopped (union_at S Vs u (here s g)) (lexemes_at g.base s g.at) (g.base + length s) k p) → Stopped (values_of S f.depth f.parameter (here s f)) (lexemes_at f.base s f.at) (f.base + length s) k p
   choosing_stopped u k p d e h = down_stopped S s f g.at g.row g.parameter g.parent g.index n before after i.down u k p d e (subst (λ z. (Vs : Values) → Stopped (union_at S Vs u (here s z)) (lexemes_at z.base s z.at) (z.base + length s) k p) i.same h)
@@ -747,16 +787,11 @@ module _ {S : Schema} {s : List ℕ} {f g : Frame} {n : ℕ} {before after : Lis
       let d = step_within g.base s h.past equals h.place e h.second in
       (omega (arith, b.0, d.0), d.1, omega (arith, h.first.less, b.1), omega (arith, h.first.less, d.0))
 
-value_fits : (o : Result (Tree value)) (s : List ℕ) (f : Frame) (before after : List ℕ) (x : Got) → EndsValue o s f before after x → end_place x ≤ length s
-value_fits o s f before after (Done u m) h = h.ended.moved.within
-value_fits o s f before after (Refused n q) h = omega arith
+pub plain_fits : (S : Schema) (s : List ℕ) (g : Frame) (after mid : List ℕ) (u : ℕ) (x : Done) → u ≡ S.core g.parameter → is_union (S.kind u) ≡ false → PlainAt S s g after mid (Ok x) → x.past.at ≤ length s
+plain_fits S s g after mid u x c k h = (h 0 (no_union (S.kind (S.core g.parameter)) (rw c at k))).ended.moved.within
 
-pub plain_fits : (S : Schema) (s : List ℕ) (g : Frame) (after mid : List ℕ) (u : ℕ) (x : Got) → u ≡ S.core g.parameter → is_union (S.kind u) ≡ false → PlainAt S s g after mid x → end_place x ≤ length s
-plain_fits S s g after mid u x c k h = value_fits (value_at S (body_at S g.depth true) 1 g.parameter (here s g)) s g after mid x (h 0 (no_union (S.kind (S.core g.parameter)) (rw c at k)))
-
-pub whole_fits : (g : Frame) (c a e : ℕ) (before after : List ℕ) (x : Got) → WholeAt g c a e before after x → end_place x ≤ e
-whole_fits g c a e before after (Done u m) h = omega (arith, h.same)
-whole_fits g c a e before after (Refused n q) h = absurd h
+pub whole_fits : (g : Frame) (c a e : ℕ) (before after : List ℕ) (x : Done) → WholeAt g c a e before after x → x.past.at ≤ e
+whole_fits g c a e before after x h = omega (arith, h.same)
 
 pub next_between : (t o : List ℕ) (n p i q : ℕ) → first (untagged_from t o n p i) ≡ found q → (i ≤ q) × (q < n)
 next_between t o n p i q e = ((next_in (is_untagged_of p) i (drop i (records_at t o n)) q e).from, untagged_below t o n p i q e)

@@ -1,7 +1,11 @@
 -- One turn of the loops over values, and over untagged fields and items.
 use Rattle.std.specs.Prelude.{◌≡◌, Bool, true, false, List, [], ◌∷◌, ℕ, suc, ◌+◌, ◌-◌, ◌*◌, ◌≤◌, ◌<◌, length}
+use Rattle.std.specs.Prelude.{Result as Answer, Ok, Err}
 use Rattle.std.proofs.lemmas.List.Edits.{sets}
 use Rattle.numbers.specs.Limits.{row_width}
+use Rattle.numbers.specs.Rules.{rule_number}
+use Rattle.numbers.specs.declared.Refusal.{Refusal}
+use Rattle.table_records.specs.declared.Records.{Records}
 use Rattle.message_rules.specs.Rows.{cells}
 use Rattle.reading_rules.specs.Token.{Token}
 use Rattle.reading_rules.specs.Schema.{Schema}
@@ -10,16 +14,14 @@ use Rattle.reading_rules.specs.Reading.{TreeSort, value, body, items, Tree}
 use Rattle.reading_rules.specs.Parse.{Result, value_at, whole_value, list_at, whole_list, items_at, lists_at, body_at}
 use Rattle.message_tokens.specs.Cursor.{lexemes_at}
 use Rattle.message_unknown.specs.Along.{tokens_at, Stopped}
-use Rattle.message_rows.specs.Filled.{with_ends}
-use Rattle.message_lookup.specs.Questions.{schema_at, untagged_from}
+use Rattle.message_lookup.specs.Questions.{schema_of_records, untagged_in}
 use Rattle.message_lookup.specs.Seen.{Marks}
 use Rattle.message_frame.specs.declared.Frame.{Frame}
-use Rattle.message_frame.specs.declared.Got.{Got}
-use Rattle.message_frame.specs.declared.Got.TheVariants.{Done, Refused}
-use Rattle.message_frame.specs.Ends.{Moved, Ended, Ends, EndsValue}
+use Rattle.message_frame.specs.declared.Done.{Done}
+use Rattle.message_frame.specs.Ends.{Moved, Ended, EndedValue, EndsValue}
 use Rattle.message_frame.specs.Going.{Going}
-use Rattle.message_reader.specs.declared.Taken.{Taken}
-use Rattle.message_reader.specs.declared.Taken.TheVariants as taken
+use Rattle.message_lists.specs.declared.Taken.{Taken}
+use Rattle.message_lists.specs.declared.Taken.TheVariants as taken
 use Rattle.message_reader.specs.declared.Part.{Part}
 use Rattle.message_reader.specs.declared.Part.TheVariants as part
 
@@ -52,16 +54,16 @@ pub record Loop {k k' : TreeSort} (o : Result (Tree k)) (now : ℕ → Result (T
   pub line : Line o (now fuel) s f before after at row j
 
 -- a value of a list, by its index
-abbrev pub ElementAt : Schema → List ℕ → Frame → List ℕ → List ℕ → Taken → Type 0
-ElementAt S s f before after (taken.On u next) = (fuel : ℕ) → Fewer s f u.at × Turned (list_at S (values_of S f.depth) (suc fuel) f.parameter f.index (here s f)) (list_at S (values_of S f.depth) fuel f.parameter (suc f.index) (tokens_at f.base s u.at)) s f before after u.at next (suc f.index)
-ElementAt S s f before after (taken.Done u next) = (fuel : ℕ) → Ends (list_at S (values_of S f.depth) (suc fuel) f.parameter f.index (here s f)) s f before after 1 (Done u next)
-ElementAt S s f before after (taken.Refused n q) = (fuel : ℕ) → Ends (list_at S (values_of S f.depth) (suc fuel) f.parameter f.index (here s f)) s f before after 1 (Refused n q)
+abbrev pub ElementAt : Schema → List ℕ → Frame → List ℕ → List ℕ → Answer Taken Refusal → Type 0
+ElementAt S s f before after (Ok (taken.On u next)) = (fuel : ℕ) → Fewer s f u.at × Turned (list_at S (values_of S f.depth) (suc fuel) f.parameter f.index (here s f)) (list_at S (values_of S f.depth) fuel f.parameter (suc f.index) (tokens_at f.base s u.at)) s f before after u.at next (suc f.index)
+ElementAt S s f before after (Ok (taken.Last u next)) = (fuel : ℕ) → Ended (list_at S (values_of S f.depth) (suc fuel) f.parameter f.index (here s f)) s f before after 1 u.at next
+ElementAt S s f before after (Err r) = (fuel : ℕ) → Stopped (list_at S (values_of S f.depth) (suc fuel) f.parameter f.index (here s f)) (lexemes_at f.base s f.at) (f.base + length s) (rule_number r.rule) r.place
 
 -- the same before what follows is read
-abbrev pub TakenAt : Schema → List ℕ → Frame → List ℕ → List ℕ → Taken → Type 0
-TakenAt S s f before after (taken.On u next) = ElementAt S s f before after (taken.On u next)
-TakenAt S s f before after (taken.Done u next) = EndsValue (values_of S f.depth f.parameter (here s f)) s f before after (Done u next)
-TakenAt S s f before after (taken.Refused n q) = EndsValue (values_of S f.depth f.parameter (here s f)) s f before after (Refused n q)
+abbrev pub TakenAt : Schema → List ℕ → Frame → List ℕ → List ℕ → Answer Taken Refusal → Type 0
+TakenAt S s f before after (Ok (taken.On u next)) = ElementAt S s f before after (Ok (taken.On u next))
+TakenAt S s f before after (Ok (taken.Last u next)) = EndedValue (values_of S f.depth f.parameter (here s f)) s f before after u.at next
+TakenAt S s f before after (Err r) = Stopped (values_of S f.depth f.parameter (here s f)) (lexemes_at f.base s f.at) (f.base + length s) (rule_number r.rule) r.place
 
 -- one item, with the marks of the fields seen
 pub record Itemed (S : Schema) (s : List ℕ) (f : Frame) (inside : Bool) (ks : List ℕ) (marks : List Bool) (before after : List ℕ) (at next : ℕ) : Type 0 where
@@ -71,17 +73,8 @@ pub record Itemed (S : Schema) (s : List ℕ) (f : Frame) (inside : Bool) (ks : 
   pub turned : (fuel : ℕ) → Turned (items_at S (values_of S f.depth) inside f.parameter (suc fuel) ks (here s f)) (items_at S (values_of S f.depth) inside f.parameter fuel seen (tokens_at f.base s at)) s f before after at next f.index
 
 -- a value of what is no union
-abbrev pub PlainAt : Schema → List ℕ → Frame → List ℕ → List ℕ → Got → Type 0
+abbrev pub PlainAt : Schema → List ℕ → Frame → List ℕ → List ℕ → Answer Done Refusal → Type 0
 PlainAt S s f before after r = (fuel : ℕ) → (S.kind (S.core f.parameter) ≡ schema.union → ⊥) → EndsValue (value_at S (body_at S f.depth true) (suc fuel) f.parameter (here s f)) s f before after r
-
--- the rows of a chain of choices, with their end where one was read
-abbrev pub closed_rows : Got → ℕ → ℕ → ℕ → List ℕ → List ℕ
-closed_rows (Done u next) base first row before = with_ends before first (row - first) (base + u.at)
-closed_rows (Refused n q) base first row before = before
-
-abbrev pub end_place : Got → ℕ
-end_place (Done u next) = u.at
-end_place (Refused n q) = 0
 
 unfoldable pub is_union : schema.Kind → Bool
 is_union schema.void = false
@@ -121,9 +114,8 @@ pub record Twice (f : Frame) (q a e : ℕ) (before after : List ℕ) (at next : 
   pub written : after ≡ sets before (row_width * f.row) (cells (record { parameter = f.parameter; parent = f.parent; start = f.base + a; end = f.base + e; index = f.index } ∷ record { parameter = q; parent = f.row; start = f.base + a; end = f.base + e; index = 0 } ∷ []))
   pub sized : next ≡ f.row + 2
 
-abbrev pub WholeAt : Frame → ℕ → ℕ → ℕ → List ℕ → List ℕ → Got → Type 0
-WholeAt f q a e before after (Done u next) = Twice f q a e before after u.at next
-WholeAt f q a e before after (Refused n p) = ⊥
+abbrev pub WholeAt : Frame → ℕ → ℕ → ℕ → List ℕ → List ℕ → Done → Type 0
+WholeAt f q a e before after d = Twice f q a e before after d.past.at d.row
 
 -- the marks are those of some fields
 pub record Marked (seen : List Bool) : Type 0 where
@@ -161,8 +153,8 @@ pub record Due (S : Schema) (n : ℕ) (s : List ℕ) (f g : Frame) (inside : Boo
   pub refused : (k p : ℕ) → Stopped (whole_list S (values_of S g.depth) q (tokens_at g.base s at)) (lexemes_at g.base s at) (g.base + length s) k p → Stopped (body_of S s f inside) (lexemes_at f.base s f.at) (f.base + length s) k p
 
 -- what stands next in the body of f, which is read up to g
-abbrev pub PartAt : List ℕ → List ℕ → ℕ → List ℕ → Frame → Frame → Bool → List ℕ → List ℕ → List Bool → Part → Type 0
-PartAt t o n s f g inside before after marks (part.List q u next) = Due (schema_at t o n) n s f g inside before after marks q u.at (untagged_from t o n g.parameter next)
-PartAt t o n s f g inside before after marks (part.On u next from) = (g.at < u.at) × Bodying (schema_at t o n) s f (moved_of g u.at next) inside before after marks []
-PartAt t o n s f g inside before after marks (part.Done u next) = Ends (body_of (schema_at t o n) s f inside) s f before after 0 (Done u next)
-PartAt t o n s f g inside before after marks (part.Refused k q) = Ends (body_of (schema_at t o n) s f inside) s f before after 0 (Refused k q)
+abbrev pub PartAt : Records → List ℕ → Frame → Frame → Bool → List ℕ → List ℕ → List Bool → Answer Part Refusal → Type 0
+PartAt k s f g inside before after marks (Ok (part.List q u next)) = Due (schema_of_records k) k.count s f g inside before after marks q u.at (untagged_in k g.parameter next)
+PartAt k s f g inside before after marks (Ok (part.On u next from)) = (g.at < u.at) × Bodying (schema_of_records k) s f (moved_of g u.at next) inside before after marks []
+PartAt k s f g inside before after marks (Ok (part.Done u next)) = Ended (body_of (schema_of_records k) s f inside) s f before after 0 u.at next
+PartAt k s f g inside before after marks (Err r) = Stopped (body_of (schema_of_records k) s f inside) (lexemes_at f.base s f.at) (f.base + length s) (rule_number r.rule) r.place

@@ -3,24 +3,24 @@
 // (`Room`), so that no sum of places overflows.
 #![tactic(auto)]
 
-ghost use Rattle.std.specs.Prelude.{◌≡◌, true, false, List, [], ℕ, ◌+◌, ◌≤◌, ◌<◌, length};
+ghost use Rattle.std.specs.Prelude.{◌≡◌, true, List, [], ℕ, ◌+◌, ◌≤◌, ◌<◌, length, IfSome};
 ghost use Rattle.numbers.specs.Limits.{message_limit};
 ghost use Rattle.reading_rules.specs.Parse.{struct_at, whole_list, lists_at, body_at};
 ghost use Rattle.table_tags.specs.Search.{Searchable};
-ghost use Rattle.message_lookup.specs.Questions.{schema_at, untagged_from};
+ghost use Rattle.message_lookup.specs.Questions.{schema_of_records, untagged_in};
 ghost use Rattle.message_lookup.specs.IntList.{IntsOf};
 ghost use Rattle.message_frame.specs.Ends.{Room, Ends, EndsValue};
-ghost use Rattle.message_reader.specs.Turning.{values_of, here, TakenAt, ElementAt, Bodying, PartAt, Marked, PlainAt, closed_rows, end_place, WholeAt, is_union, moved_of, next_of, field_of, under_of, inner_of, deeper_of, open_row};
+ghost use Rattle.message_reader.specs.Turning.{values_of, here, TakenAt, ElementAt, Bodying, PartAt, Marked, PlainAt, WholeAt, is_union, moved_of, next_of, field_of, under_of, inner_of, deeper_of, open_row};
 
 use message_bodies::{Item, Start};
 use message_choices::Choice;
-use message_frame::{Frame, Got};
-use message_lists::{After, Quick};
+use message_frame::{Done, Frame};
+use message_lists::Taken;
 use message_lookup::{Ints, Shape};
 use message_rows::Row;
 use message_tokens::Cursor;
-use message_values::Opened;
-use table_tags::Found;
+use numbers::{Refusal, Rule};
+use table_records::Records;
 
 // ---- frames
 
@@ -28,15 +28,7 @@ use table_tags::Found;
 fn moved(f: Frame, v: Cursor, row: usize) -> Frame
     ensures { result ≡ moved_of f v.at row }
 {
-    Frame {
-        base: f.base,
-        at: v.at,
-        row: row,
-        parameter: f.parameter,
-        parent: f.parent,
-        index: f.index,
-        depth: f.depth,
-    }
+    Frame { at: v.at, row, ..f }
 }
 
 // The frame of a list's next value, under the row that the list stands under.
@@ -45,13 +37,11 @@ fn next_value(f: Frame, v: Cursor, row: usize, up: usize) -> Frame
     ensures { result ≡ next_of f v.at row up }
 {
     Frame {
-        base: f.base,
         at: v.at,
-        row: row,
-        parameter: f.parameter,
+        row,
         parent: up,
         index: f.index + 1,
-        depth: f.depth,
+        ..f
     }
 }
 
@@ -60,13 +50,10 @@ fn for_field(f: Frame, v: Cursor, q: usize) -> Frame
     ensures { result ≡ field_of f v.at q }
 {
     Frame {
-        base: f.base,
         at: v.at,
-        row: f.row,
         parameter: q,
-        parent: f.parent,
         index: 0, // each list counts anew
-        depth: f.depth,
+        ..f
     }
 }
 
@@ -76,13 +63,12 @@ fn under(f: Frame, v: Cursor, q: usize) -> Frame
     ensures { result ≡ under_of f v.at q }
 {
     Frame {
-        base: f.base,
         at: v.at,
         row: f.row + 1,
         parameter: q,
         parent: f.row,
         index: 0, // an alternative stands in no list
-        depth: f.depth,
+        ..f
     }
 }
 
@@ -98,7 +84,7 @@ fn inner(f: Frame, e: usize, u: usize) -> Frame
         parameter: u,
         parent: f.row,
         index: 0,
-        depth: f.depth,
+        ..f
     }
 }
 
@@ -108,32 +94,21 @@ fn deeper(f: Frame) -> Frame
     ensures { result ≡ deeper_of f }
 {
     Frame {
-        base: f.base,
-        at: f.at,
-        row: f.row,
-        parameter: f.parameter,
-        parent: f.parent,
-        index: f.index,
         depth: f.depth - 1,
+        ..f
     }
 }
 
 // ---- values, down chains of choices
 
-fn is_union(table: &[u8], unpacked: &[u32], n: usize, u: usize) -> bool
-    ensures { result ≡ is_union ((schema_at table.now unpacked.now n).kind u) }
+fn is_union(records: &Records, u: usize) -> bool
+    ensures { result ≡ is_union ((schema_of_records records.now).kind u) }
 {
-    match message_lookup::kind(table, unpacked, n, u) {
-        Shape::Void => false,
-        Shape::Simple => false,
-        Shape::Struct => false,
-        Shape::Union => true,
-        Shape::Reference => false,
-    }
+    matches!(message_lookup::kind(records, u), Shape::Union)
 }
 
 // The two rows of a choice that is whole: the value's and the alternative's.
-fn whole(rows: &mut [u32], f: Frame, q: usize, start: usize, past: Cursor) -> Got
+fn whole(rows: &mut [u32], f: Frame, q: usize, start: usize, past: Cursor) -> Done
     requires at_bound { (f.base + past.at ≤ message_limit) × (start ≤ past.at) }
     requires row_bound { (f.row < 65536) × (f.parent < 4294967296) × (f.parameter < 4294967296) × (f.index < 4294967296) × (q < 4294967296) }
     ensures { WholeAt f q start past.at rows.old rows.new result }
@@ -147,7 +122,7 @@ fn whole(rows: &mut [u32], f: Frame, q: usize, start: usize, past: Cursor) -> Go
             parameter: f.parameter,
             parent: f.parent,
             start: f.base + start,
-            end: end,
+            end,
             index: f.index,
         },
     );
@@ -158,26 +133,11 @@ fn whole(rows: &mut [u32], f: Frame, q: usize, start: usize, past: Cursor) -> Go
             parameter: q,
             parent: row,
             start: f.base + start,
-            end: end,
+            end,
             index: 0, // the alternative's
         },
     );
-    Got::Done(past, row + 2)
-}
-
-// The rows of a choice from first up to row, with the end of what was read.
-fn close_chain(rows: &mut [u32], base: usize, first: usize, row: usize, g: Got) -> Got
-    requires { (base + end_place g ≤ message_limit) × (row < 4294967296) }
-    ensures value { result ≡ g }
-    ensures rows_after { rows.new ≡ closed_rows g base first row rows.old }
-{
-    match g {
-        Got::Done(v, m) => {
-            message_rows::put_ends(rows, first, row, base + v.at);
-            Got::Done(v, m)
-        }
-        Got::Refused(k, q) => Got::Refused(k, q),
-    }
+    Done { past, row: row + 2 }
 }
 
 // A row of a choice whose end is not known yet.
@@ -201,31 +161,31 @@ fn open_row(rows: &mut [u32], f: Frame, start: usize)
 
 // Any value: a loop down a chain of choices, whose rows are neighbours with one end, then a value that is no choice.
 #[cycle(reading)]
-fn value(table: &[u8], unpacked: &[u32], n: usize, s: &[u8], rows: &mut [u32], f: Frame) -> Got
-    requires room { Room f (length s.now) n }
-    requires searchable { Searchable table.now unpacked.now n }
-    requires parameter_lt_n { f.parameter < n }
-    ensures { EndsValue (values_of (schema_at table.now unpacked.now n) f.depth f.parameter (here s.now f)) s.now f rows.old rows.new result }
+fn value(records: &Records, s: &[u8], rows: &mut [u32], f: Frame) -> Result<Done, Refusal>
+    requires room { Room f (length s.now) records.now.count }
+    requires searchable { Searchable records.now.table.now records.now.unpacked.now records.now.count }
+    requires parameter_lt_n { f.parameter < records.now.count }
+    ensures { EndsValue (values_of (schema_of_records records.now) f.depth f.parameter (here s.now f)) s.now f rows.old rows.new result }
 {
     let mut g = f;
     loop {
-        let u = message_lookup::core(table, unpacked, n, g.parameter);
-        if !is_union(table, unpacked, n, u) {
-            let got = plain_value(table, unpacked, n, s, rows, g, u);
-            return close_chain(rows, f.base, f.row, g.row, got);
-        }
-        match message_choices::choose(table, unpacked, n, s, g, u) {
-            Choice::Deeper(q, a, v) => {
-                open_row(rows, g, a);
-                g = under(g, v, q);
+        let u = message_lookup::core(records, g.parameter);
+        if is_union(records, u) {
+            match message_choices::choose(records, s, g, u)? {
+                Choice::Deeper(q, a, v) => {
+                    open_row(rows, g, a);
+                    g = under(g, v, q);
+                }
+                Choice::Last(q, a, v) => {
+                    let done = whole(rows, g, q, a, v);
+                    message_rows::put_ends(rows, f.row, g.row, f.base + done.past.at);
+                    return Ok(done);
+                }
             }
-            Choice::Last(q, a, v) => {
-                let got = whole(rows, g, q, a, v);
-                return close_chain(rows, f.base, f.row, g.row, got);
-            }
-            Choice::Refused(k, p) => {
-                return Got::Refused(k, p);
-            }
+        } else {
+            let done = plain_value(records, s, rows, g, u)?;
+            message_rows::put_ends(rows, f.row, g.row, f.base + done.past.at);
+            return Ok(done);
         }
     }
 }
@@ -235,153 +195,113 @@ fn value(table: &[u8], unpacked: &[u32], n: usize, s: &[u8], rows: &mut [u32], f
 // A struct's value: the part after its brace is handed on to the reader of its body.
 #[cycle(reading)]
 fn braced(
-    table: &[u8],
-    unpacked: &[u32],
-    n: usize,
+    records: &Records,
     s: &[u8],
     rows: &mut [u32],
     f: Frame,
     u: usize,
-) -> Got
-    requires room { Room f (length s.now) n }
-    requires searchable { Searchable table.now unpacked.now n }
-    requires parameter_lt_n { f.parameter < n }
-    ensures { EndsValue (struct_at (body_at (schema_at table.now unpacked.now n) f.depth true) u (here s.now f)) s.now f rows.old rows.new result }
+) -> Result<Done, Refusal>
+    requires room { Room f (length s.now) records.now.count }
+    requires searchable { Searchable records.now.table.now records.now.unpacked.now records.now.count }
+    requires parameter_lt_n { f.parameter < records.now.count }
+    ensures { EndsValue (struct_at (body_at (schema_of_records records.now) f.depth true) u (here s.now f)) s.now f rows.old rows.new result }
 {
-    match message_values::open_brace(s, f) {
-        Opened::In(a, v) => {
-            let e = v.at;
-            match body(table, unpacked, n, &s[e..], rows, inner(f, e, u), true) {
-                Got::Done(w, m) => message_values::shut(s, rows, f, a, e + w.at, m),
-                Got::Refused(k, p) => Got::Refused(k, p),
-            }
-        }
-        Opened::Refused(k, p) => Got::Refused(k, p),
-    }
+    let brace = message_values::open_brace(s, f)?;
+    let e = brace.past.at;
+    let done = body(records, &s[e..], rows, inner(f, e, u), true)?;
+    message_values::shut(s, rows, f, brace.start, e + done.past.at, done.row)
 }
 
 // A value of what is no union: f.parameter's, whose own kind is that of u.
 #[cycle(reading)]
 fn plain_value(
-    table: &[u8],
-    unpacked: &[u32],
-    n: usize,
+    records: &Records,
     s: &[u8],
     rows: &mut [u32],
     f: Frame,
     u: usize,
-) -> Got
-    requires room { Room f (length s.now) n }
-    requires searchable { Searchable table.now unpacked.now n }
-    requires parameter_lt_n { f.parameter < n }
-    requires u_value { u ≡ (schema_at table.now unpacked.now n).core f.parameter }
-    ensures { PlainAt (schema_at table.now unpacked.now n) s.now f rows.old rows.new result }
+) -> Result<Done, Refusal>
+    requires room { Room f (length s.now) records.now.count }
+    requires searchable { Searchable records.now.table.now records.now.unpacked.now records.now.count }
+    requires parameter_lt_n { f.parameter < records.now.count }
+    requires u_value { u ≡ (schema_of_records records.now).core f.parameter }
+    ensures { PlainAt (schema_of_records records.now) s.now f rows.old rows.new result }
 {
-    match message_lookup::kind(table, unpacked, n, u) {
-        Shape::Void => message_values::no_value(s, f),
-        Shape::Simple => message_values::simple(table, unpacked, n, s, rows, f, u),
-        Shape::Struct => braced(table, unpacked, n, s, rows, f, u),
-        Shape::Union => message_values::no_value(s, f),
-        Shape::Reference => message_values::no_value(s, f),
+    match message_lookup::kind(records, u) {
+        Shape::Simple => message_values::simple(records, s, rows, f, u),
+        Shape::Struct => braced(records, s, rows, f, u),
+        _ => message_values::no_value(s, f),
     }
 }
 
 // ---- lists
 
-// A value of a list: On, with the comma behind it and another to come; Done, up to the cursor, and the next row; or refused.
-// A cursor that shares its place with no tag stays in one register, so no `Got` stands in it.
-#[derive(Clone, Copy)]
-enum Taken {
-    On(Cursor, usize),
-    Done(Cursor, usize),
-    Refused(u32, usize),
-}
-
 // The value of a list, quickly where it is plain digits of a list of ints.
 #[cycle(reading)]
 fn list_value(
-    table: &[u8],
-    unpacked: &[u32],
-    n: usize,
+    records: &Records,
     s: &[u8],
     rows: &mut [u32],
     f: Frame,
-    e: Ints,
-) -> Taken
-    requires room { Room f (length s.now) n }
-    requires searchable { Searchable table.now unpacked.now n }
-    requires parameter_lt_n { f.parameter < n }
-    requires ints_of { IntsOf (schema_at table.now unpacked.now n) f.parameter e }
-    ensures { TakenAt (schema_at table.now unpacked.now n) s.now f rows.old rows.new result }
+    ints: Option<Ints>,
+) -> Result<Taken, Refusal>
+    requires room { Room f (length s.now) records.now.count }
+    requires searchable { Searchable records.now.table.now records.now.unpacked.now records.now.count }
+    requires parameter_lt_n { f.parameter < records.now.count }
+    requires ints_of { IfSome ints (λ e. IntsOf (schema_of_records records.now) f.parameter e) }
+    ensures { TakenAt (schema_of_records records.now) s.now f rows.old rows.new result }
 {
-    match message_lists::quick_int(table, unpacked, n, s, rows, f, e) {
-        Quick::On(v, m) => Taken::On(v, m),
-        Quick::Value(v, m) => Taken::Done(v, m),
-        Quick::Slow => match value(table, unpacked, n, s, rows, f) {
-            Got::Done(v, m) => Taken::Done(v, m),
-            Got::Refused(k, p) => Taken::Refused(k, p),
-        },
+    match message_lists::quick_int(records, s, rows, f, ints) {
+        Some(taken) => Ok(taken),
+        None => {
+            let done = value(records, s, rows, f)?;
+            Ok(Taken::Last(done.past, done.row))
+        }
     }
 }
 
 // The value of a list, and what follows it.
 #[cycle(reading)]
 fn element(
-    table: &[u8],
-    unpacked: &[u32],
-    n: usize,
+    records: &Records,
     s: &[u8],
     rows: &mut [u32],
     f: Frame,
-    e: Ints,
-) -> Taken
-    requires room { Room f (length s.now) n }
-    requires searchable { Searchable table.now unpacked.now n }
-    requires parameter_lt_n { f.parameter < n }
-    requires ints_of { IntsOf (schema_at table.now unpacked.now n) f.parameter e }
-    ensures { ElementAt (schema_at table.now unpacked.now n) s.now f rows.old rows.new result }
+    ints: Option<Ints>,
+) -> Result<Taken, Refusal>
+    requires room { Room f (length s.now) records.now.count }
+    requires searchable { Searchable records.now.table.now records.now.unpacked.now records.now.count }
+    requires parameter_lt_n { f.parameter < records.now.count }
+    requires ints_of { IfSome ints (λ e. IntsOf (schema_of_records records.now) f.parameter e) }
+    ensures { ElementAt (schema_of_records records.now) s.now f rows.old rows.new result }
 {
-    match list_value(table, unpacked, n, s, rows, f, e) {
-        Taken::On(v, m) => Taken::On(v, m),
-        Taken::Done(v, m) => match message_lists::after_value(
-            table,
-            unpacked,
-            n,
-            s,
-            f.base,
-            f.parameter,
-            v,
-            f.index + 1,
-        ) {
-            After::More(w) => Taken::On(w, m),
-            After::Last => Taken::Done(v, m),
-            After::Refused(k, p) => Taken::Refused(k, p),
-        },
-        Taken::Refused(k, p) => Taken::Refused(k, p),
+    match list_value(records, s, rows, f, ints)? {
+        Taken::On(v, m) => Ok(Taken::On(v, m)),
+        Taken::Last(v, m) => {
+            match message_lists::after_value(records, s, f.base, f.parameter, v, f.index + 1)? {
+                Some(w) => Ok(Taken::On(w, m)),
+                None => Ok(Taken::Last(v, m)),
+            }
+        }
     }
 }
 
 // The whole list of a field, whose first value f is for.
 #[cycle(reading)]
-fn list(table: &[u8], unpacked: &[u32], n: usize, s: &[u8], rows: &mut [u32], f: Frame) -> Got
-    requires room { Room f (length s.now) n }
-    requires searchable { Searchable table.now unpacked.now n }
-    requires parameter_lt_n { (f.parameter < n) × (f.index ≡ 0) }
-    ensures { Ends (whole_list (schema_at table.now unpacked.now n) (values_of (schema_at table.now unpacked.now n) f.depth) f.parameter (here s.now f)) s.now f rows.old rows.new 1 result }
+fn list(records: &Records, s: &[u8], rows: &mut [u32], f: Frame) -> Result<Done, Refusal>
+    requires room { Room f (length s.now) records.now.count }
+    requires searchable { Searchable records.now.table.now records.now.unpacked.now records.now.count }
+    requires parameter_lt_n { (f.parameter < records.now.count) × (f.index ≡ 0) }
+    ensures { Ends (whole_list (schema_of_records records.now) (values_of (schema_of_records records.now) f.depth) f.parameter (here s.now f)) s.now f rows.old rows.new 1 result }
 {
-    let e = message_lookup::ints_of(table, unpacked, n, f.parameter);
+    let ints = message_lookup::ints_of(records, f.parameter);
     let mut g = f;
     loop {
-        match element(table, unpacked, n, s, rows, g, e) {
+        match element(records, s, rows, g, ints)? {
             Taken::On(v, next) => {
                 g = next_value(g, v, next, g.parent);
             }
-            Taken::Done(v, m) => {
-                return Got::Done(v, m);
-            }
-            Taken::Refused(k, p) => {
-                return Got::Refused(k, p);
-            }
+            Taken::Last(past, row) => return Ok(Done { past, row }),
         }
     }
 }
@@ -389,35 +309,32 @@ fn list(table: &[u8], unpacked: &[u32], n: usize, s: &[u8], rows: &mut [u32], f:
 // ---- bodies
 
 // What stands next in a body: the list of the field q, due at the cursor, after which the untagged fields from record i on
-// are left; an item that is read, up to the cursor, the next row, and the record that the next tag is looked for from; the
-// body's end; or refused.
+// are left; an item that is read, up to the cursor, the next row, and the record that the next tag is looked for from; or the
+// body's end.
 #[derive(Clone, Copy)]
 enum Part {
     List(usize, Cursor, usize),
     On(Cursor, usize, usize),
     Done(Cursor, usize),
-    Refused(u32, usize),
 }
 
 // One item after the untagged fields. Its field is marked. Its tag is looked for from a record on and round.
 fn item(
-    table: &[u8],
-    unpacked: &[u32],
-    n: usize,
+    records: &Records,
     s: &[u8],
     rows: &mut [u32],
     f: Frame,
     inside: bool,
     seen: &mut [bool; numbers::PARAMETER_LIMIT],
     from: usize,
-) -> Part
-    requires room { Room f (length s.now) n }
-    requires searchable { Searchable table.now unpacked.now n }
+) -> Result<Part, Refusal>
+    requires room { Room f (length s.now) records.now.count }
+    requires searchable { Searchable records.now.table.now records.now.unpacked.now records.now.count }
     requires marked { Marked seen.old }
-    ensures { (e : Frame) (before : List ℕ) → Bodying (schema_at table.now unpacked.now n) s.now e f inside before rows.old seen.old [] → PartAt table.now unpacked.now n s.now e f inside before rows.new seen.new result }
+    ensures { (e : Frame) (before : List ℕ) → Bodying (schema_of_records records.now) s.now e f inside before rows.old seen.old [] → PartAt records.now s.now e f inside before rows.new seen.new result }
 {
-    match message_bodies::item_at(table, unpacked, n, s, f, inside, seen, from) {
-        Item::End => Part::Done(Cursor { at: f.at }, f.row),
+    match message_bodies::item_at(records, s, f, inside, seen, from)? {
+        Item::End => Ok(Part::Done(Cursor { at: f.at }, f.row)),
         Item::Void(q, a, v) => {
             message_lookup::mark(seen, q);
             message_rows::put_row(
@@ -431,22 +348,19 @@ fn item(
                     index: 0, // a void's
                 },
             );
-            Part::On(v, f.row + 1, q + 1)
+            Ok(Part::On(v, f.row + 1, q + 1))
         }
         Item::List(q, v) => {
             message_lookup::mark(seen, q);
-            Part::List(q, v, n)
+            Ok(Part::List(q, v, records.count))
         }
-        Item::Unknown(v) => Part::On(v, f.row, from),
-        Item::Refused(k, p) => Part::Refused(k, p),
+        Item::Unknown(v) => Ok(Part::On(v, f.row, from)),
     }
 }
 
 // The list of the next untagged field from record i on, or the body's end in its place; where none is left, an item.
 fn next_part(
-    table: &[u8],
-    unpacked: &[u32],
-    n: usize,
+    records: &Records,
     s: &[u8],
     rows: &mut [u32],
     f: Frame,
@@ -454,20 +368,19 @@ fn next_part(
     seen: &mut [bool; numbers::PARAMETER_LIMIT],
     i: usize,
     from: usize,
-) -> Part
-    requires room { Room f (length s.now) n }
-    requires searchable { Searchable table.now unpacked.now n }
+) -> Result<Part, Refusal>
+    requires room { Room f (length s.now) records.now.count }
+    requires searchable { Searchable records.now.table.now records.now.unpacked.now records.now.count }
     requires marked { Marked seen.old }
-    ensures { (e : Frame) (before : List ℕ) → Bodying (schema_at table.now unpacked.now n) s.now e f inside before rows.old seen.old (untagged_from table.now unpacked.now n f.parameter i) → PartAt table.now unpacked.now n s.now e f inside before rows.new seen.new result }
+    ensures { (e : Frame) (before : List ℕ) → Bodying (schema_of_records records.now) s.now e f inside before rows.old seen.old (untagged_in records.now f.parameter i) → PartAt records.now s.now e f inside before rows.new seen.new result }
 {
-    match message_lookup::next_untagged(table, unpacked, n, f.parameter, i) {
-        Found::Nowhere => item(table, unpacked, n, s, rows, f, inside, seen, from),
-        Found::At(q) => {
+    match message_lookup::next_untagged(records, f.parameter, i) {
+        None => item(records, s, rows, f, inside, seen, from),
+        Some(q) => {
             let v = Cursor { at: f.at };
-            match message_bodies::field_at(table, unpacked, n, s, for_field(f, v, q), inside) {
-                Start::List => Part::List(q, v, q + 1),
-                Start::End => Part::Done(v, f.row),
-                Start::Refused(k, p) => Part::Refused(k, p),
+            match message_bodies::field_at(records, s, for_field(f, v, q), inside)? {
+                Start::List => Ok(Part::List(q, v, q + 1)),
+                Start::End => Ok(Part::Done(v, f.row)),
             }
         }
     }
@@ -477,65 +390,59 @@ fn next_part(
 // Each tag is looked for from behind the field found last, so that items in the table's order are found at once.
 #[cycle(reading)]
 fn fields(
-    table: &[u8],
-    unpacked: &[u32],
-    n: usize,
+    records: &Records,
     s: &[u8],
     rows: &mut [u32],
     f: Frame,
     inside: bool,
-) -> Got
-    requires room { Room f (length s.now) n }
-    requires searchable { Searchable table.now unpacked.now n }
-    ensures { Ends (lists_at (schema_at table.now unpacked.now n) (values_of (schema_at table.now unpacked.now n) f.depth) inside f.parameter ((schema_at table.now unpacked.now n).untagged f.parameter) (here s.now f)) s.now f rows.old rows.new 0 result }
+) -> Result<Done, Refusal>
+    requires room { Room f (length s.now) records.now.count }
+    requires searchable { Searchable records.now.table.now records.now.unpacked.now records.now.count }
+    ensures { Ends (lists_at (schema_of_records records.now) (values_of (schema_of_records records.now) f.depth) inside f.parameter ((schema_of_records records.now).untagged f.parameter) (here s.now f)) s.now f rows.old rows.new 0 result }
 {
-    let mut seen = message_lookup::no_marks();
+    let mut seen = [false; numbers::PARAMETER_LIMIT];
     let mut g = f;
     let mut i: usize = 0;
     let mut from = f.parameter;
     loop {
-        match next_part(table, unpacked, n, s, rows, g, inside, &mut seen, i, from) {
+        match next_part(records, s, rows, g, inside, &mut seen, i, from)? {
             Part::List(q, v, next) => {
                 let due = for_field(g, v, q);
-                match list(table, unpacked, n, s, rows, due) {
-                    Got::Done(w, m) => {
-                        g = moved(g, w, m);
-                        i = next;
-                        from = q + 1;
-                    }
-                    Got::Refused(k, p) => return Got::Refused(k, p),
-                }
+                let done = list(records, s, rows, due)?;
+                g = moved(g, done.past, done.row);
+                i = next;
+                from = q + 1;
             }
             Part::On(v, m, next) => {
                 g = moved(g, v, m);
-                i = n;
+                i = records.count;
                 from = next;
             }
-            Part::Done(v, m) => return Got::Done(v, m),
-            Part::Refused(k, p) => return Got::Refused(k, p),
+            Part::Done(past, row) => return Ok(Done { past, row }),
         }
     }
 }
 
-// The body of f.parameter, inside braces or the root's. Number 0 never shows where the braces are at most as deep as f.depth says.
+// The body of f.parameter, inside braces or the root's. Its refusal by `Depth` never shows where the braces are at most as deep as f.depth says.
 #[cycle(reading)]
 pub fn body(
-    table: &[u8],
-    unpacked: &[u32],
-    n: usize,
+    records: &Records,
     s: &[u8],
     rows: &mut [u32],
     f: Frame,
     inside: bool,
-) -> Got
-    requires room { Room f (length s.now) n }
-    requires searchable { Searchable table.now unpacked.now n }
-    ensures { Ends (body_at (schema_at table.now unpacked.now n) f.depth inside f.parameter (here s.now f)) s.now f rows.old rows.new 0 result }
+) -> Result<Done, Refusal>
+    requires room { Room f (length s.now) records.now.count }
+    requires searchable { Searchable records.now.table.now records.now.unpacked.now records.now.count }
+    ensures { Ends (body_at (schema_of_records records.now) f.depth inside f.parameter (here s.now f)) s.now f rows.old rows.new 0 result }
 {
     if f.depth == 0 {
         let u = Cursor { at: f.at };
         let h = u.head(s);
-        return Got::Refused(0, f.base + h.start);
+        return Err(Refusal {
+            rule: Rule::Depth,
+            place: f.base + h.start,
+        });
     }
-    fields(table, unpacked, n, s, rows, deeper(f), inside)
+    fields(records, s, rows, deeper(f), inside)
 }

@@ -1,10 +1,13 @@
 -- Stores of rows: one after the other, a row before its children's, one end for a chain of rows.
 use mathlib.Core.Path.{◌≡◌, refl, sym, ap, ◌∙◌}
-use mathlib.Core.List.{List, [], ◌∷◌, ◌++◌}
-use Prim.Native.Nat.{ℕ, suc, ◌+◌, ◌-◌, ◌*◌, ◌<◌, ◌≤◌}
+use mathlib.Core.List.{List, [], ◌∷◌, ◌++◌, append_assoc}
+use Prim.Native.Nat.{ℕ, zero, suc, ◌+◌, ◌-◌, ◌*◌, ◌<◌, ◌≤◌}
 use native.Mathlib.Omega.{arith}
-use lib.ListN.{length, set}
-use lib.Seq.{sets, set_comm, set-set, set_out}
+use native.Mathlib.Nat.{add-zero}
+use lib.ListN.{length, take, drop, get_or, set}
+use borrow.Rule.Slice.PartMut.{put_mid}
+use Rattle.std.proofs.lemmas.List.Edits.{sets-eq}
+use lib.Seq.{sets, drop-drop, set_comm, set-set, set_out}
 use Rattle.classes.proofs.Stores.{sets_append, four_sets}
 use Rattle.numbers.specs.Limits.{row_width}
 use Rattle.message_rules.specs.Rows.{Row, cells}
@@ -20,6 +23,20 @@ pub row_out : (e : List ℕ) (i a b c d f : ℕ) → length e ≤ i → e ≡ se
 row_out e i a b c d f h =
     sym (rw (set_out e i a h, set_out e (i + 1) b (omega arith), set_out e (i + 2) c (omega arith), set_out e (i + 3) d (omega arith), set_out e (i + 4) f (omega arith)) refl)
     ∙ row_sets e i a b c d f
+
+-- a part as long as what is copied into it
+pub row_copied : (l vs : List ℕ) (i n : ℕ) → i + length vs ≤ length l → n ≡ length vs → put_mid i n l vs ≡ sets l i vs
+row_copied l vs i n h e = rw (e, sets-eq vs l i h) (ap (λ (z : List ℕ). take i l ++ (vs ++ z)) (drop-drop (length vs) i l) ∙ sym (append_assoc (take i l) vs (drop (i + length vs) l)))
+
+-- one number more
+pub sets_more : (vs l : List ℕ) (i k : ℕ) → k < length vs → set (sets l i (take k vs)) (i + k) (get_or vs k 0) ≡ sets l i (take (k + 1) vs)
+sets_more [] l i k h = absurd (omega (arith, h))
+sets_more (v ∷ vs) l i zero h = rw (add-zero i) refl
+sets_more (v ∷ vs) l i (suc k) h =
+    let e : i + suc k ≡ suc i + k = omega arith in
+    let f : suc (k + 1) ≡ suc k + 1 = omega arith in
+    ap (λ (j : ℕ). set (sets (set l i v) (suc i) (take k vs)) j (get_or vs k 0)) e
+    ∙ (sets_more vs (set l i v) (suc i) k (omega (arith, h)) ∙ ap (λ (m : ℕ). sets l i (take m (v ∷ vs))) f)
 
 set_sets : (ys e : List ℕ) (i j x : ℕ) → i < j → set (sets e j ys) i x ≡ sets (set e i x) j ys
 set_sets [] e i j x h = refl

@@ -7,7 +7,7 @@ ghost use Rattle.numbers.specs.Limits.{row_width};
 ghost use Rattle.message_rules.specs.Rows.{cells};
 ghost use Rattle.message_rows.specs.Filled.{Small, row_of, with_ends};
 
-// Parameter, parent row, start, end, index.
+// Parameter, parent row, start, end, index: the numbers of a row in the order of the places ROW_PARAMETER and on.
 #[derive(Clone, Copy)]
 pub struct Row {
     pub parameter: usize,
@@ -17,37 +17,30 @@ pub struct Row {
     pub index: usize,
 }
 
-// A number of a row fits 32 bits.
-fn put(rows: &mut [u32], i: usize, x: usize)
-    requires { x < 4294967296 }
-    ensures { rows.new ≡ set rows.old i x }
-{
-    numbers::set_cell(rows, i, x as u32);
-}
-
 // In the reader's first pass no rows are lent, which is told first. Places and row numbers are small, as messages are.
 pub fn put_row(rows: &mut [u32], row: usize, r: Row)
     requires small { Small r }
     requires row_bound { row < 4294967296 }
     ensures { rows.new ≡ sets rows.old (row_width * row) (cells (row_of r ∷ [])) }
 {
-    if rows.len() == 0 {
+    if rows.is_empty() {
         return;
     }
     let i = numbers::ROW_WIDTH * row;
+    let cells = [
+        r.parameter as u32,
+        r.parent as u32,
+        r.start as u32,
+        r.end as u32,
+        r.index as u32,
+    ];
     if i + numbers::ROW_WIDTH <= rows.len() {
-        rows[i] = r.parameter as u32;
-        rows[i + numbers::ROW_PARENT] = r.parent as u32;
-        rows[i + numbers::ROW_START] = r.start as u32;
-        rows[i + numbers::ROW_END] = r.end as u32;
-        rows[i + numbers::ROW_INDEX] = r.index as u32;
+        rows[i..i + numbers::ROW_WIDTH].copy_from_slice(&cells);
         return;
     }
-    put(rows, i, r.parameter);
-    put(rows, i + numbers::ROW_PARENT, r.parent);
-    put(rows, i + numbers::ROW_START, r.start);
-    put(rows, i + numbers::ROW_END, r.end);
-    put(rows, i + numbers::ROW_INDEX, r.index);
+    for k in 0..numbers::ROW_WIDTH {
+        numbers::set(rows, i + k, cells[k]);
+    }
 }
 
 // The same end for each row from first up to last. Both are small, as messages are.
@@ -55,9 +48,7 @@ pub fn put_ends(rows: &mut [u32], first: usize, last: usize, end: usize)
     requires { (last < 4294967296) × (end < 4294967296) }
     ensures { rows.new ≡ with_ends rows.old first (last - first) end }
 {
-    let mut k = first;
-    while k < last {
-        put(rows, numbers::ROW_WIDTH * k + numbers::ROW_END, end);
-        k += 1;
+    for k in first..last {
+        numbers::set(rows, numbers::ROW_WIDTH * k + numbers::ROW_END, end as u32);
     }
 }

@@ -1,6 +1,7 @@
 -- Digits by eight bytes at once.
-use Rattle.std.proofs.Common.{◌≡◌, ℕ, zero, suc, ◌+◌, ◌-◌, ◌*◌, ◌/◌, ◌%◌, ◌^◌, ◌<◌, ◌≤◌, Bool, true, false, not, ◌&&◌, ◌||◌, eqb, ltb, List, [], length, get_or, sym, refl, ap, ◌∙◌, subst, ⊎_elim, add-zero, add-suc, mod-eq_of_lt, eq-or-lt_of_le, pow-suc, div-one, arith, lt-ltb, eqb-true}
+use Rattle.std.proofs.Common.{◌≡◌, ℕ, zero, suc, ◌+◌, ◌-◌, ◌*◌, ◌/◌, ◌%◌, ◌^◌, ◌<◌, ◌≤◌, Bool, true, false, not, ◌&&◌, ◌||◌, eqb, ltb, List, [], ◌∷◌, length, get_or, sym, refl, ap, ◌∙◌, subst, ⊎_elim, add-zero, add-suc, mod-eq_of_lt, eq-or-lt_of_le, pow-suc, div-one, arith, lt-ltb, eqb-true}
 use native.Mathlib.Nat.{pow-succ', div-div-eq-div-mul, suc_inj}
+use Rattle.std.specs.Int.{w64, from_be_bytes}
 use lib.Bits.{bit_and, bit_xor, and_block, xor_block, xor_lt, and_high}
 use Rattle.classes.specs.Bytes.{is_digit}
 use Rattle.classes.proofs.Segment.{segment}
@@ -113,19 +114,9 @@ module _ (s : List ℕ) (at : ℕ) (byte : (i : ℕ) → get_or s i 0 < 256) whe
 
 -- ---- what the code joins and tests
 
-pub four_joined : (s : List ℕ) (at a b c d : ℕ) → a ≡ get_or s at 0 → b ≡ get_or s (at + 1) 0 → c ≡ get_or s (at + 2) 0 → d ≡ get_or s (at + 3) 0 → ((a * 256 + b) * 256 + c) * 256 + d ≡ joined 4 s at
+pub eight_joined : (s : List ℕ) (at n : ℕ) → n ≡ from_be_bytes w64 (get_or s at 0 ∷ get_or s (at + 1) 0 ∷ get_or s (at + 2) 0 ∷ get_or s (at + 3) 0 ∷ get_or s (at + 4) 0 ∷ get_or s (at + 5) 0 ∷ get_or s (at + 6) 0 ∷ get_or s (at + 7) 0 ∷ []) → n ≡ joined 8 s at
 unfolding joined
-four_joined s at a b c d e f g h = let z : at + 0 ≡ at = add-zero at in rw (z, ← e, ← f, ← g, ← h) (omega arith)
-
-pub eight_joined : (s : List ℕ) (at a b : ℕ) → a ≡ joined 4 s at → b ≡ joined 4 s (at + 4) → a * 0x1_0000_0000 + b ≡ joined 8 s at
-unfolding joined
-eight_joined s at a b e f =
-    let p : at + 4 + 0 ≡ at + 4 = omega arith in
-    let q : at + 4 + 1 ≡ at + 5 = omega arith in
-    let r : at + 4 + 2 ≡ at + 6 = omega arith in
-    let t : at + 4 + 3 ≡ at + 7 = omega arith in
-    let g = rw (p, q, r, t) at f in
-    omega arith
+eight_joined s at n e = let z : at + 0 ≡ at = add-zero at in e ∙ rw z (omega arith)
 
 pub nines : (d w : ℕ) → w ≡ (d + sixes) % packed_limit → eqb (bit_and d high_halves) 0 && eqb (bit_and w high_halves) 0 ≡ true → Nines d
 nines d w e b = and_both (eqb (bit_and d high_halves) 0) (eqb (bit_and w high_halves) 0) b (λ x y. record { halves = eqb-true (bit_and d high_halves) 0 x; still = rw e at (eqb-true (bit_and w high_halves) 0 y) })

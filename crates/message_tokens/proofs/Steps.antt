@@ -1,20 +1,17 @@
 -- Each answer of the cursor, and each turn of the scan, said of plain lists.
-use Rattle.std.proofs.Common.{◌≡◌, ℕ, suc, ◌+◌, ◌-◌, ◌<◌, ◌≤◌, true, false, List, length, get_or, sym, refl, ap, ◌∙◌, subst, zero-add, arith, le-leb}
+use Rattle.std.proofs.Common.{◌≡◌, ℕ, suc, ◌+◌, ◌-◌, ◌<◌, ◌≤◌, true, false, List, length, Result, Ok, Err, get_or, sym, refl, ap, ◌∙◌, subst, zero-add, arith, le-leb}
 use borrow.Author.Tests.{lt-leb}
 use Rattle.numbers.specs.Limits.{open_limit}
 use Rattle.classes.specs.Bytes.{is_blank, is_word_byte, is_string_byte}
 use Rattle.reading_rules.specs.Token.{Token, word, string, equals, comma, opening, closing}
-use Rattle.reading_rules.specs.Schema.{Found, nowhere, found}
-use Rattle.message_rules.specs.Scan.{lexeme, CutResult, clean, bad_at, put_first, begins_of, mark, either, too_deep, is_opening, open_after, scan_fault, cut}
-use Rattle.message_tokens.specs.Cursor.{part, cut_at, rest_at, row_end, Step, Reads}
-use Rattle.message_tokens.specs.Scanned.{fault_of, fault_from}
-use Rattle.message_tokens.specs.Turn.{ScanOn, ScanTurn}
-use Rattle.message_tokens.specs.declared.Cursor.{Cursor}
-use Rattle.message_tokens.specs.declared.Lexeme.{Lexeme}
-use Rattle.message_tokens.specs.declared.Lexeme.TheVariants.{Word, Text, Equals, Comma, Opening, Closing, End, Bad}
-use Rattle.message_tokens.specs.declared.Scanned.{Scanned}
-use Rattle.message_tokens.specs.declared.Turn.{Turn}
-use Rattle.message_tokens.specs.declared.Turn.TheVariants.{On, Out}
+use Rattle.reading_rules.specs.Schema.{nowhere, found}
+use Rattle.message_rules.specs.Scan.{lexeme, CutResult, bad_at, put_first, begins_of, mark, either, too_deep, is_opening, open_after, scan_fault, cut}
+use Rattle.message_tokens.specs.Cursor.{part, cut_at, rest_at, row_end, Step, Stands, Reads}
+use Rattle.message_tokens.specs.Scanned.{fault_from}
+use Rattle.message_tokens.specs.Turn.{ScanOn}
+use Rattle.message_tokens.specs.declared.Head.{Head}
+use Rattle.message_tokens.specs.declared.TokenKind.{TokenKind}
+use Rattle.message_tokens.specs.declared.TokenKind.TheVariants.{Nothing, Word, String, Equals, Comma, Opening, Closing}
 use Rattle.message_tokens.proofs.CutAt.{rest_mark, rest_word, rest_string, row_past, row_in, row_least, cut_rest_lem, cut_start, byte_in}
 
 mark_step : (base : ℕ) (s : List ℕ) (p b : ℕ) (t : Token) → p < length s → get_or s p 0 ≡ b → begins_of b ≡ mark t → Step (rest_at base s p) base s p t p (p + 1)
@@ -46,8 +43,8 @@ module _ (base : ℕ) (s : List ℕ) (p : ℕ) (h : p < length s) where
       record { is = rest_string base s p to h b q z; least = omega arith; less = omega (arith, row_least is_string_byte s (p + 1) to q); within = omega (arith, byte_in s to 34 (omega arith) z) }
 
 -- the same from before the blanks
-pub reads_back : (base : ℕ) (s : List ℕ) (at p : ℕ) (l : Lexeme) → p ≡ row_end is_blank s at → Reads (rest_at base s p) base s p l → Reads (cut_at base s at) base s at l
-reads_back base s at p l q r = go l r
+pub reads_back : (base : ℕ) (s : List ℕ) (at p : ℕ) (r : Result Head ℕ) → p ≡ row_end is_blank s at → Reads (rest_at base s p) base s p r → Reads (cut_at base s at) base s at r
+reads_back base s at p r q w = go r w
   where
     e : cut_at base s at ≡ rest_at base s p
     e = cut_rest_lem base s at ∙ ap (rest_at base s) (sym q)
@@ -55,15 +52,18 @@ reads_back base s at p l q r = go l r
     step : (t : Token) (a b : ℕ) → Step (rest_at base s p) base s p t a b → Step (cut_at base s at) base s at t a b
     step t a b r = record { is = e ∙ r.is; least = omega (arith, row_least is_blank s at p q, r.least); less = r.less; within = r.within }
 
-    go : (l : Lexeme) → Reads (rest_at base s p) base s p l → Reads (cut_at base s at) base s at l
-    go (Word a u) r = step (word (part s a u.at)) a u.at r
-    go (Text a u) r = step (string (part s (a + 1) (u.at - 1))) a u.at r
-    go (Equals a u) r = step equals a u.at r
-    go (Comma a u) r = step comma a u.at r
-    go (Opening a u) r = step opening a u.at r
-    go (Closing a u) r = step closing a u.at r
-    go End r = e ∙ r
-    go (Bad a) r = e ∙ r
+    stands : (k : TokenKind) (a b : ℕ) → Stands (rest_at base s p) base s p k a b → Stands (cut_at base s at) base s at k a b
+    stands Nothing a b r = (e ∙ r.0, r.1)
+    stands Word a b r = step (word (part s a b)) a b r
+    stands String a b r = step (string (part s (a + 1) (b - 1))) a b r
+    stands Equals a b r = step equals a b r
+    stands Comma a b r = step comma a b r
+    stands Opening a b r = step opening a b r
+    stands Closing a b r = step closing a b r
+
+    go : (r : Result Head ℕ) → Reads (rest_at base s p) base s p r → Reads (cut_at base s at) base s at r
+    go (Ok h) r = stands h.kind h.start h.past.at r
+    go (Err a) r = e ∙ r
 
 -- number 22
 pub fault_word : (t : Token) (a e n : ℕ) (c : CutResult) → is_opening t ≡ false → fault_from n (put_first (lexeme t a e) c) ≡ fault_from (open_after n t) c
@@ -78,57 +78,48 @@ fault_deep : (a e n : ℕ) (c : CutResult) → open_limit ≤ n → fault_from n
 unfolding fault_from too_deep is_opening either
 fault_deep a e n c h = rw (le-leb open_limit n h, too_deep) refl
 
-module _ (s : List ℕ) (i n : ℕ) (l : Lexeme) (h : n ≤ open_limit) (r : Reads (cut_at 0 s i) 0 s i l) where
+module _ (s : List ℕ) (i n : ℕ) (h : n ≤ open_limit) where
   plain_step : (t : Token) (a e : ℕ) → Step (cut_at 0 s i) 0 s i t a e → cut_at 0 s i ≡ put_first (lexeme t a e) (cut_at 0 s e)
   plain_step t a e w = rw (zero-add a, zero-add e) at w.is
 
   scan_on : (t : Token) (a e m : ℕ) → Step (cut_at 0 s i) 0 s i t a e → m ≤ open_limit → fault_from n (put_first (lexeme t a e) (cut_at 0 s e)) ≡ fault_from m (cut_at 0 s e) → ScanOn s i n e m
   scan_on t a e m w b q = record { is = ap (fault_from n) (plain_step t a e w) ∙ q; less = omega (arith, w.least, w.less); within = w.within; few = b }
 
-  pub scan_word : (a : ℕ) (u : Cursor) → l ≡ Word a u → ScanOn s i n u.at n
+  -- a token that is no brace
+  pub scan_plain : (k : TokenKind) (a e : ℕ) → (k ≡ Nothing → ⊥) → (k ≡ Opening → ⊥) → (k ≡ Closing → ⊥) → Stands (cut_at 0 s i) 0 s i k a e → ScanOn s i n e n
   unfolding is_opening open_after
-  scan_word a u q = scan_on (word (part s a u.at)) a u.at n (subst (Reads (cut_at 0 s i) 0 s i) q r) h (fault_word (word (part s a u.at)) a u.at n (cut_at 0 s u.at) refl)
+  scan_plain Nothing a e x y z w = absurd (x refl)
+  scan_plain Word a e x y z w = scan_on (word (part s a e)) a e n w h (fault_word (word (part s a e)) a e n (cut_at 0 s e) refl)
+  scan_plain String a e x y z w = scan_on (string (part s (a + 1) (e - 1))) a e n w h (fault_word (string (part s (a + 1) (e - 1))) a e n (cut_at 0 s e) refl)
+  scan_plain Equals a e x y z w = scan_on equals a e n w h (fault_word equals a e n (cut_at 0 s e) refl)
+  scan_plain Comma a e x y z w = scan_on comma a e n w h (fault_word comma a e n (cut_at 0 s e) refl)
+  scan_plain Opening a e x y z w = absurd (y refl)
+  scan_plain Closing a e x y z w = absurd (z refl)
 
-  pub scan_string : (a : ℕ) (u : Cursor) → l ≡ Text a u → ScanOn s i n u.at n
-  unfolding is_opening open_after
-  scan_string a u q = scan_on (string (part s (a + 1) (u.at - 1))) a u.at n (subst (Reads (cut_at 0 s i) 0 s i) q r) h (fault_word (string (part s (a + 1) (u.at - 1))) a u.at n (cut_at 0 s u.at) refl)
+  module _ (k : TokenKind) (a e : ℕ) (w : Stands (cut_at 0 s i) 0 s i k a e) where
+    as_kind : (j : TokenKind) → k ≡ j → Stands (cut_at 0 s i) 0 s i j a e
+    as_kind j q = subst (λ j. Stands (cut_at 0 s i) 0 s i j a e) q w
 
-  pub scan_equals : (a : ℕ) (u : Cursor) → l ≡ Equals a u → ScanOn s i n u.at n
-  unfolding is_opening open_after
-  scan_equals a u q = scan_on equals a u.at n (subst (Reads (cut_at 0 s i) 0 s i) q r) h (fault_word equals a u.at n (cut_at 0 s u.at) refl)
+    pub scan_opening : k ≡ Opening → n < open_limit → ScanOn s i n e (n + 1)
+    scan_opening q z =
+        scan_on opening a e (n + 1) (as_kind Opening q) (omega (arith, z))
+        (fault_opening a e n (cut_at 0 s e) z ∙ ap (λ m. fault_from m (cut_at 0 s e)) (omega arith))
 
-  pub scan_comma : (a : ℕ) (u : Cursor) → l ≡ Comma a u → ScanOn s i n u.at n
-  unfolding is_opening open_after
-  scan_comma a u q = scan_on comma a u.at n (subst (Reads (cut_at 0 s i) 0 s i) q r) h (fault_word comma a u.at n (cut_at 0 s u.at) refl)
+    pub scan_deep : k ≡ Opening → open_limit ≤ n → found a ≡ fault_from n (cut_at 0 s i)
+    scan_deep q z = sym (ap (fault_from n) (plain_step opening a e (as_kind Opening q)) ∙ fault_deep a e n (cut_at 0 s e) z)
 
-  pub scan_opening : (a : ℕ) (u : Cursor) → l ≡ Opening a u → n < open_limit → ScanOn s i n u.at (n + 1)
-  scan_opening a u q z =
-      scan_on opening a u.at (n + 1) (subst (Reads (cut_at 0 s i) 0 s i) q r) (omega (arith, z))
-      (fault_opening a u.at n (cut_at 0 s u.at) z ∙ ap (λ m. fault_from m (cut_at 0 s u.at)) (omega arith))
+    pub scan_closing : (m : ℕ) → k ≡ Closing → m ≡ n - 1 → ScanOn s i n e m
+    unfolding is_opening open_after
+    scan_closing m q z = scan_on closing a e m (as_kind Closing q) (omega (arith, z, h)) (rw z (fault_word closing a e n (cut_at 0 s e) refl))
 
-  pub scan_deep : (a : ℕ) (u : Cursor) → l ≡ Opening a u → open_limit ≤ n → found a ≡ fault_from n (cut_at 0 s i)
-  scan_deep a u q z =
-      let w : Step (cut_at 0 s i) 0 s i opening a u.at = subst (Reads (cut_at 0 s i) 0 s i) q r in
-      sym (ap (fault_from n) (plain_step opening a u.at w) ∙ fault_deep a u.at n (cut_at 0 s u.at) z)
+    pub scan_end : k ≡ Nothing → nowhere ≡ fault_from n (cut_at 0 s i)
+    unfolding fault_from too_deep either
+    scan_end q = let z = as_kind Nothing q in rw z.0 refl
 
-  pub scan_closing : (a : ℕ) (u : Cursor) (m : ℕ) → l ≡ Closing a u → m ≡ n - 1 → ScanOn s i n u.at m
-  unfolding is_opening open_after
-  scan_closing a u m q z = scan_on closing a u.at m (subst (Reads (cut_at 0 s i) 0 s i) q r) (omega (arith, z, h)) (rw z (fault_word closing a u.at n (cut_at 0 s u.at) refl))
-
-  pub scan_end : l ≡ End → nowhere ≡ fault_from n (cut_at 0 s i)
+  pub scan_bad : (a : ℕ) → cut_at 0 s i ≡ bad_at (0 + a) → found a ≡ fault_from n (cut_at 0 s i)
   unfolding fault_from too_deep either
-  scan_end q = let e : cut_at 0 s i ≡ clean = subst (Reads (cut_at 0 s i) 0 s i) q r in rw e refl
-
-  pub scan_bad : (a : ℕ) → l ≡ Bad a → found a ≡ fault_from n (cut_at 0 s i)
-  unfolding fault_from too_deep either
-  scan_bad a q = let e : cut_at 0 s i ≡ bad_at (0 + a) = subst (Reads (cut_at 0 s i) 0 s i) q r in rw (e, zero-add a) refl
+  scan_bad a e = rw (e, zero-add a) refl
 
 pub scan_start : (s : List ℕ) → scan_fault (cut s) ≡ fault_from 0 (cut_at 0 s 0)
 unfolding scan_fault fault_from
 scan_start s = ap scan_fault (cut_start s)
-
-pub scan_go : (s : List ℕ) (i n : ℕ) (t : Turn) (u : Cursor) (m : ℕ) → ScanTurn s i n t → t ≡ On u m → ScanOn s i n u.at m
-scan_go s i n t u m r q = subst (ScanTurn s i n) q r
-
-pub scan_out : (s : List ℕ) (i n : ℕ) (t : Turn) (f : Scanned) (o : Found) → ScanTurn s i n t → t ≡ Out f → o ≡ fault_from n (cut_at 0 s i) → fault_of f ≡ o
-scan_out s i n t f o r q w = let e : fault_of f ≡ fault_from n (cut_at 0 s i) = subst (ScanTurn s i n) q r in e ∙ sym w

@@ -1,12 +1,13 @@
 -- The cut of a message from a place on. The bytes s may be the part of a message that starts at base: places in the cut count from the message's start.
-use Rattle.std.specs.Prelude.{◌≡◌, ℕ, suc, ◌+◌, ◌-◌, ◌<◌, ◌≤◌, Bool, List, length, drop}
+use Rattle.std.specs.Prelude.{◌≡◌, ℕ, suc, ◌+◌, ◌-◌, ◌<◌, ◌≤◌, Bool, List, length, drop, Result, Ok, Err}
 use Rattle.classes.specs.Lists.{run_of}
 pub use Rattle.classes.specs.Lists.{part}
 use Rattle.reading_rules.specs.Token.{Token, word, string, equals, comma, opening, closing}
 use Rattle.message_rules.specs.Scan.{lexeme, CutResult, clean, bad_at, put_first, cut_rest, cut_from}
 use Rattle.message_rules.specs.Scan.{Lexeme as Lex}
-use Rattle.message_tokens.specs.declared.Lexeme.{Lexeme}
-use Rattle.message_tokens.specs.declared.Lexeme.TheVariants.{Word, Text, Equals, Comma, Opening, Closing, End, Bad}
+use Rattle.message_tokens.specs.declared.Head.{Head}
+use Rattle.message_tokens.specs.declared.TokenKind.{TokenKind}
+use Rattle.message_tokens.specs.declared.TokenKind.TheVariants.{Nothing, Word, String, Equals, Comma, Opening, Closing}
 
 -- the place past the longest row of bytes of the class f from i
 abbrev pub row_end : (ℕ → Bool) → List ℕ → ℕ → ℕ
@@ -30,13 +31,17 @@ pub record Step (c : CutResult) (base : ℕ) (s : List ℕ) (lo : ℕ) (t : Toke
   pub less : a < e
   pub within : e ≤ length s
 
--- what the cursor read from lo on, against the cut there: a token with its start and the cursor past it
-abbrev pub Reads : CutResult → ℕ → List ℕ → ℕ → Lexeme → Type 0
-Reads c base s lo (Word a u) = Step c base s lo (word (part s a u.at)) a u.at
-Reads c base s lo (Text a u) = Step c base s lo (string (part s (a + 1) (u.at - 1))) a u.at
-Reads c base s lo (Equals a u) = Step c base s lo equals a u.at
-Reads c base s lo (Comma a u) = Step c base s lo comma a u.at
-Reads c base s lo (Opening a u) = Step c base s lo opening a u.at
-Reads c base s lo (Closing a u) = Step c base s lo closing a u.at
-Reads c base s lo End = c ≡ clean
-Reads c base s lo (Bad a) = c ≡ bad_at (base + a)
+-- a token of a kind stands from a to e, or nothing is left
+abbrev pub Stands : CutResult → ℕ → List ℕ → ℕ → TokenKind → ℕ → ℕ → Type 0
+Stands c base s lo Nothing a e = (c ≡ clean) × (a ≡ length s)
+Stands c base s lo Word a e = Step c base s lo (word (part s a e)) a e
+Stands c base s lo String a e = Step c base s lo (string (part s (a + 1) (e - 1))) a e
+Stands c base s lo Equals a e = Step c base s lo equals a e
+Stands c base s lo Comma a e = Step c base s lo comma a e
+Stands c base s lo Opening a e = Step c base s lo opening a e
+Stands c base s lo Closing a e = Step c base s lo closing a e
+
+-- what the cursor read from lo on, against the cut there: a token with its start and the cursor past it, or a byte in no token
+abbrev pub Reads : CutResult → ℕ → List ℕ → ℕ → Result Head ℕ → Type 0
+Reads c base s lo (Ok h) = Stands c base s lo h.kind h.start h.past.at
+Reads c base s lo (Err a) = c ≡ bad_at (base + a)

@@ -1,11 +1,22 @@
--- What stands next, by a number.
+-- What stands next, and its kind by a number.
 use Rattle.std.specs.Prelude.{◌≡◌, ℕ, ◌+◌, ◌-◌, ◌≤◌, true, false, List, [], ◌∷◌, length, ◌==◌, ◌≢◌}
 use Rattle.reading_rules.specs.Token.{Token, word, string, equals, comma, opening, closing}
 use Rattle.message_rules.specs.Scan.{tokens_of}
 use Rattle.message_rules.specs.Verdict.{start_or}
 use Rattle.message_tokens.specs.Cursor.{part, cut_at, lexemes_at, Step}
-use Rattle.message_tokens.specs.declared.Cursor.{Cursor}
 use Rattle.message_tokens.specs.declared.Head.{Head}
+use Rattle.message_tokens.specs.declared.TokenKind.{TokenKind}
+use Rattle.message_tokens.specs.declared.TokenKind.TheVariants.{Nothing, Word, String, Equals, Comma, Opening, Closing}
+
+-- the number of a kind
+abbrev pub kind_number : TokenKind → ℕ
+kind_number Nothing = 0
+kind_number Word = 1
+kind_number String = 2
+kind_number Equals = 3
+kind_number Comma = 4
+kind_number Opening = 5
+kind_number Closing = 6
 
 -- the token of a kind from a to e
 unfoldable pub token_of : ℕ → List ℕ → ℕ → ℕ → Token
@@ -34,18 +45,14 @@ token_kind (opening ∷ r) = 5
 token_kind (closing ∷ r) = 6
 
 pub record HeadAt (base : ℕ) (s : List ℕ) (lo : ℕ) (h : Head) : Type 0 where
-  pub few : h.kind ≤ 6
-  pub none : h.kind ≡ 0 → lexemes_at base s lo ≡ []
-  pub some : (h.kind ≢ 0) → Step (cut_at base s lo) base s lo (token_of h.kind s h.start h.past.at) h.start h.past.at
+  pub few : kind_number h.kind ≤ 6
+  pub none : kind_number h.kind ≡ 0 → lexemes_at base s lo ≡ []
+  pub some : (kind_number h.kind ≢ 0) → Step (cut_at base s lo) base s lo (token_of (kind_number h.kind) s h.start h.past.at) h.start h.past.at
   pub within : h.start ≤ length s
   pub place : base + h.start ≡ start_or (base + length s) (lexemes_at base s lo)
 
--- the head of a token from a to v
-abbrev pub head_with : ℕ → ℕ → Cursor → Head
-head_with k a v = record { kind = k; start = a; past = v }
-
 -- the head of a mark, a token of one byte
-abbrev pub mark_head : ℕ → ℕ → Head
+abbrev pub mark_head : TokenKind → ℕ → Head
 mark_head k a = record { kind = k; start = a; past = record { at = a + 1 } }
 
 -- no comma stands next

@@ -1,21 +1,15 @@
--- One turn of the scan.
+-- One token of the scan, and bytes that it passes over.
 use Rattle.std.specs.Prelude.{◌≡◌, ℕ, ◌+◌, ◌<◌, ◌≤◌, true, List, length, slice_index}
 use Rattle.classes.specs.Bytes.{is_plain}
 use Rattle.numbers.specs.Limits.{open_limit}
 use Rattle.message_tokens.specs.Cursor.{cut_at}
-use Rattle.message_tokens.specs.Scanned.{fault_of, fault_from}
-use Rattle.message_tokens.specs.declared.Turn.{Turn}
-use Rattle.message_tokens.specs.declared.Turn.TheVariants.{On, Out}
+use Rattle.message_tokens.specs.Scanned.{fault_from}
 
 pub record ScanOn (s : List ℕ) (i n j m : ℕ) : Type 0 where
   pub is : fault_from n (cut_at 0 s i) ≡ fault_from m (cut_at 0 s j)
   pub less : i < j
   pub within : j ≤ length s
   pub few : m ≤ open_limit
-
-abbrev pub ScanTurn : List ℕ → ℕ → ℕ → Turn → Type 0
-ScanTurn s i n (On u m) = ScanOn s i n u.at m
-ScanTurn s i n (Out f) = fault_of f ≡ fault_from n (cut_at 0 s i)
 
 -- n bytes from i on are there, and plain
 pub record Plains (s : List ℕ) (i n : ℕ) : Type 0 where

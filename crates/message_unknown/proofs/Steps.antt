@@ -1,5 +1,5 @@
 -- Each turn over unknown parts, said of plain lists.
-use mathlib.Core.Path.{◌≡◌, refl, ap, sym, subst, ◌∙◌}
+use mathlib.Core.Path.{◌≡◌, refl, ap, sym, ◌∙◌}
 use mathlib.Core.List.{List, [], ◌∷◌}
 use Prim.Native.Nat.{ℕ, zero, suc, ◌+◌, ◌-◌, ◌≤◌, ◌<◌}
 use native.Mathlib.Omega.{arith}
@@ -9,17 +9,17 @@ use Rattle.reading_rules.specs.Reading.{Tree, unknown_value, unknown_list, unkno
 use Rattle.message_rules.specs.Scan.{tokens_of}
 use Rattle.reading_rules.specs.Parse.{Result, refused, got, then, after_token, braces_at, pair_with, unknown_at, after_unknown, unknowns_at}
 use Rattle.message_rules.specs.Verdict.{start_or}
-use Rattle.message_tokens.specs.Cursor.{cut_at, lexemes_at, Step}
-use Rattle.message_tokens.specs.Head.{token_of, token_kind, HeadAt}
+use Rattle.std.specs.Prelude.{Result as Answer, Ok, Err}
+use Rattle.message_tokens.specs.Cursor.{part, cut_at, lexemes_at, Step}
+use Rattle.message_tokens.specs.Head.{kind_number, token_of, token_kind, HeadAt}
+use Rattle.message_tokens.specs.declared.TokenKind.{TokenKind}
+use Rattle.message_tokens.specs.declared.TokenKind.TheVariants.{Nothing, Word, String, Equals, Comma, Opening, Closing}
+use Rattle.numbers.specs.declared.Refusal.{Refusal}
 use Rattle.message_tokens.specs.declared.Cursor.{Cursor}
 use Rattle.message_tokens.specs.declared.Head.{Head}
 use Rattle.message_tokens.proofs.Heads.{head_step, head_not, step_tokens, step_within}
 use Rattle.message_unknown.specs.Along.{Tail, here, tokens_at}
-use Rattle.message_unknown.specs.Passing.{Left, stuck, left, left_of, braces_from, unknown_from, unknowns_from, MovedPast, PassedUpTo, Halted, PassesTo, BraceOn, BraceTurn, WordOn, WordLast, WordTurn, ValueOn, ValueTurn, ListOn, ListTurn}
-use Rattle.message_unknown.specs.declared.Passed.{Passed}
-use Rattle.message_unknown.specs.declared.Passed.TheVariants.{Past, Refused}
-use Rattle.message_unknown.specs.declared.Turn.{Turn}
-use Rattle.message_unknown.specs.declared.Turn.TheVariants.{On, Out}
+use Rattle.message_unknown.specs.Passing.{Left, stuck, left, left_of, braces_from, unknown_from, unknowns_from, MovedPast, PassedUpTo, Halted, PassesTo, BraceOn, ValueOn, ListOn}
 use Rattle.message_unknown.proofs.AlongLaws.{tail_trans, tail_length, tokens_length, step_tail, part_lexemes, part_start, part_end, part_length}
 
 -- going on
@@ -46,8 +46,8 @@ went_on {o} {o'} {o''} {base} {s} {lo} {i} {j} a e b =
     record { is = a.is ∙ e; along = tail_trans (lexemes_at base s lo) (lexemes_at base s i) (lexemes_at base s j) b.along a.along; least = omega (arith, a.least, b.less) }
 
 -- the one law of every loop's return
-pub ends_after : {o o' : Left} {base : ℕ} {s : List ℕ} {lo i : ℕ} (g : Passed) → Went o o' base s lo i → PassesTo o' base s i g → PassesTo o base s lo g
-ends_after {o} {o'} {base} {s} {lo} {i} (Past u) a b =
+pub ends_after : {o o' : Left} {base : ℕ} {s : List ℕ} {lo i : ℕ} (g : Answer Cursor Refusal) → Went o o' base s lo i → PassesTo o' base s i g → PassesTo o base s lo g
+ends_after {o} {o'} {base} {s} {lo} {i} (Ok u) a b =
     record {
       is = a.is ∙ b.is;
       moved = record {
@@ -56,12 +56,27 @@ ends_after {o} {o'} {base} {s} {lo} {i} (Past u) a b =
         within = b.moved.within;
       };
     }
-ends_after {o} {o'} {base} {s} {lo} {i} (Refused n q) a b =
+ends_after {o} {o'} {base} {s} {lo} {i} (Err r) a b =
     record { rest = b.rest; is = a.is ∙ b.is; along = tail_trans (lexemes_at base s lo) (lexemes_at base s i) b.rest b.along a.along; place = b.place }
+
+pub passes_after : {o o' : Left} {base : ℕ} {s : List ℕ} {lo i e : ℕ} → Went o o' base s lo i → PassedUpTo o' base s i e → PassedUpTo o base s lo e
+passes_after {e = e} a b = ends_after (Ok (record { at = e })) a b
+
+pub halts_after : {o o' : Left} {base : ℕ} {s : List ℕ} {lo i n q : ℕ} → Went o o' base s lo i → Halted o' (lexemes_at base s i) (base + length s) n q → Halted o (lexemes_at base s lo) (base + length s) n q
+halts_after {base = base} {s} {lo} {i} a b = record { rest = b.rest; is = a.is ∙ b.is; along = tail_trans (lexemes_at base s lo) (lexemes_at base s i) b.rest b.along a.along; place = b.place }
 
 -- refused where it stands
 pub halt_here : (o : Left) (base : ℕ) (s : List ℕ) (i : ℕ) (h : Head) (n : ℕ) → HeadAt base s i h → o ≡ stuck n (tokens_at base s i) → Halted o (lexemes_at base s i) (base + length s) n (base + h.start)
 halt_here o base s i h n g e = record { rest = lexemes_at base s i; is = e; along = here; place = g.place }
+
+no_number : (k : TokenKind) → kind_number k ≡ 0 → k ≡ Nothing
+no_number Nothing e = refl
+no_number Word e = absurd (omega (arith, e))
+no_number String e = absurd (omega (arith, e))
+no_number Equals e = absurd (omega (arith, e))
+no_number Comma e = absurd (omega (arith, e))
+no_number Opening e = absurd (omega (arith, e))
+no_number Closing e = absurd (omega (arith, e))
 
 -- braces
 left_after : (t : Token) (o : Result (List Token)) → left_of (after_token t o) ≡ left_of o
@@ -93,59 +108,51 @@ module _ (base : ℕ) (s : List ℕ) (i k : ℕ) (h : Head) (g : HeadAt base s i
       let m = step_moved base s i t h.start h.past.at w in
       record { is = ap (λ x. left_of (braces_at x k)) (step_tokens base s i t h.start h.past.at w) ∙ e; moved = m; few = omega (arith, m.less, f, b) }
 
-  pub brace_none : h.kind ≡ 0 → Halted (braces_from base s i k) (lexemes_at base s i) (base + length s) 23 (base + h.start)
+  pub brace_none : h.kind ≡ Nothing → Halted (braces_from base s i k) (lexemes_at base s i) (base + length s) 23 (base + h.start)
   unfolding braces_at left_of tokens_of
-  brace_none e = halt_here (braces_from base s i k) base s i h 23 g (rw (g.none e) refl)
+  brace_none e = halt_here (braces_from base s i k) base s i h 23 g (rw (g.none (ap kind_number e)) refl)
 
-  pub brace_opening : h.kind ≡ 5 → k ≤ i → BraceOn base s i k h.past.at (k + 1)
+  pub brace_opening : h.kind ≡ Opening → k ≤ i → BraceOn base s i k h.past.at (k + 1)
   unfolding token_of
-  brace_opening e f = brace_on opening (k + 1) (head_step base s i h g 5 e (λ z. omega arith)) f (omega arith) (brace_opens_lem (tokens_at base s h.past.at) k)
+  brace_opening e f = brace_on opening (k + 1) (head_step base s i h g Opening e (λ z. omega arith)) f (omega arith) (brace_opens_lem (tokens_at base s h.past.at) k)
 
-  pub brace_closing : h.kind ≡ 6 → k ≤ i → (k ≡ 0 → ⊥) → BraceOn base s i k h.past.at (k - 1)
+  pub brace_closing : h.kind ≡ Closing → k ≤ i → (k ≡ 0 → ⊥) → BraceOn base s i k h.past.at (k - 1)
   unfolding token_of
-  brace_closing e f z = brace_on closing (k - 1) (head_step base s i h g 6 e (λ z. omega arith)) f (omega arith) (brace_closes_lem (tokens_at base s h.past.at) k z)
+  brace_closing e f z = brace_on closing (k - 1) (head_step base s i h g Closing e (λ z. omega arith)) f (omega arith) (brace_closes_lem (tokens_at base s h.past.at) k z)
 
-  pub brace_last : h.kind ≡ 6 → k ≡ 0 → PassedUpTo (braces_from base s i k) base s i h.past.at
+  pub brace_last : h.kind ≡ Closing → k ≡ 0 → PassedUpTo (braces_from base s i k) base s i h.past.at
   unfolding token_of braces_at left_of
   brace_last e z =
-      let w : Step (cut_at base s i) base s i closing h.start h.past.at = head_step base s i h g 6 e (λ z. omega arith) in
+      let w : Step (cut_at base s i) base s i closing h.start h.past.at = head_step base s i h g Closing e (λ z. omega arith) in
       record { is = rw (z, step_tokens base s i closing h.start h.past.at w) refl; moved = step_moved base s i closing h.start h.past.at w }
 
-  pub brace_other : (h.kind ≡ 0 → ⊥) → (h.kind ≡ 5 → ⊥) → (h.kind ≡ 6 → ⊥) → k ≤ i → BraceOn base s i k h.past.at k
+  pub brace_other : (h.kind ≡ Nothing → ⊥) → (h.kind ≡ Opening → ⊥) → (h.kind ≡ Closing → ⊥) → k ≤ i → BraceOn base s i k h.past.at k
   brace_other z a b f =
-      let w = g.some z in
+      let w = head_step base s i h g h.kind refl (λ e. z (no_number h.kind e)) in
       let t = step_tokens base s i _ _ _ w in
-      brace_on (token_of h.kind s h.start h.past.at) k w f (omega arith)
-      (brace_passes (token_of h.kind s h.start h.past.at) (tokens_at base s h.past.at) k (λ e. head_not base s i h g 5 a (ap token_kind t ∙ e)) (λ e. head_not base s i h g 6 b (ap token_kind t ∙ e)))
-
-module _ (base : ℕ) (s : List ℕ) (i k : ℕ) (l : Turn) where
-  pub brace_go : (u : Cursor) (n : ℕ) → BraceTurn base s i k l → l ≡ On u n → BraceOn base s i k u.at n
-  brace_go u n r q = subst (BraceTurn base s i k) q r
-
-  pub brace_out : (o : Left) (lo : ℕ) (g : Passed) → BraceTurn base s i k l → l ≡ Out g → Went o (braces_from base s i k) base s lo i → PassesTo o base s lo g
-  brace_out o lo g r q w = ends_after g w (subst (BraceTurn base s i k) q r)
+      brace_on (token_of (kind_number h.kind) s h.start h.past.at) k w f (omega arith)
+      (brace_passes (token_of (kind_number h.kind) s h.start h.past.at) (tokens_at base s h.past.at) k (λ e. head_not base s i h g Opening a (ap token_kind t ∙ e)) (λ e. head_not base s i h g Closing b (ap token_kind t ∙ e)))
 
 -- the part after the brace
-module _ (base : ℕ) (s : List ℕ) (e : ℕ) (h : e ≤ length s) (l : Passed) (r : PassesTo (braces_from (base + e) (take (length s - e) (drop e s)) 0 0) (base + e) (take (length s - e) (drop e s)) 0 l) where
-  same : braces_from base s e 0 ≡ braces_from (base + e) (take (length s - e) (drop e s)) 0 0
+module _ (base : ℕ) (s : List ℕ) (e : ℕ) (h : e ≤ length s) where
+  abbrev after : List ℕ
+  after = take (length s - e) (drop e s)
+
+  same : braces_from base s e 0 ≡ braces_from (base + e) after 0 0
   same = ap (λ x. left_of (braces_at (tokens_of x) 0)) (sym (part_start base s e))
 
-  pub part_past : (u : Cursor) → l ≡ Past u → PassedUpTo (braces_from base s e 0) base s e (e + u.at)
-  part_past u q =
-      let g : PassedUpTo (braces_from (base + e) (take (length s - e) (drop e s)) 0 0) (base + e) (take (length s - e) (drop e s)) 0 u.at = subst (PassesTo (braces_from (base + e) (take (length s - e) (drop e s)) 0 0) (base + e) (take (length s - e) (drop e s)) 0) q r in
-      record {
-        is = same ∙ (g.is ∙ ap (λ x. left (tokens_of x)) (part_lexemes base s e u.at));
-        moved = record {
-          along = rw (← part_start base s e, ← part_lexemes base s e u.at) g.moved.along;
-          less = omega (arith, g.moved.less);
-          within = omega (arith, g.moved.within, part_length s e, h);
-        };
-      }
+  pub part_past : (u : Cursor) → PassedUpTo (braces_from (base + e) after 0 0) (base + e) after 0 u.at → PassedUpTo (braces_from base s e 0) base s e (e + u.at)
+  part_past u g = record {
+    is = same ∙ (g.is ∙ ap (λ x. left (tokens_of x)) (part_lexemes base s e u.at));
+    moved = record {
+      along = rw (← part_start base s e, ← part_lexemes base s e u.at) g.moved.along;
+      less = omega (arith, g.moved.less);
+      within = omega (arith, g.moved.within, part_length s e, h);
+    };
+  }
 
-  pub part_refused : (n q : ℕ) → l ≡ Refused n q → Halted (braces_from base s e 0) (lexemes_at base s e) (base + length s) n q
-  part_refused n q z =
-      let g : Halted (braces_from (base + e) (take (length s - e) (drop e s)) 0 0) (lexemes_at (base + e) (take (length s - e) (drop e s)) 0) (base + e + length (take (length s - e) (drop e s))) n q = subst (PassesTo (braces_from (base + e) (take (length s - e) (drop e s)) 0 0) (base + e) (take (length s - e) (drop e s)) 0) z r in
-      record { rest = g.rest; is = same ∙ g.is; along = rw (← part_start base s e) g.along; place = g.place ∙ ap (λ n. start_or n g.rest) (part_end base s e h) }
+  pub part_refused : (n q : ℕ) → Halted (braces_from (base + e) after 0 0) (lexemes_at (base + e) after 0) (base + e + length after) n q → Halted (braces_from base s e 0) (lexemes_at base s e) (base + length s) n q
+  part_refused n q g = record { rest = g.rest; is = same ∙ g.is; along = rw (← part_start base s e) g.along; place = g.place ∙ ap (λ n. start_or n g.rest) (part_end base s e h) }
 
 -- values
 left_pair : (w : List ℕ) (o : Result (Tree unknown_value)) → left_of (pair_with w o) ≡ left_of o
@@ -187,61 +194,49 @@ value_stuck (comma ∷ r) a b c = refl
 value_stuck (closing ∷ r) a b c = refl
 
 module _ (base : ℕ) (s : List ℕ) (i : ℕ) (h : Head) (g : HeadAt base s i h) where
-  pub word_on : h.kind ≡ 3 → WordOn base s i h.past.at
-  unfolding token_of
-  word_on e =
-      let w : Step (cut_at base s i) base s i equals h.start h.past.at = head_step base s i h g 3 e (λ z. omega arith) in
-      record { is = λ v. ap (λ x. left_of (unknown_at (word v ∷ x))) (step_tokens base s i equals h.start h.past.at w) ∙ pair_left v (tokens_at base s h.past.at); moved = step_moved base s i equals h.start h.past.at w }
+  -- a word, and what follows it
+  module _ (e : h.kind ≡ Word) where
+    word_stands : Step (cut_at base s i) base s i (word (part s h.start h.past.at)) h.start h.past.at
+    unfolding token_of
+    word_stands = head_step base s i h g Word e (λ z. omega arith)
 
-  pub word_last : (h.kind ≡ 3 → ⊥) → WordLast base s i (Past (record { at = i }))
-  word_last n = record { same = refl; is = λ v. word_left v (tokens_at base s i) (head_not base s i h g 3 n) }
+    after_word : unknown_from base s i ≡ left_of (unknown_at (word (part s h.start h.past.at) ∷ tokens_at base s h.past.at))
+    after_word = ap (λ x. left_of (unknown_at x)) (step_tokens base s i _ h.start h.past.at word_stands)
 
-  pub value_word : (t : Turn) → h.kind ≡ 1 → WordTurn base s h.past.at t → ValueTurn base s i t
-  unfolding token_of
-  value_word t e r = go t r
-    where
-      text : List ℕ
-      text = take (h.past.at - h.start) (drop h.start s)
+    word_moved : MovedPast base s i h.past.at
+    word_moved = step_moved base s i _ h.start h.past.at word_stands
 
-      w : Step (cut_at base s i) base s i (word (take (h.past.at - h.start) (drop h.start s))) h.start h.past.at
-      w = head_step base s i h g 1 e (λ z. omega arith)
+    pub value_on : (d : Head) → HeadAt base s h.past.at d → d.kind ≡ Equals → ValueOn base s i d.past.at
+    unfolding token_of
+    value_on d f q =
+        let w : Step (cut_at base s h.past.at) base s h.past.at equals d.start d.past.at = head_step base s h.past.at d f Equals q (λ z. omega arith) in
+        record {
+          is = after_word ∙ (ap (λ x. left_of (unknown_at (word (part s h.start h.past.at) ∷ x))) (step_tokens base s h.past.at equals d.start d.past.at w) ∙ pair_left (part s h.start h.past.at) (tokens_at base s d.past.at));
+          moved = moved_on base s i h.past.at d.past.at word_moved (step_moved base s h.past.at equals d.start d.past.at w);
+        }
 
-      go : (t : Turn) → WordTurn base s h.past.at t → ValueTurn base s i t
-      go (On u n) r =
-          record {
-            is = ap (λ x. left_of (unknown_at x)) (step_tokens base s i _ h.start h.past.at w) ∙ r.is (take (h.past.at - h.start) (drop h.start s));
-            moved = moved_on base s i h.past.at u.at (step_moved base s i _ h.start h.past.at w) r.moved;
-          }
-      go (Out d) r =
-          let p : PassedUpTo (unknown_from base s i) base s i h.past.at = record { is = ap (λ x. left_of (unknown_at x)) (step_tokens base s i _ h.start h.past.at w) ∙ r.is (take (h.past.at - h.start) (drop h.start s)); moved = step_moved base s i _ h.start h.past.at w } in
-          subst (PassesTo (unknown_from base s i) base s i) (sym r.same) p
+    pub value_word : (d : Head) → HeadAt base s h.past.at d → (d.kind ≡ Equals → ⊥) → PassedUpTo (unknown_from base s i) base s i h.past.at
+    value_word d f n = record { is = after_word ∙ word_left (part s h.start h.past.at) (tokens_at base s h.past.at) (head_not base s h.past.at d f Equals n); moved = word_moved }
 
-  pub value_string : h.kind ≡ 2 → PassedUpTo (unknown_from base s i) base s i h.past.at
+  pub value_string : h.kind ≡ String → PassedUpTo (unknown_from base s i) base s i h.past.at
   unfolding token_of unknown_at left_of
   value_string e =
-      let w = head_step base s i h g 2 e (λ z. omega arith) in
+      let w = head_step base s i h g String e (λ z. omega arith) in
       record { is = rw (step_tokens base s i _ _ _ w) refl; moved = step_moved base s i _ _ _ w }
 
-  pub value_braces : (d : Passed) → h.kind ≡ 5 → PassesTo (braces_from base s h.past.at 0) base s h.past.at d → PassesTo (unknown_from base s i) base s i d
+  pub value_braces : (d : Answer Cursor Refusal) → h.kind ≡ Opening → PassesTo (braces_from base s h.past.at 0) base s h.past.at d → PassesTo (unknown_from base s i) base s i d
   unfolding token_of
   value_braces d e r =
-      let w : Step (cut_at base s i) base s i opening h.start h.past.at = head_step base s i h g 5 e (λ z. omega arith) in
+      let w : Step (cut_at base s i) base s i opening h.start h.past.at = head_step base s i h g Opening e (λ z. omega arith) in
       let m = step_moved base s i opening h.start h.past.at w in
       let b : Went (unknown_from base s i) (braces_from base s h.past.at 0) base s i h.past.at = record { is = ap (λ x. left_of (unknown_at x)) (step_tokens base s i opening h.start h.past.at w) ∙ braces_left (tokens_at base s h.past.at); along = m.along; least = omega (arith, m.less) } in
       ends_after d b r
 
-  pub value_none : (h.kind ≡ 1 → ⊥) → (h.kind ≡ 2 → ⊥) → (h.kind ≡ 5 → ⊥) → Halted (unknown_from base s i) (lexemes_at base s i) (base + length s) 23 (base + h.start)
-  value_none a b c = halt_here (unknown_from base s i) base s i h 23 g (value_stuck (tokens_at base s i) (head_not base s i h g 1 a) (head_not base s i h g 2 b) (head_not base s i h g 5 c))
+  pub value_none : (h.kind ≡ Word → ⊥) → (h.kind ≡ String → ⊥) → (h.kind ≡ Opening → ⊥) → Halted (unknown_from base s i) (lexemes_at base s i) (base + length s) 23 (base + h.start)
+  value_none a b c = halt_here (unknown_from base s i) base s i h 23 g (value_stuck (tokens_at base s i) (head_not base s i h g Word a) (head_not base s i h g String b) (head_not base s i h g Opening c))
 
-  pub opening_within : h.kind ≡ 5 → h.past.at ≤ length s
-  opening_within e = (head_step base s i h g 5 e (λ z. omega arith)).within
-
-module _ (base : ℕ) (s : List ℕ) (i : ℕ) (l : Turn) where
-  pub value_go : (u : Cursor) (n : ℕ) → ValueTurn base s i l → l ≡ On u n → ValueOn base s i u.at
-  value_go u n r q = subst (ValueTurn base s i) q r
-
-  pub value_out : (o : Left) (lo : ℕ) (g : Passed) → ValueTurn base s i l → l ≡ Out g → Went o (unknown_from base s i) base s lo i → PassesTo o base s lo g
-  value_out o lo g r q w = ends_after g w (subst (ValueTurn base s i) q r)
+  pub opening_within : h.kind ≡ Opening → h.past.at ≤ length s
+  opening_within e = (head_step base s i h g Opening e (λ z. omega arith)).within
 
 -- lists
 more_left : (fuel : ℕ) (v : Tree unknown_value) (r : List Token) → left_of (after_unknown (unknowns_at fuel) v (comma ∷ r)) ≡ left_of (unknowns_at fuel r)
@@ -281,12 +276,11 @@ list_stuck : (fuel : ℕ) (x y : List Token) (n : ℕ) → left_of (unknown_at x
 unfolding unknowns_at then left_of
 list_stuck fuel x y n e = rw (left_refused (unknown_at x) n y e) refl
 
-module _ (base : ℕ) (s : List ℕ) (i : ℕ) (l : Passed) (r : PassesTo (unknown_from base s i) base s i l) where
-  pub list_more : (u : Cursor) (h : Head) → l ≡ Past u → HeadAt base s u.at h → h.kind ≡ 4 → ListOn base s i h.past.at
+module _ (base : ℕ) (s : List ℕ) (i : ℕ) (u : Cursor) (p : PassedUpTo (unknown_from base s i) base s i u.at) (h : Head) (g : HeadAt base s u.at h) where
+  pub list_more : h.kind ≡ Comma → ListOn base s i h.past.at
   unfolding token_of
-  list_more u h q g e =
-      let p : PassedUpTo (unknown_from base s i) base s i u.at = subst (PassesTo (unknown_from base s i) base s i) q r in
-      let w : Step (cut_at base s u.at) base s u.at comma h.start h.past.at = head_step base s u.at h g 4 e (λ z. omega arith) in
+  list_more e =
+      let w : Step (cut_at base s u.at) base s u.at comma h.start h.past.at = head_step base s u.at h g Comma e (λ z. omega arith) in
       let t = step_tokens base s u.at comma h.start h.past.at w in
       record {
         is = λ fuel. list_past fuel (tokens_at base s i) (tokens_at base s u.at) (left_of (unknowns_at fuel (tokens_at base s h.past.at))) p.is (λ v. rw t (more_left fuel v (tokens_at base s h.past.at)));
@@ -294,15 +288,11 @@ module _ (base : ℕ) (s : List ℕ) (i : ℕ) (l : Passed) (r : PassesTo (unkno
         short = omega (arith, ap length t, tokens_length (lexemes_at base s u.at), tokens_length (lexemes_at base s i), tail_length (lexemes_at base s i) (lexemes_at base s u.at) p.moved.along);
       }
 
-  pub list_last : (u : Cursor) (h : Head) → l ≡ Past u → HeadAt base s u.at h → (h.kind ≡ 4 → ⊥) → (fuel : ℕ) → PassedUpTo (left_of (unknowns_at (suc fuel) (tokens_at base s i))) base s i u.at
-  list_last u h q g n fuel =
-      let p : PassedUpTo (unknown_from base s i) base s i u.at = subst (PassesTo (unknown_from base s i) base s i) q r in
-      record { is = list_past fuel (tokens_at base s i) (tokens_at base s u.at) (left (tokens_at base s u.at)) p.is (λ v. last_left (unknowns_at fuel) v (tokens_at base s u.at) (head_not base s u.at h g 4 n)); moved = p.moved }
+  pub list_last : (h.kind ≡ Comma → ⊥) → (fuel : ℕ) → PassedUpTo (left_of (unknowns_at (suc fuel) (tokens_at base s i))) base s i u.at
+  list_last n fuel = record { is = list_past fuel (tokens_at base s i) (tokens_at base s u.at) (left (tokens_at base s u.at)) p.is (λ v. last_left (unknowns_at fuel) v (tokens_at base s u.at) (head_not base s u.at h g Comma n)); moved = p.moved }
 
-  pub list_refused : (n q : ℕ) → l ≡ Refused n q → (fuel : ℕ) → Halted (left_of (unknowns_at (suc fuel) (tokens_at base s i))) (lexemes_at base s i) (base + length s) n q
-  list_refused n q z fuel =
-      let p : Halted (unknown_from base s i) (lexemes_at base s i) (base + length s) n q = subst (PassesTo (unknown_from base s i) base s i) z r in
-      record { rest = p.rest; is = list_stuck fuel (tokens_at base s i) (tokens_of p.rest) n p.is; along = p.along; place = p.place }
+pub list_refused : (base : ℕ) (s : List ℕ) (i n q : ℕ) → Halted (unknown_from base s i) (lexemes_at base s i) (base + length s) n q → (fuel : ℕ) → Halted (left_of (unknowns_at (suc fuel) (tokens_at base s i))) (lexemes_at base s i) (base + length s) n q
+list_refused base s i n q p fuel = record { rest = p.rest; is = list_stuck fuel (tokens_at base s i) (tokens_of p.rest) n p.is; along = p.along; place = p.place }
 
 -- where the loop over a list stands
 pub record UnknownListed (base : ℕ) (s : List ℕ) (lo i : ℕ) : Type 0 where
@@ -313,9 +303,6 @@ pub record UnknownListed (base : ℕ) (s : List ℕ) (lo i : ℕ) : Type 0 where
 pub listed_start : (base : ℕ) (s : List ℕ) (lo : ℕ) → UnknownListed base s lo lo
 listed_start base s lo = record { fuel = suc (length (tokens_at base s lo)); enough = omega arith; went = went_start (unknowns_from base s lo) base s lo }
 
-pub list_go : (base : ℕ) (s : List ℕ) (i : ℕ) (l : Turn) (u : Cursor) (n : ℕ) → ListTurn base s i l → l ≡ On u n → ListOn base s i u.at
-list_go base s i l u n r q = subst (ListTurn base s i) q r
-
 pub listed_on : (base : ℕ) (s : List ℕ) (lo i j : ℕ) → UnknownListed base s lo i → ListOn base s i j → UnknownListed base s lo j
 listed_on base s lo i j a b = go a.fuel a.enough a.went
   where
@@ -323,9 +310,9 @@ listed_on base s lo i j a b = go a.fuel a.enough a.went
     go zero e w = absurd (omega arith)
     go (suc fuel) e w = record { fuel = fuel; enough = omega (arith, b.short); went = went_on w (b.is fuel) b.moved }
 
-pub listed_out : (base : ℕ) (s : List ℕ) (lo i : ℕ) (l : Turn) (g : Passed) → UnknownListed base s lo i → ListTurn base s i l → l ≡ Out g → PassesTo (unknowns_from base s lo) base s lo g
-listed_out base s lo i l g a r q = go a.fuel a.enough a.went
+pub listed_out : (base : ℕ) (s : List ℕ) (lo i : ℕ) (g : Answer Cursor Refusal) → UnknownListed base s lo i → ((fuel : ℕ) → PassesTo (left_of (unknowns_at (suc fuel) (tokens_at base s i))) base s i g) → PassesTo (unknowns_from base s lo) base s lo g
+listed_out base s lo i g a r = go a.fuel a.enough a.went
   where
     go : (fuel : ℕ) → length (tokens_at base s i) < fuel → Went (unknowns_from base s lo) (left_of (unknowns_at fuel (tokens_at base s i))) base s lo i → PassesTo (unknowns_from base s lo) base s lo g
     go zero e w = absurd (omega arith)
-    go (suc fuel) e w = ends_after g w (subst (ListTurn base s i) q r fuel)
+    go (suc fuel) e w = ends_after g w (r fuel)

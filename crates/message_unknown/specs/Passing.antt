@@ -1,16 +1,16 @@
 -- Unknown parts: the parser's answers without what was read, and what the code ensures of them.
-use Rattle.std.specs.Prelude.{◌≡◌, List, ◌∷◌, ℕ, suc, ◌+◌, ◌≤◌, ◌<◌, length}
-use Rattle.reading_rules.specs.Token.{Token, word}
+use Rattle.std.specs.Prelude.{◌≡◌, List, ℕ, suc, ◌+◌, ◌≤◌, ◌<◌, length}
+use Rattle.std.specs.Prelude.{Result as Answer, Ok, Err}
+use Rattle.numbers.specs.Rules.{rule_number}
+use Rattle.numbers.specs.declared.Refusal.{Refusal}
+use Rattle.reading_rules.specs.Token.{Token}
 use Rattle.message_rules.specs.Scan.{tokens_of}
 use Rattle.message_rules.specs.Scan.{Lexeme as Lex}
 use Rattle.reading_rules.specs.Parse.{Result, refused, got, braces_at, unknown_at, unknowns_at}
 use Rattle.message_rules.specs.Verdict.{start_or}
 use Rattle.message_tokens.specs.Cursor.{lexemes_at}
+use Rattle.message_tokens.specs.declared.Cursor.{Cursor}
 use Rattle.message_unknown.specs.Along.{Tail, tokens_at}
-use Rattle.message_unknown.specs.declared.Passed.{Passed}
-use Rattle.message_unknown.specs.declared.Passed.TheVariants.{Past, Refused}
-use Rattle.message_unknown.specs.declared.Turn.{Turn}
-use Rattle.message_unknown.specs.declared.Turn.TheVariants.{On, Out}
 
 -- an answer without what was read
 pub data Left : Type 0 where
@@ -46,46 +46,21 @@ pub record Halted (o : Left) (x : List Lex) (end n q : ℕ) : Type 0 where
   pub along : Tail rest x
   pub place : q ≡ start_or end rest
 
-abbrev pub PassesTo : Left → ℕ → List ℕ → ℕ → Passed → Type 0
-PassesTo o base s lo (Past u) = PassedUpTo o base s lo u.at
-PassesTo o base s lo (Refused n q) = Halted o (lexemes_at base s lo) (base + length s) n q
+abbrev pub PassesTo : Left → ℕ → List ℕ → ℕ → Answer Cursor Refusal → Type 0
+PassesTo o base s lo (Ok u) = PassedUpTo o base s lo u.at
+PassesTo o base s lo (Err r) = Halted o (lexemes_at base s lo) (base + length s) (rule_number r.rule) r.place
 
--- one turn of each loop: the answer from i on is the answer from j on
+-- one step of each loop: the answer from i on is the answer from j on
 pub record BraceOn (base : ℕ) (s : List ℕ) (i k j n : ℕ) : Type 0 where
   pub is : braces_from base s i k ≡ braces_from base s j n
   pub moved : MovedPast base s i j
   pub few : n ≤ j
 
-abbrev pub BraceTurn : ℕ → List ℕ → ℕ → ℕ → Turn → Type 0
-BraceTurn base s i k (On u n) = BraceOn base s i k u.at n
-BraceTurn base s i k (Out g) = PassesTo (braces_from base s i k) base s i g
-
--- after the word w, whatever it is
-pub record WordOn (base : ℕ) (s : List ℕ) (e f : ℕ) : Type 0 where
-  pub is : (w : List ℕ) → left_of (unknown_at (word w ∷ tokens_at base s e)) ≡ unknown_from base s f
-  pub moved : MovedPast base s e f
-
-pub record WordLast (base : ℕ) (s : List ℕ) (e : ℕ) (g : Passed) : Type 0 where
-  pub same : g ≡ Past (record { at = e })
-  pub is : (w : List ℕ) → left_of (unknown_at (word w ∷ tokens_at base s e)) ≡ left (tokens_at base s e)
-
-abbrev pub WordTurn : ℕ → List ℕ → ℕ → Turn → Type 0
-WordTurn base s e (On u n) = WordOn base s e u.at
-WordTurn base s e (Out g) = WordLast base s e g
-
 pub record ValueOn (base : ℕ) (s : List ℕ) (i j : ℕ) : Type 0 where
   pub is : unknown_from base s i ≡ unknown_from base s j
   pub moved : MovedPast base s i j
-
-abbrev pub ValueTurn : ℕ → List ℕ → ℕ → Turn → Type 0
-ValueTurn base s i (On u n) = ValueOn base s i u.at
-ValueTurn base s i (Out g) = PassesTo (unknown_from base s i) base s i g
 
 pub record ListOn (base : ℕ) (s : List ℕ) (i j : ℕ) : Type 0 where
   pub is : (fuel : ℕ) → left_of (unknowns_at (suc fuel) (tokens_at base s i)) ≡ left_of (unknowns_at fuel (tokens_at base s j))
   pub moved : MovedPast base s i j
   pub short : length (tokens_at base s j) < length (tokens_at base s i)
-
-abbrev pub ListTurn : ℕ → List ℕ → ℕ → Turn → Type 0
-ListTurn base s i (On u n) = ListOn base s i u.at
-ListTurn base s i (Out g) = (fuel : ℕ) → PassesTo (left_of (unknowns_at (suc fuel) (tokens_at base s i))) base s i g

@@ -13,7 +13,8 @@ use Rattle.reading_rules.specs.Reading.{body, Tree, leaf, width}
 use Rattle.reading_rules.specs.Parse.{Result, refused, got, need, judged, simple_at, none_at, shut, struct_at}
 use Rattle.message_rules.specs.Rows.{row_count, lexeme_at, row_over, rows_of}
 use Rattle.message_tokens.specs.Cursor.{cut_at, lexemes_at, Step}
-use Rattle.message_tokens.specs.Head.{token_kind, HeadAt}
+use Rattle.message_tokens.specs.Head.{token_kind, kind_number, HeadAt}
+use Rattle.message_tokens.specs.declared.TokenKind.TheVariants.{Word, String, Opening, Closing}
 use Rattle.message_tokens.specs.declared.Head.{Head}
 use Rattle.message_tokens.proofs.Heads.{head_not, step_lex, step_tokens, step_left, step_within}
 use Rattle.message_unknown.specs.Along.{tokens_at, Stopped}
@@ -22,8 +23,10 @@ use Rattle.message_frame.specs.AtToken.{unfit_of}
 use Rattle.message_frame.proofs.AtToken.{stop_here, stop_at, unfit_here}
 use Rattle.message_values.specs.Values.{Leaf, Misfit, LeafAt}
 use Rattle.message_frame.specs.declared.Frame.{Frame}
-use Rattle.message_frame.specs.declared.Got.{Got}
-use Rattle.message_frame.specs.declared.Got.TheVariants.{Done, Refused}
+use Rattle.message_frame.specs.declared.Done.{Done}
+use Rattle.numbers.specs.Rules.{rule_number}
+use Rattle.numbers.specs.declared.Refusal.{Refusal}
+use Rattle.std.specs.Prelude.{Result as Answer, Ok, Err}
 
 none_refused : (x : List Token) → none_at x ≡ refused (unfit_of (token_kind x)) x
 unfolding none_at unfit_of token_kind
@@ -67,17 +70,17 @@ shut_refused b (closing ∷ r) a = absurd (a refl)
 
 -- a refusal by the kind of the head
 module _ (base : ℕ) (s : List ℕ) (i : ℕ) (h : Head) (g : HeadAt base s i h) where
-  pub none_stopped : (n : ℕ) → n ≡ unfit_of h.kind → Stopped (none_at (tokens_at base s i)) (lexemes_at base s i) (base + length s) n (base + h.start)
+  pub none_stopped : (n : ℕ) → n ≡ unfit_of (kind_number h.kind) → Stopped (none_at (tokens_at base s i)) (lexemes_at base s i) (base + length s) n (base + h.start)
   none_stopped n m = unfit_here base s i h g (none_at (tokens_at base s i)) (none_refused (tokens_at base s i)) n m
 
-  pub simple_stopped : (S : Schema) (u n : ℕ) → (h.kind ≡ 1 → ⊥) → (h.kind ≡ 2 → ⊥) → n ≡ unfit_of h.kind → Stopped (simple_at S u (tokens_at base s i)) (lexemes_at base s i) (base + length s) n (base + h.start)
-  simple_stopped S u n a b m = unfit_here base s i h g (simple_at S u (tokens_at base s i)) (simple_refused S u (tokens_at base s i) (head_not base s i h g 1 a) (head_not base s i h g 2 b)) n m
+  pub simple_stopped : (S : Schema) (u n : ℕ) → (h.kind ≡ Word → ⊥) → (h.kind ≡ String → ⊥) → n ≡ unfit_of (kind_number h.kind) → Stopped (simple_at S u (tokens_at base s i)) (lexemes_at base s i) (base + length s) n (base + h.start)
+  simple_stopped S u n a b m = unfit_here base s i h g (simple_at S u (tokens_at base s i)) (simple_refused S u (tokens_at base s i) (head_not base s i h g Word a) (head_not base s i h g String b)) n m
 
-  pub struct_stopped : (n : ℕ) → (h.kind ≡ 5 → ⊥) → n ≡ unfit_of h.kind → (body_of : ℕ → List Token → Result (Tree body)) (u : ℕ) → Stopped (struct_at body_of u (tokens_at base s i)) (lexemes_at base s i) (base + length s) n (base + h.start)
-  struct_stopped n a m body_of u = unfit_here base s i h g (struct_at body_of u (tokens_at base s i)) (struct_refused body_of u (tokens_at base s i) (head_not base s i h g 5 a)) n m
+  pub struct_stopped : (n : ℕ) → (h.kind ≡ Opening → ⊥) → n ≡ unfit_of (kind_number h.kind) → (body_of : ℕ → List Token → Result (Tree body)) (u : ℕ) → Stopped (struct_at body_of u (tokens_at base s i)) (lexemes_at base s i) (base + length s) n (base + h.start)
+  struct_stopped n a m body_of u = unfit_here base s i h g (struct_at body_of u (tokens_at base s i)) (struct_refused body_of u (tokens_at base s i) (head_not base s i h g Opening a)) n m
 
-  pub shut_stopped : (h.kind ≡ 6 → ⊥) → (b : Tree body) → Stopped (shut b (tokens_at base s i)) (lexemes_at base s i) (base + length s) 23 (base + h.start)
-  shut_stopped a b = stop_here (shut b (tokens_at base s i)) base s i h 23 g (shut_refused b (tokens_at base s i) (head_not base s i h g 6 a))
+  pub shut_stopped : (h.kind ≡ Closing → ⊥) → (b : Tree body) → Stopped (shut b (tokens_at base s i)) (lexemes_at base s i) (base + length s) 23 (base + h.start)
+  shut_stopped a b = stop_here (shut b (tokens_at base s i)) base s i h 23 g (shut_refused b (tokens_at base s i) (head_not base s i h g Closing a))
 
 -- a simple value: a token t that the judgement numbers
 pub word_judged : (S : Schema) (u : ℕ) (w : List ℕ) (r : List Token) → simple_at S u (word w ∷ r) ≡ judged (S.judge u (word w)) (leaf (word w)) (word w) r
@@ -121,6 +124,6 @@ module _ (S : Schema) (s : List ℕ) (f : Frame) (u : ℕ) (t : Token) (a e numb
   unfolding need
   leaf_refused n q l = rw (l.place, l.same) (stop_at (simple_at S u (tokens_at f.base s f.at)) f.base s f.at t a e number w (is_judged ∙ rw (ne_eqb number 0 l.unfit) refl))
 
-  pub leaf_ends : (r : Got) → LeafAt f number a e before after r → EndsValue (simple_at S u (tokens_at f.base s f.at)) s f before after r
-  leaf_ends (Done v next) l = leaf_done v.at next l
-  leaf_ends (Refused n q) l = leaf_refused n q l
+  pub leaf_ends : (r : Answer Done Refusal) → LeafAt f number a e before after r → EndsValue (simple_at S u (tokens_at f.base s f.at)) s f before after r
+  leaf_ends (Ok d) l = leaf_done d.past.at d.row l
+  leaf_ends (Err x) l = leaf_refused (rule_number x.rule) x.place l

@@ -5,7 +5,7 @@ use mathlib.Core.List.{List, [], ◌∷◌}
 use mathlib.Core.Path.{◌≡◌, refl, sym, ◌∙◌, ap}
 use native.Mathlib.Numerals.{add-one}
 use native.Mathlib.Omega.{arith}
-use borrow.Author.Tests.{lt-ltb, le-ltb, le-leb, lt-leb, ne_eqb, leb-true}
+use borrow.Author.Tests.{lt-ltb, le-leb, lt-leb, ne_eqb, leb-true}
 use lib.Dec.{eqb, leb, ltb}
 use lib.ListN.{length, get_or, drop, drop_of_length-le}
 use lib.Seq.{drop-cons}
@@ -33,29 +33,22 @@ module _ (w : List ℕ) (i : ℕ) where
   unfolding read_digits
   number_end n h l = rw (drop_of_length-le w h) (omega arith)
 
-  pub digits_none : length w ≤ i → is_digits (drop i w) ≡ false
-  unfolding is_digits
-  digits_none h = rw (drop_of_length-le w h)
+pub digits_are : (l : List ℕ) → ltb 0 (length l) && every is_digit l ≡ is_digits l
+unfolding is_digits
+digits_are [] = refl
+digits_are (b ∷ l) = rw (lt-ltb 0 (suc (length l)) (omega arith))
 
-  pub digits_some : i < length w → is_digits (drop i w) ≡ every is_digit (drop i w)
-  unfolding is_digits
-  digits_some h = rw (drop-cons w i 0)
+pub natural_one : (l : List ℕ) → length l ≡ 1 → is_digit (get_or l 0 0) ≡ is_natural l
+unfolding is_natural
+natural_one [] e = absurd (omega arith)
+natural_one (b ∷ []) e = refl
+natural_one (b ∷ c ∷ l) e = absurd (omega arith)
 
-  pub natural_none : length w ≤ i → is_natural (drop i w) ≡ false
-  unfolding is_natural
-  natural_none h = rw (drop_of_length-le w h)
-
-  pub natural_one : i < length w → length w - i ≡ 1 → is_natural (drop i w) ≡ is_digit (get_or w i 0)
-  unfolding is_natural
-  natural_one h e = rw (drop-cons w i 0, drop_of_length-le w {i = suc i} (omega arith))
-
-  pub natural_zero : i < length w → (length w - i ≡ 1 → ⊥) → get_or w i 0 ≤ 48 → is_natural (drop i w) ≡ false
-  unfolding is_natural
-  natural_zero h e l = rw (drop-cons w i 0, drop-cons w (suc i) 0 (omega (arith, e)), le-ltb 48 (get_or w i 0) l)
-
-  pub natural_more : i < length w → (length w - i ≡ 1 → ⊥) → 48 < get_or w i 0 → is_natural (drop i w) ≡ every is_digit (drop i w)
-  unfolding is_natural
-  natural_more h e l = rw (drop-cons w i 0, drop-cons w (suc i) 0 (omega (arith, e)), lt-ltb 48 (get_or w i 0) l)
+pub natural_more : (l : List ℕ) → (length l ≡ 1 → ⊥) → ltb 48 (get_or l 0 0) && every is_digit l ≡ is_natural l
+unfolding is_natural
+natural_more [] h = refl
+natural_more (b ∷ []) h = absurd (h refl)
+natural_more (b ∷ c ∷ l) h = refl
 
 pub and_right : (p q : Bool) → p && q ≡ true → q ≡ true
 and_right true q e = e

@@ -2,13 +2,15 @@
 use Prim.Native.Nat.{ℕ, suc, ◌+◌, ◌-◌, ◌<◌, ◌≤◌, min}
 use mathlib.Core.Bool.{Bool, true, false, not, ◌&&◌, and-false}
 use mathlib.Core.List.{List, [], ◌∷◌}
-use mathlib.Core.Path.{◌≡◌, refl, ap}
+use mathlib.Core.Path.{◌≡◌, refl, sym, ap}
 use mathlib.Core.Logic.{⊎_elim}
 use native.Mathlib.Numerals.{add-one}
 use native.Mathlib.Omega.{arith}
 use borrow.Author.Tests.{eq-eqb, ne_eqb, le-leb, lt-leb}
 use lib.Dec.{eqb}
 use lib.ListN.{length, get_or, take, drop, get_or-eq_default}
+use Rattle.std.specs.Bool.{then_some}
+use Rattle.numbers.specs.Answers.{side_of}
 use Rattle.classes.specs.Lists.{pick, run_of}
 use Rattle.classes.proofs.Rows.{rest_all}
 use Rattle.numbers.proofs.Order.{less_or_not}
@@ -40,6 +42,22 @@ module _ (w : List ℕ) where
     pub count_over : count_limit < n → read_count w ≡ unread
     unfolding read_count number_when
     count_over l = rw (lt-leb (number_of w) count_limit (omega arith), and-false (is_natural w))
+
+-- the answers of the code
+module _ (w : List ℕ) (n : ℕ) where
+  pub int_answer : n ≡ min int_most (biased_int w) → side_of (then_some (is_int w && int_within 0 int_most w) n) ≡ read_int w
+  int_answer e = by (is_int w && int_within 0 int_most w) refl
+    where
+      by : (t : Bool) → is_int w && int_within 0 int_most w ≡ t → side_of (then_some t n) ≡ read_int w
+      by true t = sym (int_read w n t e)
+      by false t = sym (int_unread w t)
+
+  pub count_answer : n ≡ min cap (number_of w) → n ≤ count_limit → side_of (then_some (is_natural w) n) ≡ read_count w
+  count_answer e l = by (is_natural w) refl
+    where
+      by : (t : Bool) → is_natural w ≡ t → side_of (then_some t n) ≡ read_count w
+      by true t = sym (count_read w n e t l)
+      by false t = sym (count_unread w t)
 
 -- ---- the cut
 
@@ -81,12 +99,11 @@ module _ (w : List ℕ) (dot : ℕ) (e : dot ≡ run_of not_dot w) where
   pub cut_missing : (get_or w (dot + 1) 0 ≡ 46 → ⊥) → cut_range w ≡ uncut
   cut_missing h = missing_from w (rw (e, add-one) at h)
 
-  -- the sides as the parts 0 to dot and dot + 2 to the end
-  pub cut_found : get_or w (dot + 1) 0 ≡ 46 → cut_range w ≡ sides (take (dot - 0) w) (take (length w - (dot + 2)) (drop (dot + 2) w))
+  -- the sides as the parts to dot and from dot + 2 to the end
+  pub cut_found : get_or w (dot + 1) 0 ≡ 46 → cut_range w ≡ sides (take dot w) (take (length w - (dot + 2)) (drop (dot + 2) w))
   cut_found h =
-      let all : dot - 0 ≡ dot = omega arith in
       let two : dot + 2 ≡ suc (suc dot) = omega arith in
-      rw (all, rest_all w (dot + 2), two, e) (found_from w (rw (e, add-one) at h))
+      rw (rest_all w (dot + 2), two, e) (found_from w (rw (e, add-one) at h))
 
 -- a byte that is not 0 lies in the row
 pub inside : (s : List ℕ) (i b : ℕ) → get_or s i 0 ≡ suc b → i < length s

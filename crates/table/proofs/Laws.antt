@@ -2,7 +2,7 @@
 use mathlib.Core.Path.{◌≡◌, refl, ap, sym, ◌∙◌}
 use mathlib.Core.Bool.{Bool, true, false, not, ◌&&◌, ◌||◌}
 use mathlib.Core.List.{List, [], ◌∷◌}
-use Prim.Native.Nat.{ℕ, suc, ◌+◌, ◌-◌, ◌^◌, ◌≤◌, ◌<◌}
+use Prim.Native.Nat.{ℕ, zero, suc, ◌+◌, ◌-◌, ◌^◌, ◌≤◌, ◌<◌}
 use native.Mathlib.Numerals.{add-one}
 use native.Mathlib.Omega.{arith}
 use lib.Dec.{leb}
@@ -24,29 +24,44 @@ use Rattle.table_records.proofs.Laws.{length_records, records_more, records_end,
 use Rattle.table_checks.specs.Sweeps.{HasFinites, AllFinite}
 use Rattle.definition_rules.specs.Faults.{void_many, rule7_broken, tag_repeated, root_no_struct}
 use Rattle.table_tags.specs.Search.{Searchable}
-use Rattle.table_walk.specs.declared.Walk.{Walk}
-use Rattle.table_walk.specs.declared.Walk.TheVariants.{Count, Bad}
-use Rattle.table_walk.specs.Walked.{Enough, RecordsCounted, Uncounted, Walked}
+use Rattle.std.specs.Prelude.{Option, Some, None, is_some}
+use Rattle.std.specs.List.{list_any, range_with_len}
+use Rattle.table_walk.specs.Walked.{RecordsCounted, Uncounted}
 use Rattle.table.specs.Checks.{is_broken, Fine, Checked}
 
 -- ---- one check over all records
 
-module _ (f : ℕ → Record → Bool) (t unpacked : List ℕ) (n : ℕ) where
-  pub none_start : none_broken f 0 (records_at t unpacked n) ≡ none_broken f 0 (records_from t unpacked (n - 0) 0)
-  none_start = rw (records_all t unpacked n)
+neither : (a b : Bool) → not (a || b) ≡ not a && not b
+neither true b = refl
+neither false b = refl
 
-  module _ (i : ℕ) where
-    pub none_end : n ≤ i → none_broken f i (records_from t unpacked (n - i) i) ≡ true
-    unfolding none_broken
-    none_end h = rw (records_end t unpacked n i h)
+module _ (f : ℕ → Record → Bool) (t unpacked : List ℕ) where
+  none_range : (n i : ℕ) → not (list_any (λ j. f j (record_in t unpacked j)) (range_with_len i n)) ≡ none_broken f i (records_from t unpacked n i)
+  unfolding none_broken records_from
+  none_range zero i = refl
+  none_range (suc n) i = neither (f i (record_in t unpacked i)) (list_any (λ j. f j (record_in t unpacked j)) (range_with_len (i + 1) n)) ∙ ap (λ b. not (f i (record_in t unpacked i)) && b) (rw add-one (none_range n (suc i)))
 
-    pub none_no : i < n → f i (record_in t unpacked i) ≡ true → none_broken f i (records_from t unpacked (n - i) i) ≡ false
-    unfolding none_broken
-    none_no h e = rw (records_more t unpacked n i h, e)
+  -- the test fails at all numbers below n
+  pub none_by : (n : ℕ) (b : Bool) → b ≡ list_any (λ j. f j (record_in t unpacked j)) (range_with_len 0 n) → not b ≡ none_broken f 0 (records_at t unpacked n)
+  none_by n b e = ap not e ∙ none_range n 0
 
-    pub none_more : i < n → f i (record_in t unpacked i) ≡ false → none_broken f i (records_from t unpacked (n - i) i) ≡ none_broken f (i + 1) (records_from t unpacked (n - (i + 1)) (i + 1))
-    unfolding none_broken
-    none_more h e = rw (records_more t unpacked n i h, e, ← add-one i)
+  -- ---- in a loop
+  module _ (n : ℕ) where
+    pub none_start : none_broken f 0 (records_at t unpacked n) ≡ none_broken f 0 (records_from t unpacked (n - 0) 0)
+    none_start = rw (records_all t unpacked n)
+
+    module _ (i : ℕ) where
+      pub none_end : n ≤ i → none_broken f i (records_from t unpacked (n - i) i) ≡ true
+      unfolding none_broken
+      none_end h = rw (records_end t unpacked n i h)
+
+      pub none_no : i < n → f i (record_in t unpacked i) ≡ true → none_broken f i (records_from t unpacked (n - i) i) ≡ false
+      unfolding none_broken
+      none_no h e = rw (records_more t unpacked n i h, e)
+
+      pub none_more : i < n → f i (record_in t unpacked i) ≡ false → none_broken f i (records_from t unpacked (n - i) i) ≡ none_broken f (i + 1) (records_from t unpacked (n - (i + 1)) (i + 1))
+      unfolding none_broken
+      none_more h e = rw (records_more t unpacked n i h, e, ← add-one i)
 
 -- finite values as the code found them
 none_found : (rs : List Record) (have : List Bool) → HasFinites rs have → (i : ℕ) (qs : List Record) → none_broken (is_endless have) i qs ≡ none_broken (is_endless (finites rs)) i qs
@@ -131,15 +146,7 @@ table_bad t u = go (decode t) refl
     go none e = unfold rules_of in refl
     go (just rs) e = unfold rules_of record_rules in (rw (lt-leb (length rs) parameter_limit (u rs e)) (and_no (leb 1 (length rs))))
 
--- ---- what the walk says
-
-pub walked_count : (t unpacked : List ℕ) (w : Walk) (n : ℕ) → Walked t unpacked w → w ≡ Count n → RecordsCounted t unpacked n
-unfolding Walked
-walked_count t unpacked w n h e = rw e at h
-
-pub walked_bad : (t unpacked : List ℕ) (w : Walk) → Walked t unpacked w → w ≡ Bad → Uncounted t
-unfolding Walked
-walked_bad t unpacked w h e = rw e at h
+-- ---- what the paper asks
 
 -- the rules are what the paper asks
 pub promised : (t : List ℕ) (b : Bool) → ((i : ℕ) → get_or t i 0 < 2 ^ 8) → b ≡ table_rules parameter_limit t → (b ≡ table_rules parameter_limit t) × ((b ≡ true) ↔ Compilable t)
@@ -159,16 +166,15 @@ searchable t cs n e c = record { laid = c.laid; behind = ordered_after_parents r
 
 -- ---- the check
 
-pub checked_fine : (t cs : List ℕ) (w : Walk) (n : ℕ) → Checked t cs w → w ≡ Count n → Fine t cs n
+pub checked_kept : (t cs : List ℕ) (w : Option ℕ) → Checked t cs w → is_some w ≡ table_rules parameter_limit t
+unfolding Checked
+checked_kept t cs (Some n) h = sym h.kept
+checked_kept t cs None h = sym h
+
+pub checked_fine : (t cs : List ℕ) (w : Option ℕ) (n : ℕ) → Checked t cs w → w ≡ Some n → Fine t cs n
 unfolding Checked
 checked_fine t cs w n h e = rw e at h
 
-pub checked_bad : (t cs : List ℕ) (w : Walk) → Checked t cs w → w ≡ Bad → table_rules parameter_limit t ≡ false
+pub checked_bad : (t cs : List ℕ) (w : Option ℕ) → Checked t cs w → w ≡ None → table_rules parameter_limit t ≡ false
 unfolding Checked
 checked_bad t cs w h e = rw e at h
-
-pub few_enough : (bytes room : ℕ) → bytes ≤ 400 → 160 ≡ room → Enough bytes room
-few_enough bytes room h e n a b = omega arith
-
-pub many_enough : (bytes room : ℕ) → 2560 ≡ room → Enough bytes room
-many_enough bytes room e n a b = omega arith

@@ -1,13 +1,11 @@
 -- The compiler's checks of records alone.
-use Rattle.std.specs.Prelude.{◌≡◌, Bool, true, false, ◌||◌, List, ℕ}
+use Rattle.std.specs.Prelude.{◌≡◌, Bool, true, false, ◌||◌, List, ℕ, Option, Some, None}
 use Rattle.reading_rules.specs.Record.{Record}
 use Rattle.definition_rules.specs.Faults.{void_many, rule7_broken, root_no_struct}
 use Rattle.numbers.specs.Limits.{parameter_limit}
 use Rattle.table_rules.specs.RecordRules.{table_rules}
 use Rattle.table_tags.specs.Search.{Searchable}
 use Rattle.table_walk.specs.Walked.{RecordsCounted}
-use Rattle.table_walk.specs.declared.Walk.{Walk}
-use Rattle.table_walk.specs.declared.Walk.TheVariants.{Count, Bad}
 
 -- what the compiler asks of the i-th record, r, but for its tag and its values
 unfoldable pub is_broken : List Record → ℕ → Record → Bool
@@ -20,6 +18,6 @@ pub record Fine (t cs : List ℕ) (n : ℕ) : Type 0 where
   pub searchable : Searchable t cs n
 
 -- what the check of a table says
-unfoldable pub Checked : List ℕ → List ℕ → Walk → Type 0
-Checked t cs (Count n) = Fine t cs n
-Checked t cs Bad = table_rules parameter_limit t ≡ false
+unfoldable pub Checked : List ℕ → List ℕ → Option ℕ → Type 0
+Checked t cs (Some n) = Fine t cs n
+Checked t cs None = table_rules parameter_limit t ≡ false

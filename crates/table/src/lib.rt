@@ -8,170 +8,141 @@ ghost use Rattle.definition_rules.specs.Faults.{tag_repeated};
 ghost use Rattle.definition_rules.specs.Finite.{is_endless};
 ghost use Rattle.table_rules.specs.Compilable.{Compilable};
 ghost use Rattle.table_rules.specs.RecordRules.{none_broken, record_checks, record_rules, table_rules};
-ghost use Rattle.table_records.specs.Stored.{record_cells, record_in, records_at, Laid};
+ghost use Rattle.table_records.specs.Stored.{Laid};
+ghost use Rattle.table_records.specs.Shown.{record_of, records_of};
 ghost use Rattle.table_walk.specs.Walked.{Enough};
 ghost use Rattle.table.specs.Checks.{is_broken, Checked};
 
-use table_walk::Walk;
+use table_records::Records;
 
 // ---- the compiler's checks
 
 // What the compiler asks of the record i alone, but for its tag and its values. Most are tagged fields, of which number 7
 // says nothing.
-fn is_broken(table: &[u8], unpacked: &[u32], n: usize, i: usize) -> bool
-    ensures { result ≡ is_broken (records_at table.now unpacked.now n) i (record_in table.now unpacked.now i) }
+#[tactic(auto, unfolding(crate::specs::Checks::is_broken))]
+fn is_broken(records: &Records, i: usize) -> bool
+    ensures { result ≡ is_broken (records_of records.now) i (record_of records.now i) }
 {
-    if table_checks::root_no_struct(table, unpacked, i) {
+    if table_checks::root_no_struct(records, i) {
         return true;
     }
-    if table_checks::void_many(table, unpacked, i) {
+    if table_checks::void_many(records, i) {
         return true;
     }
-    if table_checks::is_tagged_field(table, unpacked, n, i) {
+    if table_checks::is_tagged_field(records, i) {
         return false;
     }
-    table_checks::rule7_broken(table, unpacked, n, i)
+    table_checks::rule7_broken(records, i)
 }
 
-fn none_broken(table: &[u8], unpacked: &[u32], n: usize) -> bool
-    ensures { result ≡ none_broken (is_broken (records_at table.now unpacked.now n)) 0 (records_at table.now unpacked.now n) }
+fn none_broken(records: &Records) -> bool
+    ensures { result ≡ none_broken (is_broken (records_of records.now)) 0 (records_of records.now) }
 {
-    let mut i: usize = 0;
-    while i < n {
-        if is_broken(table, unpacked, n, i) {
-            return false;
-        }
-        i += 1;
-    }
-    true
+    !(0..records.count).any(|i| is_broken(records, i))
 }
 
 // No tag stands twice in its body, by a search for each.
-fn tags_once_by_search(table: &[u8], unpacked: &[u32], n: usize) -> bool
-    requires { Laid table.now unpacked.now n }
-    ensures { result ≡ none_broken (tag_repeated (records_at table.now unpacked.now n)) 0 (records_at table.now unpacked.now n) }
+fn tags_once_by_search(records: &Records) -> bool
+    requires { Laid records.now.table.now records.now.unpacked.now records.now.count }
+    ensures { result ≡ none_broken (tag_repeated (records_of records.now)) 0 (records_of records.now) }
 {
-    let mut i: usize = 0;
-    while i < n {
-        if table_tags::tag_again(table, unpacked, n, i) {
-            return false;
-        }
-        i += 1;
-    }
-    true
+    !(0..records.count).any(|i| table_tags::tag_again(records, i))
 }
 
 // The same, with a search only for tags whose key was met before.
-fn tags_once_by_marks(table: &[u8], unpacked: &[u32], n: usize) -> bool
-    requires { Laid table.now unpacked.now n }
-    ensures { result ≡ none_broken (tag_repeated (records_at table.now unpacked.now n)) 0 (records_at table.now unpacked.now n) }
+fn tags_once_by_marks(records: &Records) -> bool
+    requires { Laid records.now.table.now records.now.unpacked.now records.now.count }
+    ensures { result ≡ none_broken (tag_repeated (records_of records.now)) 0 (records_of records.now) }
 {
-    let mut marks = table_tags::no_keys();
-    let mut i: usize = 0;
-    while i < n {
-        if table_tags::tag_again_marked(table, unpacked, n, i, &mut marks) {
+    let mut marks = [false; table_tags::MARKS];
+    for i in 0..records.count {
+        if table_tags::tag_again_marked(records, i, &mut marks) {
             return false;
         }
-        i += 1;
     }
     true
 }
 
 // No tag stands twice in its body. The marks pay where there are many records.
-fn tags_once(table: &[u8], unpacked: &[u32], n: usize) -> bool
-    requires { Laid table.now unpacked.now n }
-    ensures { result ≡ none_broken (tag_repeated (records_at table.now unpacked.now n)) 0 (records_at table.now unpacked.now n) }
+fn tags_once(records: &Records) -> bool
+    requires { Laid records.now.table.now records.now.unpacked.now records.now.count }
+    ensures { result ≡ none_broken (tag_repeated (records_of records.now)) 0 (records_of records.now) }
 {
-    if n <= FEW_RECORDS {
-        return tags_once_by_search(table, unpacked, n);
+    if records.count <= FEW_RECORDS {
+        return tags_once_by_search(records);
     }
-    tags_once_by_marks(table, unpacked, n)
+    tags_once_by_marks(records)
 }
 
-fn none_endless(table: &[u8], unpacked: &[u32], n: usize, have: &[bool]) -> bool
-    ensures { result ≡ none_broken (is_endless have.now) 0 (records_at table.now unpacked.now n) }
+fn none_endless(records: &Records, have: &[bool]) -> bool
+    ensures { result ≡ none_broken (is_endless have.now) 0 (records_of records.now) }
 {
-    let mut i: usize = 0;
-    while i < n {
-        if table_checks::is_endless(table, unpacked, have, i) {
-            return false;
-        }
-        i += 1;
-    }
-    true
+    !(0..records.count).any(|i| table_checks::is_endless(records, have, i))
 }
 
-fn none_yet() -> [bool; numbers::PARAMETER_LIMIT]
-    ensures { parameter_limit ≡ length result }
+fn checks_fine(records: &Records) -> bool
+    requires { (records.now.count ≤ parameter_limit) × Laid records.now.table.now records.now.unpacked.now records.now.count }
+    ensures { AfterParents (records_of records.now) → result ≡ record_checks (records_of records.now) }
 {
-    [false; numbers::PARAMETER_LIMIT]
-}
-
-fn checks_fine(table: &[u8], unpacked: &[u32], n: usize) -> bool
-    requires { (n ≤ parameter_limit) × Laid table.now unpacked.now n }
-    ensures { AfterParents (records_at table.now unpacked.now n) → result ≡ record_checks (records_at table.now unpacked.now n) }
-{
-    if !none_broken(table, unpacked, n) {
+    if !none_broken(records) {
         return false;
     }
-    if !tags_once(table, unpacked, n) {
+    if !tags_once(records) {
         return false;
     }
-    if table_checks::only_structs(table, unpacked, n) {
+    if table_checks::only_structs(records) {
         return true;
     }
-    let mut have = none_yet();
-    let mut rest = none_yet();
-    table_checks::finites(table, unpacked, n, &mut have, &mut rest);
-    none_endless(table, unpacked, n, &have)
+    let mut have = [false; numbers::PARAMETER_LIMIT];
+    let mut rest = [false; numbers::PARAMETER_LIMIT];
+    table_checks::finites(records, &mut have, &mut rest);
+    none_endless(records, &have)
 }
 
-fn rules(table: &[u8], unpacked: &[u32], n: usize) -> bool
-    requires { (n ≤ parameter_limit) × Laid table.now unpacked.now n }
-    ensures { result ≡ record_rules parameter_limit (records_at table.now unpacked.now n) }
+fn rules(records: &Records) -> bool
+    requires { (records.now.count ≤ parameter_limit) × Laid records.now.table.now records.now.unpacked.now records.now.count }
+    ensures { result ≡ record_rules parameter_limit (records_of records.now) }
 {
-    if n == 0 {
+    if records.count == 0 {
         return false;
     }
-    if !table_order::ordered(table, unpacked, n) {
+    if !table_order::ordered(records) {
         return false;
     }
-    if !table_fields::every_fine(table, unpacked, n) {
+    if !table_fields::every_fine(records) {
         return false;
     }
-    if !table_fields::all_new(table, unpacked, n) {
+    if !table_fields::all_new(records) {
         return false;
     }
-    checks_fine(table, unpacked, n)
+    checks_fine(records)
 }
 
 // ---- a table's bytes
 
 // The records of a table that some definition compiles to, unpacked; of another table it says so. The cells are enough for
 // the table's records.
-pub fn checked(table: &[u8], unpacked: &mut [u32]) -> Walk
+pub fn checked(table: &[u8], unpacked: &mut [u32]) -> Option<usize>
     requires { Enough (length table.now) (length unpacked.old) }
     ensures { Checked table.now unpacked.new result }
 {
-    match table_walk::unpack(table, unpacked) {
-        Walk::Count(n) => {
-            if rules(table, unpacked, n) {
-                return Walk::Count(n);
-            }
-            Walk::Bad
-        }
-        Walk::Bad => Walk::Bad,
+    let count = table_walk::unpack(table, unpacked)?;
+    let records = Records {
+        table,
+        unpacked,
+        count,
+    };
+    if rules(&records) {
+        return Some(count);
     }
+    None
 }
 
 fn passes(table: &[u8], unpacked: &mut [u32]) -> bool
     requires { Enough (length table.now) (length unpacked.old) }
     ensures { result ≡ table_rules parameter_limit table.now }
 {
-    match checked(table, unpacked) {
-        Walk::Count(_) => true,
-        Walk::Bad => false,
-    }
+    checked(table, unpacked).is_some()
 }
 
 // A small table, the records that it can hold, each with a label of one byte or more, and the cells for them.
@@ -179,31 +150,18 @@ const FEW_RECORDS: usize = 16;
 
 pub const FEW_BYTES: usize = FEW_RECORDS * (numbers::RECORD_HEADER + 1);
 
-const FEW_CELLS: usize = table_records::WIDTH * FEW_RECORDS;
-
-// Cells for the records of a small table, and for as many as there may be.
-pub fn few_cells() -> [u32; FEW_CELLS]
-    ensures { record_cells * 16 ≡ length result }
-{
-    [0u32; FEW_CELLS]
-}
-
-pub fn many_cells() -> [u32; table_records::ALL_CELLS]
-    ensures { record_cells * parameter_limit ≡ length result }
-{
-    [0u32; table_records::ALL_CELLS]
-}
+pub const FEW_CELLS: usize = table_records::WIDTH * FEW_RECORDS;
 
 // Some definition compiles to the table: the record rules hold, which is to say that there are a text and a room with which
 // compiling gives these very bytes.
 pub fn table_ok(table: &[u8]) -> bool
-    ensures value { result ≡ table_rules parameter_limit table.now }
-    ensures variant { (result ≡ true) ↔ Compilable table.now }
+    ensures rules { result ≡ table_rules parameter_limit table.now }
+    ensures compilable { (result ≡ true) ↔ Compilable table.now }
 {
     if table.len() <= FEW_BYTES {
-        let mut few = few_cells();
+        let mut few = [0u32; FEW_CELLS];
         return passes(table, &mut few);
     }
-    let mut many = many_cells();
+    let mut many = [0u32; table_records::ALL_CELLS];
     passes(table, &mut many)
 }

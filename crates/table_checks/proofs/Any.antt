@@ -1,8 +1,12 @@
 -- Loops over records that look for one.
 use mathlib.Core.Path.{◌≡◌, refl, ap, sym, ◌∙◌}
-use mathlib.Core.Bool.{Bool, true, false, ◌&&◌}
+use mathlib.Core.Bool.{Bool, true, false, ◌&&◌, ◌||◌}
+use Rattle.std.proofs.Common.{add-zero}
+use Rattle.std.specs.List.{list_any, list_all, range_with_len}
+use Rattle.reading_rules.proofs.CountLaws.{and_both}
+use native.Mathlib.Numerals.{add-one}
 use mathlib.Core.List.{List, [], ◌∷◌}
-use Prim.Native.Nat.{ℕ, zero, suc, ◌+◌, ◌-◌, ◌≤◌, ◌<◌}
+use Prim.Native.Nat.{ℕ, zero, suc, ◌+◌, ◌-◌, ◌<◌, min}
 use native.Mathlib.Omega.{arith}
 use lib.ListN.{length}
 use Rattle.reading_rules.specs.Record.{Record, Up, top, under, is_top}
@@ -11,41 +15,42 @@ use borrow.Author.Tests.{eq-eqb, ne_eqb}
 use Rattle.classes.specs.Lists.{pick}
 use Rattle.definition_rules.specs.Faults.{any_before, any_of, parent_kind, misplaced_field, misplaced_alternative, misplaced_untagged, number_tag, void_top, plugin_undotted, rule7_broken}
 use Rattle.table_records.specs.Stored.{record_in, records_from, records_at}
-use Rattle.table_records.proofs.Laws.{length_records, records_more, records_end, records_all}
-
-any_none : (f : Record → Bool) (m : ℕ) → any_before m f [] ≡ false
-unfolding any_before
-any_none f zero = refl
-any_none f (suc m) = refl
+use Rattle.table_records.proofs.Laws.{length_records}
 
 any_in_all : (f : Record → Bool) (rs : List Record) → any_before (length rs) f rs ≡ any_of f rs
 unfolding any_before any_of
 any_in_all f [] = refl
 any_in_all f (r ∷ rs) = rw (any_in_all f rs)
 
-module _ (f : Record → Bool) (t unpacked : List ℕ) (n : ℕ) where
+module _ (f : Record → Bool) (t unpacked : List ℕ) where
+  any_range : (m n i k : ℕ) → k ≡ min m n → list_any (λ j. f (record_in t unpacked j)) (range_with_len i k) ≡ any_before m f (records_from t unpacked n i)
+  unfolding any_before records_from
+  any_range zero n i zero e = refl
+  any_range zero n i (suc k) e = absurd (omega arith)
+  any_range (suc m) zero i zero e = refl
+  any_range (suc m) zero i (suc k) e = absurd (omega arith)
+  any_range (suc m) (suc n) i zero e = absurd (omega arith)
+  any_range (suc m) (suc n) i (suc k) e = ap (λ b. f (record_in t unpacked i) || b) (rw add-one (any_range m n (suc i) k (omega arith)))
+
+  -- among the first m of n
+  pub any_among : (m n k : ℕ) → k ≡ min m n → list_any (λ j. f (record_in t unpacked j)) (range_with_len 0 k) ≡ any_before m f (records_at t unpacked n)
+  any_among m n k e = any_range m n 0 k e
+
   -- among all
-  pub any_of_lem : any_before n f (records_at t unpacked n) ≡ any_of f (records_at t unpacked n)
-  any_of_lem = ap (λ (m : ℕ). any_before m f (records_at t unpacked n)) (sym (length_records t unpacked n 0)) ∙ any_in_all f (records_at t unpacked n)
+  pub any_of_lem : (n : ℕ) → any_before n f (records_at t unpacked n) ≡ any_of f (records_at t unpacked n)
+  any_of_lem n = ap (λ (m : ℕ). any_before m f (records_at t unpacked n)) (sym (length_records t unpacked n 0)) ∙ any_in_all f (records_at t unpacked n)
 
-  pub any_start : (m : ℕ) → any_before m f (records_at t unpacked n) ≡ any_before (m - 0) f (records_from t unpacked (n - 0) 0)
-  any_start m = let e : m ≡ m - 0 = omega arith in rw (records_all t unpacked n, ← e)
+-- ---- what a test says of all numbers below one
 
-  module _ (m j : ℕ) where
-    pub any_stop : m ≤ j → any_before (m - j) f (records_from t unpacked (n - j) j) ≡ false
-    unfolding any_before
-    any_stop h = let e : m - j ≡ 0 = omega arith in rw e
+all_from : (test : ℕ → Bool) (n i k : ℕ) → list_all test (range_with_len i n) ≡ true → k < n → test (i + k) ≡ true
+all_from test zero i k e h = absurd (omega arith)
+all_from test (suc n) i zero e h = rw add-zero (and_both (test i) (list_all test (range_with_len (i + 1) n)) e (λ a b. a))
+all_from test (suc n) i (suc k) e h =
+    let z : i + suc k ≡ i + 1 + k = omega arith in
+    rw z (all_from test n (i + 1) k (and_both (test i) (list_all test (range_with_len (i + 1) n)) e (λ a b. b)) (omega arith))
 
-    pub any_end : n ≤ j → any_before (m - j) f (records_from t unpacked (n - j) j) ≡ false
-    any_end h = rw (records_end t unpacked n j h) (any_none f (m - j))
-
-    pub any_yes : j < n → j < m → f (record_in t unpacked j) ≡ true → any_before (m - j) f (records_from t unpacked (n - j) j) ≡ true
-    unfolding any_before
-    any_yes h k e = let s : m - j ≡ suc (m - (j + 1)) = omega arith in rw (s, records_more t unpacked n j h, e)
-
-    pub any_more : j < n → j < m → f (record_in t unpacked j) ≡ false → any_before (m - j) f (records_from t unpacked (n - j) j) ≡ any_before (m - (j + 1)) f (records_from t unpacked (n - (j + 1)) (j + 1))
-    unfolding any_before
-    any_more h k e = let s : m - j ≡ suc (m - (j + 1)) = omega arith in rw (s, records_more t unpacked n j h, e)
+pub all_range : (test : ℕ → Bool) (n k : ℕ) → list_all test (range_with_len 0 n) ≡ true → k < n → test k ≡ true
+all_range test n k e h = let z : k ≡ 0 + k = omega arith in rw z (all_from test n 0 k e h)
 
 -- ---- an untagged record, by its parent's kind
 

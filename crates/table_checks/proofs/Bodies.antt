@@ -5,10 +5,10 @@ use mathlib.Core.List.{List, [], ◌∷◌}
 use Prim.Native.Nat.{ℕ, zero, suc, ◌+◌, ◌-◌, ◌≤◌, ◌<◌}
 use native.Mathlib.Numerals.{add-one}
 use native.Mathlib.Omega.{arith}
-use lib.Dec.{eqb, ltb}
-use lib.ListN.{length, get_or, set, get_or-eq_default}
+use lib.Dec.{eqb}
+use lib.ListN.{length, get_or, set, replicate}
 use lib.Seq.{get_or-set_same, get_or-set_other}
-use borrow.Author.Tests.{eqb-true, eqb-false, ne_eqb, ltb-true, ltb-false}
+use borrow.Author.Tests.{eqb-true, eqb-false, ne_eqb}
 use Rattle.classes.specs.Lists.{pick}
 use Rattle.reading_rules.specs.Record.{Record, Up, top, under, record_at, Before, AfterParents}
 use Rattle.reading_rules.specs.Schema.{is_under}
@@ -28,12 +28,10 @@ module _ (s : List Bool) (i : ℕ) (b : Bool) (h : i < length s) where
       go true z = rw (eqb-true k i z, get_or-set_same s i b false h) here
       go false z = let q = eqb-false k i z in rw (get_or-set_other s i k b false q) (below k (omega arith))
 
-pub clear_end : (have : List Bool) (i : ℕ) → ((k : ℕ) → k < i → get_or have k false ≡ false) → length have ≤ i → NoneMarked have
-clear_end have i below h k = go (ltb k i) refl
-  where
-    go : (b : Bool) → ltb k i ≡ b → get_or have k false ≡ false
-    go true z = below k (ltb-true k i z)
-    go false z = get_or-eq_default have false {n = k} (omega (arith, ltb-false k i z))
+pub none_marked : (n : ℕ) → NoneMarked (replicate n false)
+none_marked zero i = refl
+none_marked (suc n) zero = refl
+none_marked (suc n) (suc i) = none_marked n i
 
 -- ---- a body over the records from one on
 

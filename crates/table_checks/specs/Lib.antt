@@ -1,3 +1,2 @@
--- What a record is asked about another one, and the sweeps that find finite values.
-pub mod Besides
+-- The sweeps that find finite values.
 pub mod Sweeps

@@ -1,359 +1,313 @@
-// The checks of a definition that read only records. In all of them unpacked holds the table's records, n is how many
-// there are, and i is the number of the record that is judged.
+// The checks of a definition that read only records. In all of them i is the number of the record that is judged.
 #![tactic(auto)]
 
 ghost use Rattle.std.specs.Prelude.{◌≡◌, Bool, true, false, List, ◌≤◌, length, get_or};
 ghost use Rattle.reading_rules.specs.Record.{is_top, AfterParents};
 ghost use Rattle.definition_rules.specs.Finite.{can_do_without, ends_needs, is_endless};
-ghost use Rattle.definition_rules.specs.Faults.{void_many, any_before, parent_kind, beside as is_beside, misplaced_field, misplaced_alternative, misplaced_untagged, number_tag, void_top, plugin_undotted, rule7_broken, root_no_struct};
-ghost use Rattle.table_records.specs.Stored.{record_in, records_at};
-ghost use Rattle.table_checks.specs.Besides.{is_such};
-ghost use Rattle.table_checks.specs.Sweeps.{step_by, is_newly_finite, add_if, step_with, gathered, Over, Swept, NoneMarked, HasFinites, AllFinite};
+ghost use Rattle.definition_rules.specs.Faults.{void_many, parent_kind, beside as is_beside, misplaced_field, misplaced_alternative, misplaced_untagged, number_tag, void_top, plugin_undotted, rule7_broken, root_no_struct};
+ghost use Rattle.table_records.specs.Shown.{record_of, records_of};
+ghost use Rattle.table_checks.specs.Sweeps.{step_by, is_newly_finite, add_if, step_with, gathered, Over, Swept, HasFinites, AllFinite};
 
-// What is asked of the other records of a body, or of the other tops.
-#[derive(Clone, Copy)]
-enum Such {
-    Any,
-    Tagged,
-    Untagged,
-}
+use table_records::Records;
 
 // ---- parents
 
-pub fn is_top(table: &[u8], unpacked: &[u32], i: usize) -> bool
-    ensures { result ≡ is_top (record_in table.now unpacked.now i).parent }
+#[tactic(auto, using(crate::proofs::Parents::top_is))]
+pub fn is_top(records: &Records, i: usize) -> bool
+    ensures { result ≡ is_top (record_of records.now i).parent }
 {
-    table_records::parent_at(table, unpacked, i) == numbers::NONE16
+    records.parent_at(i) == numbers::NONE16
 }
 
 // j stands in i's body, or both are tops.
-pub fn beside(table: &[u8], unpacked: &[u32], i: usize, j: usize) -> bool
-    ensures { result ≡ is_beside (record_in table.now unpacked.now i) (record_in table.now unpacked.now j) }
+#[tactic(auto, using(crate::proofs::Parents::beside_is))]
+pub fn beside(records: &Records, i: usize, j: usize) -> bool
+    ensures { result ≡ is_beside (record_of records.now i) (record_of records.now j) }
 {
-    table_records::parent_at(table, unpacked, j) == table_records::parent_at(table, unpacked, i)
+    records.parent_at(j) == records.parent_at(i)
 }
 
 // The enclosing record's kind; 0 for a top.
-fn parent_kind(table: &[u8], unpacked: &[u32], n: usize, i: usize) -> u32
-    ensures { result ≡ parent_kind (records_at table.now unpacked.now n) (record_in table.now unpacked.now i).parent }
+#[tactic(auto, using(crate::proofs::Parents::kind_top, crate::proofs::Parents::kind_past, crate::proofs::Parents::kind_of_lem))]
+fn parent_kind(records: &Records, i: usize) -> u32
+    ensures { result ≡ parent_kind (records_of records.now) (record_of records.now i).parent }
 {
-    let p = table_records::parent_at(table, unpacked, i);
+    let p = records.parent_at(i);
     if p == numbers::NONE16 {
         return 0;
     }
-    if n <= p {
+    if records.count <= p {
         return numbers::VOID;
     }
-    table_records::kind_at(table, unpacked, p)
-}
-
-// ---- loops over other records
-
-fn is_such(table: &[u8], unpacked: &[u32], i: usize, j: usize, such: Such) -> bool
-    ensures { result ≡ is_such such (record_in table.now unpacked.now i) (record_in table.now unpacked.now j) }
-{
-    match such {
-        Such::Any => beside(table, unpacked, i, j),
-        Such::Tagged => beside(table, unpacked, i, j)
-            & !table_records::untagged_at(table, unpacked, j),
-        Such::Untagged => beside(table, unpacked, i, j)
-            & table_records::untagged_at(table, unpacked, j),
-    }
-}
-
-// Some record among the first m is such a one beside i.
-fn any_such(table: &[u8], unpacked: &[u32], n: usize, m: usize, i: usize, such: Such) -> bool
-    ensures { result ≡ any_before m (is_such such (record_in table.now unpacked.now i)) (records_at table.now unpacked.now n) }
-{
-    let mut j: usize = 0;
-    while j < n {
-        if m <= j {
-            return false;
-        }
-        if is_such(table, unpacked, i, j, such) {
-            return true;
-        }
-        j += 1;
-    }
-    false
+    records.kind_at(p)
 }
 
 // ---- number 6
 
 // A void that may stand more than once.
-pub fn void_many(table: &[u8], unpacked: &[u32], i: usize) -> bool
-    ensures { result ≡ void_many i (record_in table.now unpacked.now i) }
+#[tactic(auto, unfolding(definition_rules::specs::Faults::void_many))]
+pub fn void_many(records: &Records, i: usize) -> bool
+    ensures { result ≡ void_many i (record_of records.now i) }
 {
-    (table_records::kind_at(table, unpacked, i) == numbers::VOID)
-        & (1 < table_records::hi_count_at(table, unpacked, i))
+    (records.kind_at(i) == numbers::VOID) & (1 < records.hi_count_at(i))
 }
 
 // ---- number 7, by the clauses of docs/FORMAT.md (2.2)
 
 // An untagged field of a struct that can't stand there.
-fn misplaced_field(table: &[u8], unpacked: &[u32], n: usize, i: usize) -> bool
-    ensures { result ≡ misplaced_field (records_at table.now unpacked.now n) i (record_in table.now unpacked.now i) }
+#[tactic(auto, unfolding(definition_rules::specs::Faults::misplaced_field))]
+fn misplaced_field(records: &Records, i: usize) -> bool
+    ensures { result ≡ misplaced_field (records_of records.now) i (record_of records.now i) }
 {
-    if table_records::extension_at(table, unpacked, i) { // clause b
+    if records.extension_at(i) { // clause b
         return true;
     }
-    if table_records::kind_at(table, unpacked, i) == numbers::VOID {
+    if records.kind_at(i) == numbers::VOID {
         return true;
     }
-    any_such(table, unpacked, n, i, i, Such::Tagged)
+    (0..i.min(records.count)).any(|j| beside(records, i, j) & !records.untagged_at(j))
 }
 
 // An untagged alternative that can't stand there.
-fn misplaced_alternative(table: &[u8], unpacked: &[u32], n: usize, i: usize) -> bool
-    ensures { result ≡ misplaced_alternative (records_at table.now unpacked.now n) i (record_in table.now unpacked.now i) }
+#[tactic(auto, unfolding(definition_rules::specs::Faults::misplaced_alternative))]
+fn misplaced_alternative(records: &Records, i: usize) -> bool
+    ensures { result ≡ misplaced_alternative (records_of records.now) i (record_of records.now i) }
 {
-    if table_records::extension_at(table, unpacked, i) { // clause f
+    if records.extension_at(i) { // clause f
         return true;
     }
-    if table_records::kind_at(table, unpacked, i) != numbers::INT {
+    if records.kind_at(i) != numbers::INT {
         return true;
     }
-    any_such(table, unpacked, n, i, i, Such::Any)
+    (0..i.min(records.count)).any(|j| beside(records, i, j))
 }
 
-fn misplaced_untagged(table: &[u8], unpacked: &[u32], n: usize, i: usize) -> bool
-    ensures { result ≡ misplaced_untagged (records_at table.now unpacked.now n) i (record_in table.now unpacked.now i) }
+#[tactic(auto, unfolding(definition_rules::specs::Faults::misplaced_untagged, classes::specs::Lists::pick))]
+fn misplaced_untagged(records: &Records, i: usize) -> bool
+    ensures { result ≡ misplaced_untagged (records_of records.now) i (record_of records.now i) }
 {
-    if !table_records::untagged_at(table, unpacked, i) {
+    if !records.untagged_at(i) {
         return false;
     }
-    if parent_kind(table, unpacked, n, i) == numbers::UNION {
-        return misplaced_alternative(table, unpacked, n, i);
+    if parent_kind(records, i) == numbers::UNION {
+        return misplaced_alternative(records, i);
     }
-    misplaced_field(table, unpacked, n, i)
+    misplaced_field(records, i)
 }
 
 // An alternative whose tag looks like an int, beside an untagged one.
-fn number_tag(table: &[u8], unpacked: &[u32], n: usize, i: usize) -> bool
-    ensures { result ≡ number_tag (records_at table.now unpacked.now n) i (record_in table.now unpacked.now i) }
+#[tactic(auto, unfolding(definition_rules::specs::Faults::number_tag))]
+fn number_tag(records: &Records, i: usize) -> bool
+    ensures { result ≡ number_tag (records_of records.now) i (record_of records.now i) }
 {
-    if parent_kind(table, unpacked, n, i) != numbers::UNION {
+    if parent_kind(records, i) != numbers::UNION {
         return false;
     }
-    if table_records::untagged_at(table, unpacked, i) {
+    if records.untagged_at(i) {
         return false;
     }
-    if !numbers::is_int_like(table_records::label_at(table, unpacked, i)) {
+    if !numbers::is_int_like(records.label_at(i)) {
         return false;
     }
-    any_such(table, unpacked, n, n, i, Such::Untagged)
+    (0..records.count).any(|j| beside(records, i, j) & records.untagged_at(j))
 }
 
-fn void_top(table: &[u8], unpacked: &[u32], i: usize) -> bool
-    ensures { result ≡ void_top (record_in table.now unpacked.now i) }
+#[tactic(auto, unfolding(definition_rules::specs::Faults::void_top))]
+fn void_top(records: &Records, i: usize) -> bool
+    ensures { result ≡ void_top (record_of records.now i) }
 {
-    is_top(table, unpacked, i) & (table_records::kind_at(table, unpacked, i) == numbers::VOID)
+    is_top(records, i) & (records.kind_at(i) == numbers::VOID)
 }
 
 // A plugin without a tag that has a dot.
-fn plugin_undotted(table: &[u8], unpacked: &[u32], i: usize) -> bool
-    ensures { result ≡ plugin_undotted (record_in table.now unpacked.now i) }
+#[tactic(auto, unfolding(definition_rules::specs::Faults::plugin_undotted))]
+fn plugin_undotted(records: &Records, i: usize) -> bool
+    ensures { result ≡ plugin_undotted (record_of records.now i) }
 {
-    if !table_records::plugin_at(table, unpacked, i) {
+    if !records.plugin_at(i) {
         return false;
     }
-    if table_records::untagged_at(table, unpacked, i) {
+    if records.untagged_at(i) {
         return true;
     }
-    !definition_words::has_dot(table_records::label_at(table, unpacked, i))
+    !definition_words::has_dot(records.label_at(i))
 }
 
 // A tagged field of a struct, and no plugin: no rule of number 7 speaks of it.
-pub fn is_tagged_field(table: &[u8], unpacked: &[u32], n: usize, i: usize) -> bool
-    ensures { result ≡ true → rule7_broken (records_at table.now unpacked.now n) i (record_in table.now unpacked.now i) ≡ false }
+#[tactic(auto, using(crate::proofs::Any::tagged_field))]
+pub fn is_tagged_field(records: &Records, i: usize) -> bool
+    ensures { result ≡ true → rule7_broken (records_of records.now) i (record_of records.now i) ≡ false }
 {
-    if table_records::untagged_at(table, unpacked, i) {
+    if records.untagged_at(i) {
         return false;
     }
-    if table_records::plugin_at(table, unpacked, i) {
+    if records.plugin_at(i) {
         return false;
     }
-    parent_kind(table, unpacked, n, i) == numbers::STRUCT
+    parent_kind(records, i) == numbers::STRUCT
 }
 
-pub fn rule7_broken(table: &[u8], unpacked: &[u32], n: usize, i: usize) -> bool
-    ensures { result ≡ rule7_broken (records_at table.now unpacked.now n) i (record_in table.now unpacked.now i) }
+#[tactic(auto, unfolding(definition_rules::specs::Faults::rule7_broken))]
+pub fn rule7_broken(records: &Records, i: usize) -> bool
+    ensures { result ≡ rule7_broken (records_of records.now) i (record_of records.now i) }
 {
-    if misplaced_untagged(table, unpacked, n, i) {
+    if misplaced_untagged(records, i) {
         return true;
     }
-    if number_tag(table, unpacked, n, i) {
+    if number_tag(records, i) {
         return true;
     }
-    void_top(table, unpacked, i) | plugin_undotted(table, unpacked, i)
+    void_top(records, i) | plugin_undotted(records, i)
 }
 
 // ---- number 9
 
-pub fn root_no_struct(table: &[u8], unpacked: &[u32], i: usize) -> bool
-    ensures { result ≡ root_no_struct i (record_in table.now unpacked.now i) }
+#[tactic(auto, unfolding(definition_rules::specs::Faults::root_no_struct))]
+pub fn root_no_struct(records: &Records, i: usize) -> bool
+    ensures { result ≡ root_no_struct i (record_of records.now i) }
 {
     if i == 0 {
-        return table_records::kind_at(table, unpacked, i) != numbers::STRUCT;
+        return records.kind_at(i) != numbers::STRUCT;
     }
     false
 }
 
 // ---- number 10
 
-fn can_do_without(table: &[u8], unpacked: &[u32], i: usize) -> bool
-    ensures { result ≡ can_do_without (record_in table.now unpacked.now i) }
+#[tactic(auto, unfolding(definition_rules::specs::Finite::can_do_without))]
+fn can_do_without(records: &Records, i: usize) -> bool
+    ensures { result ≡ can_do_without (record_of records.now i) }
 {
-    (table_records::lo_count_at(table, unpacked, i) == 0)
-        | table_records::extension_at(table, unpacked, i)
-        | table_records::plugin_at(table, unpacked, i)
+    (records.lo_count_at(i) == 0) | records.extension_at(i) | records.plugin_at(i)
 }
 
-fn ends_needs(table: &[u8], unpacked: &[u32], i: usize) -> bool
-    ensures { result ≡ ends_needs (record_in table.now unpacked.now i) }
+#[tactic(auto, unfolding(definition_rules::specs::Finite::ends_needs))]
+fn ends_needs(records: &Records, i: usize) -> bool
+    ensures { result ≡ ends_needs (record_of records.now i) }
 {
-    table_records::untagged_at(table, unpacked, i)
-        & (table_records::lo_count_at(table, unpacked, i) == 0)
+    records.untagged_at(i) & (records.lo_count_at(i) == 0)
 }
 
 // What the body of each record comes to before any record of it is looked at: a struct asks for nothing yet, a union has no choice.
-fn begin(table: &[u8], unpacked: &[u32], n: usize, rest: &mut [bool])
-    requires { n ≤ length rest.old }
-    ensures { (have : List Bool) → Over table.now unpacked.now n have n rest.new }
+fn begin(records: &Records, rest: &mut [bool])
+    requires { records.now.count ≤ length rest.old }
+    ensures { (have : List Bool) → Over records.now.table.now records.now.unpacked.now records.now.count have records.now.count rest.new }
 {
-    let mut i: usize = 0;
-    while i < n {
-        rest[i] = table_records::kind_at(table, unpacked, i) != numbers::UNION;
-        i += 1;
+    for i in 0..records.count {
+        rest[i] = records.kind_at(i) != numbers::UNION;
     }
 }
 
 // A step gives the record i a value, where rest has what its body comes to.
-fn has_value(table: &[u8], unpacked: &[u32], have: &[bool], rest: &[bool], i: usize) -> bool
-    ensures { result ≡ step_by have.now (get_or rest.now i false) (record_in table.now unpacked.now i) }
+#[tactic(auto, unfolding(crate::specs::Sweeps::step_by, classes::specs::Lists::pick))]
+fn has_value(records: &Records, have: &[bool], rest: &[bool], i: usize) -> bool
+    ensures { result ≡ step_by have.now (get_or rest.now i false) (record_of records.now i) }
 {
-    let k = table_records::kind_at(table, unpacked, i);
+    let k = records.kind_at(i);
     if k == numbers::STRUCT {
-        return numbers::mark_at(rest, i);
+        return numbers::get_or(rest, i, false);
     }
     if k == numbers::UNION {
-        return numbers::mark_at(rest, i);
+        return numbers::get_or(rest, i, false);
     }
     if k == numbers::REFERENCE {
-        let t = table_records::target_at(table, unpacked, i);
-        return numbers::mark_at(have, t);
+        let t = records.target_at(i);
+        return numbers::get_or(have, t, false);
     }
     true
 }
 
 // Adds i where a step gives it a value, and says whether it was added.
-fn add_if(table: &[u8], unpacked: &[u32], have: &mut [bool], rest: &[bool], i: usize) -> bool
-    ensures value { result ≡ is_newly_finite have.old (get_or rest.now i false) i (record_in table.now unpacked.now i) }
-    ensures have_after { have.new ≡ add_if (is_newly_finite have.old (get_or rest.now i false) i (record_in table.now unpacked.now i)) have.old i }
+#[tactic(auto, unfolding(crate::specs::Sweeps::is_newly_finite, crate::specs::Sweeps::add_if, classes::specs::Lists::pick))]
+fn add_if(records: &Records, have: &mut [bool], rest: &[bool], i: usize) -> bool
+    ensures value { result ≡ is_newly_finite have.old (get_or rest.now i false) i (record_of records.now i) }
+    ensures have_after { have.new ≡ add_if (is_newly_finite have.old (get_or rest.now i false) i (record_of records.now i)) have.old i }
 {
-    if numbers::mark_at(have, i) {
+    if numbers::get_or(have, i, false) {
         return false;
     }
-    if has_value(table, unpacked, have, rest, i) {
-        numbers::set_mark(have, i, true);
+    if has_value(records, have, rest, i) {
+        numbers::set(have, i, true);
         return true;
     }
     false
 }
 
 // What a step gives the record p by i, which stands in its body, and by those after i, which give it rest.
-fn joined(table: &[u8], unpacked: &[u32], have: &[bool], p: usize, i: usize, rest: bool) -> bool
-    ensures { result ≡ step_with have.now (record_in table.now unpacked.now p).kind i (record_in table.now unpacked.now i) rest }
+#[tactic(auto, unfolding(crate::specs::Sweeps::step_with, classes::specs::Lists::pick))]
+fn joined(records: &Records, have: &[bool], p: usize, i: usize, rest: bool) -> bool
+    ensures { result ≡ step_with have.now (record_of records.now p).kind i (record_of records.now i) rest }
 {
-    let k = table_records::kind_at(table, unpacked, p);
+    let k = records.kind_at(p);
     if k == numbers::STRUCT {
-        return ends_needs(table, unpacked, i)
-            | ((can_do_without(table, unpacked, i) | numbers::mark_at(have, i)) & rest);
+        return ends_needs(records, i)
+            | ((can_do_without(records, i) | numbers::get_or(have, i, false)) & rest);
     }
     if k == numbers::UNION {
-        return numbers::mark_at(have, i) | rest;
+        return numbers::get_or(have, i, false) | rest;
     }
     rest
 }
 
 // Joins i to what rest has for the record that i stands in.
-fn join(table: &[u8], unpacked: &[u32], have: &[bool], rest: &mut [bool], i: usize)
-    ensures { rest.new ≡ gathered table.now unpacked.now have.now i (record_in table.now unpacked.now i).parent rest.old }
+#[tactic(auto, using(crate::proofs::Parents::parent_top, crate::proofs::Parents::parent_under), unfolding(crate::specs::Sweeps::gathered))]
+fn join(records: &Records, have: &[bool], rest: &mut [bool], i: usize)
+    ensures { rest.new ≡ gathered records.now.table.now records.now.unpacked.now have.now i (record_of records.now i).parent rest.old }
 {
-    let p = table_records::parent_at(table, unpacked, i);
+    let p = records.parent_at(i);
     if p == numbers::NONE16 {
         return;
     }
-    let after = numbers::mark_at(rest, p);
-    let mark = joined(table, unpacked, have, p, i, after);
-    numbers::set_mark(rest, p, mark);
+    let after = numbers::get_or(rest, p, false);
+    let mark = joined(records, have, p, i, after);
+    numbers::set(rest, p, mark);
 }
 
 // A sweep in place, from the last record to the first, and whether it added any. A body's records stand after its own, so that
 // rest has the whole body when its record is met.
-fn sweep(table: &[u8], unpacked: &[u32], n: usize, have: &mut [bool], rest: &mut [bool]) -> bool
-    requires { n ≤ length rest.old }
-    ensures { AfterParents (records_at table.now unpacked.now n) → Swept (records_at table.now unpacked.now n) have.old have.new result }
+fn sweep(records: &Records, have: &mut [bool], rest: &mut [bool]) -> bool
+    requires { records.now.count ≤ length rest.old }
+    ensures { AfterParents (records_of records.now) → Swept (records_of records.now) have.old have.new result }
 {
-    begin(table, unpacked, n, rest);
+    begin(records, rest);
     let mut more = false;
-    let mut i = n;
-    while 0 < i {
-        i -= 1;
-        more = more | add_if(table, unpacked, have, rest, i);
-        join(table, unpacked, have, rest, i);
+    for i in (0..records.count).rev() {
+        more |= add_if(records, have, rest, i);
+        join(records, have, rest, i);
     }
     more
 }
 
-fn clear(have: &mut [bool])
-    ensures { NoneMarked have.new }
-{
-    let mut i: usize = 0;
-    while i < have.len() {
-        have[i] = false;
-        i += 1;
-    }
-}
-
 // Which records have a finite value, if there is room for all: sweeps in place until nothing changes, or as many as records.
-pub fn finites(table: &[u8], unpacked: &[u32], n: usize, have: &mut [bool], rest: &mut [bool])
-    ensures { AfterParents (records_at table.now unpacked.now n) → n ≤ length have.old → n ≤ length rest.old → HasFinites (records_at table.now unpacked.now n) have.new }
+pub fn finites(records: &Records, have: &mut [bool], rest: &mut [bool])
+    ensures { AfterParents (records_of records.now) → records.now.count ≤ length have.old → records.now.count ≤ length rest.old → HasFinites (records_of records.now) have.new }
 {
-    if have.len() < n {
+    if have.len() < records.count {
         return;
     }
-    if rest.len() < n {
+    if rest.len() < records.count {
         return;
     }
-    clear(have);
-    let mut k: usize = 0;
-    while k < n {
-        if sweep(table, unpacked, n, have, rest) {
-            k += 1;
-        } else {
+    have.fill(false);
+    for _ in 0..records.count {
+        let is_done = !sweep(records, have, rest);
+        if is_done {
             return;
         }
     }
 }
 
-pub fn is_endless(table: &[u8], unpacked: &[u32], have: &[bool], i: usize) -> bool
-    ensures { result ≡ is_endless have.now i (record_in table.now unpacked.now i) }
+#[tactic(auto, unfolding(definition_rules::specs::Finite::is_endless, definition_rules::specs::Words::kind_is_compound))]
+pub fn is_endless(records: &Records, have: &[bool], i: usize) -> bool
+    ensures { result ≡ is_endless have.now i (record_of records.now i) }
 {
-    let k = table_records::kind_at(table, unpacked, i);
-    (numbers::STRUCT <= k) & (k <= numbers::UNION) & !numbers::mark_at(have, i)
+    let k = records.kind_at(i);
+    (numbers::STRUCT <= k) & (k <= numbers::UNION) & !numbers::get_or(have, i, false)
 }
 
 // No record is a union or a reference, so that each has a finite value: the records of a struct's body stand after it.
-pub fn only_structs(table: &[u8], unpacked: &[u32], n: usize) -> bool
-    ensures { AfterParents (records_at table.now unpacked.now n) → result ≡ true → AllFinite (records_at table.now unpacked.now n) }
+pub fn only_structs(records: &Records) -> bool
+    ensures { AfterParents (records_of records.now) → result ≡ true → AllFinite (records_of records.now) }
 {
-    let mut i: usize = 0;
-    while i < n {
-        if numbers::UNION <= table_records::kind_at(table, unpacked, i) {
-            return false;
-        }
-        i += 1;
-    }
-    true
+    (0..records.count).all(|i| records.kind_at(i) < numbers::UNION)
 }

@@ -1,33 +1,23 @@
 -- Loops over records: each is fine, and no shown name is shown again.
-use mathlib.Core.Path.{◌≡◌, refl, ap, ◌∙◌}
-use mathlib.Core.Bool.{Bool, true, false, not, ◌&&◌}
-use mathlib.Core.List.{List, []}
-use Prim.Native.Nat.{ℕ, ◌+◌, ◌-◌, ◌≤◌, ◌<◌}
+use mathlib.Core.Path.{◌≡◌, refl, ap, sym, ◌∙◌}
+use mathlib.Core.Bool.{Bool, true, false, not, ◌&&◌, ◌||◌}
+use mathlib.Core.List.{List}
+use Prim.Native.Nat.{ℕ, zero, suc, ◌+◌, ◌-◌}
+use native.Mathlib.Numerals.{add-one}
+use native.Mathlib.Omega.{arith}
+use Rattle.std.specs.List.{list_all, list_any, range_with_len}
 use Rattle.reading_rules.specs.Record.{Record}
 use Rattle.definition_rules.specs.Faults.{Key, same_key, is_new_key}
 use Rattle.table_rules.specs.RecordRules.{every_record, shows_name, key_if, shown_names, all_new}
-use Rattle.table_records.specs.Stored.{record_in, records_from, records_at}
-use Rattle.table_records.proofs.Laws.{records_more, records_end, records_all}
+use Rattle.table_records.specs.Stored.{record_in, records_from}
 use Rattle.table_fields.specs.Keys.{label_key}
 
 -- ---- each is fine
 
-module _ (f : Record → Bool) (t unpacked : List ℕ) (n : ℕ) where
-  pub every_start : every_record f (records_at t unpacked n) ≡ every_record f (records_from t unpacked (n - 0) 0)
-  every_start = rw (records_all t unpacked n)
-
-  module _ (i : ℕ) where
-    pub every_end : n ≤ i → every_record f (records_from t unpacked (n - i) i) ≡ true
-    unfolding every_record
-    every_end h = rw (records_end t unpacked n i h)
-
-    pub every_no : i < n → f (record_in t unpacked i) ≡ false → every_record f (records_from t unpacked (n - i) i) ≡ false
-    unfolding every_record
-    every_no h e = rw (records_more t unpacked n i h, e)
-
-    pub every_more : i < n → f (record_in t unpacked i) ≡ true → every_record f (records_from t unpacked (n - i) i) ≡ every_record f (records_from t unpacked (n - (i + 1)) (i + 1))
-    unfolding every_record
-    every_more h e = rw (records_more t unpacked n i h, e)
+pub every_range : (f : Record → Bool) (t unpacked : List ℕ) (n i : ℕ) → list_all (λ j. f (record_in t unpacked j)) (range_with_len i n) ≡ every_record f (records_from t unpacked n i)
+unfolding every_record records_from
+every_range f t unpacked zero i = refl
+every_range f t unpacked (suc n) i = ap (λ b. f (record_in t unpacked i) && b) (rw add-one (every_range f t unpacked n (suc i)))
 
 -- ---- one shown name among others
 
@@ -45,41 +35,32 @@ all_keyed true k ks = go (is_new_key k ks)
     go true = refl
     go false = refl
 
-module _ (t unpacked : List ℕ) (n : ℕ) where
-  abbrev shown_from : ℕ → List Key
-  shown_from j = shown_names (records_from t unpacked (n - j) j)
+neither : (a b : Bool) → not (a || b) ≡ not a && not b
+neither true b = refl
+neither false b = refl
 
-  shown_end : (j : ℕ) → n ≤ j → shown_from j ≡ []
-  unfolding shown_names
-  shown_end j h = rw (records_end t unpacked n j h)
+module _ (t unpacked : List ℕ) where
+  -- j shows the name k
+  abbrev is_shown : Key → ℕ → Bool
+  is_shown k j = shows_name (record_in t unpacked j) && same_key k (label_key (record_in t unpacked j))
 
-  shown_more : (j : ℕ) → j < n → shown_from j ≡ key_if (shows_name (record_in t unpacked j)) (label_key (record_in t unpacked j)) (shown_from (j + 1))
-  unfolding shown_names
-  shown_more j h = rw (records_more t unpacked n j h)
+  pub new_range : (k : Key) (n i : ℕ) → not (list_any (is_shown k) (range_with_len i n)) ≡ is_new_key k (shown_names (records_from t unpacked n i))
+  unfolding is_new_key shown_names records_from
+  new_range k zero i = refl
+  new_range k (suc n) i =
+      neither (is_shown k i) (list_any (is_shown k) (range_with_len (i + 1) n)) ∙
+      (ap (λ b. not (is_shown k i) && b) (rw add-one (new_range k n (suc i))) ∙ sym (new_keyed k (shows_name (record_in t unpacked i)) (label_key (record_in t unpacked i)) (shown_names (records_from t unpacked n (suc i)))))
 
-  module _ (k : Key) (j : ℕ) where
-    pub new_end : n ≤ j → is_new_key k (shown_from j) ≡ true
-    unfolding is_new_key
-    new_end h = rw (shown_end j h)
+  -- the name that the i-th shows is shown again behind it, of n
+  abbrev is_again : ℕ → ℕ → Bool
+  is_again n i = shows_name (record_in t unpacked i) && not (is_new_key (label_key (record_in t unpacked i)) (shown_names (records_from t unpacked (n - (i + 1)) (i + 1))))
 
-    pub new_no : j < n → shows_name (record_in t unpacked j) && same_key k (label_key (record_in t unpacked j)) ≡ true → is_new_key k (shown_from j) ≡ false
-    new_no h e = ap (is_new_key k) (shown_more j h) ∙ (new_keyed k _ _ _ ∙ rw e)
-
-    pub new_more : j < n → shows_name (record_in t unpacked j) && same_key k (label_key (record_in t unpacked j)) ≡ false → is_new_key k (shown_from j) ≡ is_new_key k (shown_from (j + 1))
-    new_more h e = ap (is_new_key k) (shown_more j h) ∙ (new_keyed k _ _ _ ∙ rw e)
-
-  -- ---- all shown names
-
-  pub all_start : all_new (shown_names (records_at t unpacked n)) ≡ all_new (shown_from 0)
-  all_start = rw (records_all t unpacked n)
-
-  module _ (i : ℕ) where
-    pub all_end : n ≤ i → all_new (shown_from i) ≡ true
-    unfolding all_new
-    all_end h = rw (shown_end i h)
-
-    pub all_no : i < n → shows_name (record_in t unpacked i) && not (is_new_key (label_key (record_in t unpacked i)) (shown_from (i + 1))) ≡ true → all_new (shown_from i) ≡ false
-    all_no h e = ap all_new (shown_more i h) ∙ (all_keyed _ _ _ ∙ rw e)
-
-    pub all_more : i < n → shows_name (record_in t unpacked i) && not (is_new_key (label_key (record_in t unpacked i)) (shown_from (i + 1))) ≡ false → all_new (shown_from i) ≡ all_new (shown_from (i + 1))
-    all_more h e = ap all_new (shown_more i h) ∙ (all_keyed _ _ _ ∙ rw e)
+  pub all_range : (n m i : ℕ) → i + m ≡ n → not (list_any (is_again n) (range_with_len i m)) ≡ all_new (shown_names (records_from t unpacked m i))
+  unfolding all_new shown_names records_from
+  all_range n zero i e = refl
+  all_range n (suc m) i e =
+      let rest : List Key = shown_names (records_from t unpacked m (suc i)) in
+      let z : n - (i + 1) ≡ m = omega arith in
+      let behind : not (list_any (is_again n) (range_with_len (i + 1) m)) ≡ all_new rest = rw add-one (all_range n m (suc i) (omega arith)) in
+      let here : not (is_again n i) && all_new rest ≡ all_new (key_if (shows_name (record_in t unpacked i)) (label_key (record_in t unpacked i)) rest) = rw (z, add-one) (sym (all_keyed (shows_name (record_in t unpacked i)) (label_key (record_in t unpacked i)) rest)) in
+      neither (is_again n i) (list_any (is_again n) (range_with_len (i + 1) m)) ∙ (ap (λ b. not (is_again n i) && b) behind ∙ here)

@@ -2,20 +2,19 @@
 use mathlib.Core.Path.{◌≡◌, refl, ap, ◌∙◌}
 use mathlib.Core.Bool.{Bool, true, false, not, ◌&&◌}
 use mathlib.Core.List.{List, [], ◌∷◌}
-use Prim.Native.Nat.{ℕ, zero, suc, ◌+◌, ◌-◌, ◌*◌, ◌/◌, ◌%◌, ◌≤◌, ◌<◌}
-use native.Mathlib.Nat.{div-add-mod', mod-lt}
+use Prim.Native.Nat.{ℕ, zero, suc, ◌+◌, ◌-◌, ◌≤◌, ◌<◌}
 use native.Mathlib.Omega.{arith}
 use lib.Dec.{eqb}
 use lib.ListN.{length, get_or, set}
 use lib.Seq.{get_or-set_same, get_or-set_other}
-use borrow.Author.Tests.{eq-eqb, ne_eqb}
 use Rattle.classes.specs.Lists.{pick}
 use Rattle.numbers.specs.Limits.{none16}
 use Rattle.reading_rules.specs.Record.{Up, top, under, same_up}
 use Rattle.definition_rules.specs.Table.{number_up}
-use Rattle.definition_rules.specs.Declarations.{in_fields, in_group, Frame, frame, parent_of}
+use Rattle.definition_rules.specs.Declarations.{Frame, parent_of}
 use Rattle.table_rules.specs.RecordRules.{is_open, closed_to, in_extension, push_if, may_stand}
-use Rattle.table_order.specs.Open.{frame_of, frames_of}
+use Rattle.table_order.specs.Open.{frame_of, no_body, frames_of}
+use Rattle.table_order.specs.declared.Body.{Body}
 
 -- ---- a parent's number
 
@@ -42,46 +41,28 @@ under_is (under p) q = refl
 
 -- ---- the cells
 
-pub length_frames : (bodies : List ℕ) (d : ℕ) → length (frames_of bodies d) ≡ d
+pub length_frames : (bodies : List Body) (d : ℕ) → length (frames_of bodies d) ≡ d
 unfolding frames_of
 length_frames bodies zero = refl
 length_frames bodies (suc d) = ap suc (length_frames bodies d)
 
 -- a cell further out is stored
-frames_set : (bodies : List ℕ) (k v d : ℕ) → d ≤ k → frames_of (set bodies k v) d ≡ frames_of bodies d
+frames_set : (bodies : List Body) (k : ℕ) (v : Body) (d : ℕ) → d ≤ k → frames_of (set bodies k v) d ≡ frames_of bodies d
 unfolding frames_of
 frames_set bodies k v zero h = refl
-frames_set bodies k v (suc d) h = rw (get_or-set_other bodies k d v 0 (omega arith), frames_set bodies k v d (omega arith))
-
--- a cell that says fields, and one that says an extension
-halves : (q r : ℕ) → r < 2 → ((q * 2 + r) / 2 ≡ q) × ((q * 2 + r) % 2 ≡ r)
-halves q r h =
-    let a = div-add-mod' (q * 2 + r) 2 in
-    let b = mod-lt (q * 2 + r) {m = 2} (omega arith) in
-    (omega arith, omega arith)
-
-cell_group : (q : ℕ) → frame_of (q * 2 + 1) ≡ frame q in_group
-unfolding pick
-cell_group q = let h = halves q 1 (omega arith) in rw (h.0, h.1)
-
-cell_fields : (q : ℕ) → frame_of (2 * q) ≡ frame q in_fields
-unfolding pick
-cell_fields q =
-    let e : 2 * q ≡ q * 2 + 0 = omega arith in
-    let h = halves q 0 (omega arith) in
-    rw (e, h.0, h.1)
+frames_set bodies k v (suc d) h = rw (get_or-set_other bodies k d v no_body (omega arith), frames_set bodies k v d (omega arith))
 
 -- the innermost cell is stored
-frames_stored : (bodies : List ℕ) (k v d : ℕ) → d ≡ suc k → k < length bodies → frames_of (set bodies k v) d ≡ frame_of v ∷ frames_of bodies k
+frames_stored : (bodies : List Body) (k : ℕ) (v : Body) (d : ℕ) → d ≡ suc k → k < length bodies → frames_of (set bodies k v) d ≡ frame_of v ∷ frames_of bodies k
 unfolding frames_of
-frames_stored bodies k v d e h = rw (e, get_or-set_same bodies k v 0 h, frames_set bodies k v k (omega arith))
+frames_stored bodies k v d e h = rw (e, get_or-set_same bodies k v no_body h, frames_set bodies k v k (omega arith))
 
-module _ (bodies : List ℕ) (d : ℕ) where
+module _ (bodies : List Body) (d : ℕ) where
   frames_none : d ≤ 0 → frames_of bodies d ≡ []
   unfolding frames_of
   frames_none h = let e : d ≡ 0 = omega arith in rw e
 
-  frames_more : 0 < d → frames_of bodies d ≡ frame_of (get_or bodies (d - 1) 0) ∷ frames_of bodies (d - 1)
+  frames_more : 0 < d → frames_of bodies d ≡ frame_of (get_or bodies (d - 1) no_body) ∷ frames_of bodies (d - 1)
   unfolding frames_of
   frames_more h = ap (frames_of bodies) e
     where
@@ -90,11 +71,11 @@ module _ (bodies : List ℕ) (d : ℕ) where
 
   -- ---- closing
 
-  pub closed_here : (u : Up) → 0 < d → is_open u (get_or bodies (d - 1) 0 / 2) ≡ true → frames_of bodies d ≡ closed_to u (frames_of bodies d)
+  pub closed_here : (u : Up) → 0 < d → is_open u ((get_or bodies (d - 1) no_body).number) ≡ true → frames_of bodies d ≡ closed_to u (frames_of bodies d)
   unfolding closed_to pick
   closed_here u h e = rw (frames_more h, e)
 
-  pub closed_more : (u : Up) → 0 < d → is_open u (get_or bodies (d - 1) 0 / 2) ≡ false → closed_to u (frames_of bodies d) ≡ closed_to u (frames_of bodies (d - 1))
+  pub closed_more : (u : Up) → 0 < d → is_open u ((get_or bodies (d - 1) no_body).number) ≡ false → closed_to u (frames_of bodies d) ≡ closed_to u (frames_of bodies (d - 1))
   unfolding closed_to pick
   closed_more u h e = rw (frames_more h, e)
 
@@ -108,21 +89,21 @@ module _ (bodies : List ℕ) (d : ℕ) where
   unfolding parent_of
   parent_none p h = rw (frames_none (omega arith)) (none_is p)
 
-  pub parent_some : (p : ℕ) → (d ≡ 0 → ⊥) → is_open (number_up p) (get_or bodies (d - 1) 0 / 2) ≡ same_up (parent_of (frames_of bodies d)) (number_up p)
+  pub parent_some : (p : ℕ) → (d ≡ 0 → ⊥) → is_open (number_up p) ((get_or bodies (d - 1) no_body).number) ≡ same_up (parent_of (frames_of bodies d)) (number_up p)
   unfolding parent_of
-  parent_some p h = rw (frames_more (omega arith)) (under_is (number_up p) (get_or bodies (d - 1) 0 / 2))
+  parent_some p h = rw (frames_more (omega arith)) (under_is (number_up p) ((get_or bodies (d - 1) no_body).number))
 
   pub stand_none : (e : Bool) → d ≡ 0 → not e ≡ may_stand (frames_of bodies d) e
   unfolding may_stand
   stand_none e h = rw (frames_none (omega arith))
 
-  pub stand_group : (e : Bool) → (d ≡ 0 → ⊥) → get_or bodies (d - 1) 0 % 2 ≡ 1 → e ≡ may_stand (frames_of bodies d) e
+  pub stand_group : (e : Bool) → (d ≡ 0 → ⊥) → (get_or bodies (d - 1) no_body).extended ≡ true → e ≡ may_stand (frames_of bodies d) e
   unfolding may_stand pick
-  stand_group e h z = rw (frames_more (omega arith), eq-eqb (get_or bodies (d - 1) 0 % 2) 1 z)
+  stand_group e h z = rw (frames_more (omega arith), z)
 
-  pub stand_fields : (e : Bool) → (d ≡ 0 → ⊥) → (get_or bodies (d - 1) 0 % 2 ≡ 1 → ⊥) → true ≡ may_stand (frames_of bodies d) e
+  pub stand_fields : (e : Bool) → (d ≡ 0 → ⊥) → ((get_or bodies (d - 1) no_body).extended ≡ false) → true ≡ may_stand (frames_of bodies d) e
   unfolding may_stand pick
-  stand_fields e h z = rw (frames_more (omega arith), ne_eqb (get_or bodies (d - 1) 0 % 2) 1 z)
+  stand_fields e h z = rw (frames_more (omega arith), z)
 
   -- ---- a field in an extension
 
@@ -134,19 +115,16 @@ module _ (bodies : List ℕ) (d : ℕ) where
   unfolding in_extension
   extension_no e h z = rw (z, frames_more (omega arith))
 
-  pub extension_yes : (e : Bool) → (d ≡ 0 → ⊥) → d ≤ length bodies → e ≡ true → frames_of (set bodies (d - 1) (get_or bodies (d - 1) 0 / 2 * 2 + 1)) d ≡ in_extension e (frames_of bodies d)
-  unfolding in_extension
-  extension_yes e h l z = rw (z, frames_more (omega arith)) (made (get_or bodies (d - 1) 0))
-    where
-      made : (x : ℕ) → frames_of (set bodies (d - 1) (x / 2 * 2 + 1)) d ≡ frame (x / 2) in_group ∷ frames_of bodies (d - 1)
-      made x = frames_stored bodies (d - 1) (x / 2 * 2 + 1) d (omega arith) (omega arith) ∙ ap (λ (f : Frame). f ∷ frames_of bodies (d - 1)) (cell_group (x / 2))
+  pub extension_yes : (e : Bool) → (d ≡ 0 → ⊥) → d ≤ length bodies → e ≡ true → frames_of (set bodies (d - 1) (record { number = (get_or bodies (d - 1) no_body).number; extended = true })) d ≡ in_extension e (frames_of bodies d)
+  unfolding in_extension pick
+  extension_yes e h l z = rw (z, frames_more (omega arith)) (frames_stored bodies (d - 1) (record { number = (get_or bodies (d - 1) no_body).number; extended = true }) d (omega arith) (omega arith))
 
 -- ---- a body is opened, or none is
 
-module _ (bodies : List ℕ) (d i : ℕ) (σ : List Frame) (k : Bool) (e : frames_of bodies d ≡ σ) where
-  pub opened_yes : d < length bodies → k ≡ true → frames_of (set bodies d (2 * i)) (d + 1) ≡ push_if k i σ
-  unfolding push_if
-  opened_yes h z = frames_stored bodies d (2 * i) (d + 1) (omega arith) h ∙ rw (z, cell_fields i, e)
+module _ (bodies : List Body) (d i : ℕ) (σ : List Frame) (k : Bool) (e : frames_of bodies d ≡ σ) where
+  pub opened_yes : d < length bodies → k ≡ true → frames_of (set bodies d (record { number = i; extended = false })) (d + 1) ≡ push_if k i σ
+  unfolding push_if pick
+  opened_yes h z = frames_stored bodies d (record { number = i; extended = false }) (d + 1) (omega arith) h ∙ rw (z, e)
 
   pub opened_no : k ≡ false → frames_of bodies d ≡ push_if k i σ
   unfolding push_if

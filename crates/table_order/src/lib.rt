@@ -1,39 +1,44 @@
 // The order of a table's records: preorder, at most 8 bodies deep, extensions last.
-// An open body is 2 q, and 2 q + 1 once a field in an extension was met, with q its number.
 #![tactic(auto)]
 
-ghost use Rattle.std.specs.Prelude.{◌≡◌, true, [], ◌≤◌, ◌<◌, ◌/◌, length};
-ghost use Rattle.numbers.specs.Limits.{depth_limit, parameter_limit};
+ghost use Rattle.std.specs.Prelude.{◌≡◌, true, [], ◌≤◌, ◌<◌, length};
 ghost use Rattle.reading_rules.specs.Record.{same_up};
 ghost use Rattle.definition_rules.specs.Words.{kind_is_compound};
 ghost use Rattle.definition_rules.specs.Table.{number_up};
 ghost use Rattle.definition_rules.specs.Declarations.{parent_of};
 ghost use Rattle.table_rules.specs.RecordRules.{is_open, closed_to, in_extension, push_if, may_stand, stands_in, ordered as is_ordered};
-ghost use Rattle.table_records.specs.Stored.{record_in, records_at};
+ghost use Rattle.table_records.specs.Shown.{record_of, records_of};
 ghost use Rattle.table_order.specs.Open.{frames_of};
 
-fn number(x: u32) -> usize
-    ensures { result ≡ x / 2 }
-{
-    (x / 2) as usize
+use table_records::Records;
+
+// An open body: the number of its record, and whether a field in an extension was met in it. The open ones stand in a row of
+// fixed length, and how many they are beside it, as no heap is used.
+#[derive(Clone, Copy)]
+struct Body {
+    number: usize,
+    extended: bool,
 }
 
-fn is_open(x: u32, p: usize) -> bool
-    ensures { result ≡ is_open (number_up p) (x / 2) }
+const NO_BODY: Body = Body {
+    number: 0,
+    extended: false,
+};
+
+fn is_open(q: usize, p: usize) -> bool
+    ensures { result ≡ is_open (number_up p) q }
 {
-    (p != numbers::NONE16) & (number(x) == p)
+    (p != numbers::NONE16) & (q == p)
 }
 
 // How many bodies stay open once all inside p's are closed.
-fn closed_to(bodies: &[u32], depth: usize, p: usize) -> usize
+fn closed_to(bodies: &[Body], depth: usize, p: usize) -> usize
     ensures { (frames_of bodies.now result ≡ closed_to (number_up p) (frames_of bodies.now depth)) × (result ≤ depth) }
 {
-    let mut d = depth;
-    while 0 < d {
-        if is_open(numbers::cell_at(bodies, d - 1), p) {
-            return d;
+    for d in (0..depth).rev() {
+        if is_open(numbers::get_or(bodies, d, NO_BODY).number, p) {
+            return d + 1;
         }
-        d -= 1;
     }
     0
 }
@@ -45,46 +50,43 @@ fn is_compound(k: u32) -> bool
 }
 
 // The innermost open body is p's; outside all, p is none.
-fn is_parent(bodies: &[u32], depth: usize, p: usize) -> bool
+fn is_parent(bodies: &[Body], depth: usize, p: usize) -> bool
     ensures { result ≡ same_up (parent_of (frames_of bodies.now depth)) (number_up p) }
 {
     if depth == 0 {
         return p == numbers::NONE16;
     }
-    is_open(numbers::cell_at(bodies, depth - 1), p)
+    is_open(numbers::get_or(bodies, depth - 1, NO_BODY).number, p)
 }
 
 // No field outside an extension after one inside, and no extension outside all bodies.
-fn may_stand(bodies: &[u32], depth: usize, extension: bool) -> bool
+fn may_stand(bodies: &[Body], depth: usize, extension: bool) -> bool
     ensures { result ≡ may_stand (frames_of bodies.now depth) extension }
 {
     if depth == 0 {
         return !extension;
     }
-    if numbers::cell_at(bodies, depth - 1) % 2 == 1 {
+    let is_extended = numbers::get_or(bodies, depth - 1, NO_BODY).extended;
+    if is_extended {
         return extension;
     }
     true
 }
 
-fn stands_in(table: &[u8], unpacked: &[u32], i: usize, bodies: &[u32], depth: usize) -> bool
-    ensures { result ≡ stands_in (frames_of bodies.now depth) (record_in table.now unpacked.now i) }
+fn stands_in(records: &Records, i: usize, bodies: &[Body], depth: usize) -> bool
+    ensures { result ≡ stands_in (frames_of bodies.now depth) (record_of records.now i) }
 {
-    if !is_parent(bodies, depth, table_records::parent_at(table, unpacked, i)) {
+    if !is_parent(bodies, depth, records.parent_at(i)) {
         return false;
     }
-    if !may_stand(
-        bodies,
-        depth,
-        table_records::extension_at(table, unpacked, i),
-    ) {
+    if !may_stand(bodies, depth, records.extension_at(i)) {
         return false;
     }
-    !is_compound(table_records::kind_at(table, unpacked, i)) | (depth < numbers::DEPTH_LIMIT)
+    !is_compound(records.kind_at(i)) | (depth < numbers::DEPTH_LIMIT)
 }
 
 // A field in an extension: from here on the body has only such fields.
-fn note_extension(bodies: &mut [u32], depth: usize, extension: bool)
+fn note_extension(bodies: &mut [Body], depth: usize, extension: bool)
     requires { depth ≤ length bodies.old }
     ensures { frames_of bodies.new depth ≡ in_extension extension (frames_of bodies.old depth) }
 {
@@ -92,49 +94,49 @@ fn note_extension(bodies: &mut [u32], depth: usize, extension: bool)
         return;
     }
     if extension {
-        let x = numbers::cell_at(bodies, depth - 1);
-        numbers::set_cell(bodies, depth - 1, x / 2 * 2 + 1);
+        let number = numbers::get_or(bodies, depth - 1, NO_BODY).number;
+        numbers::set(
+            bodies,
+            depth - 1,
+            Body {
+                number,
+                extended: true,
+            },
+        );
     }
 }
 
 // How many bodies are open after record i, which opens one where it is a struct or a union.
-fn opened(table: &[u8], unpacked: &[u32], i: usize, bodies: &mut [u32], depth: usize) -> usize
-    requires { (i < parameter_limit) × (depth ≤ length bodies.old) × (kind_is_compound (record_in table.now unpacked.now i).kind ≡ true → depth < length bodies.old) }
-    ensures { (frames_of bodies.new result ≡ push_if (kind_is_compound (record_in table.now unpacked.now i).kind) i (in_extension (record_in table.now unpacked.now i).extension (frames_of bodies.old depth))) × (result ≤ length bodies.old) }
+fn opened(records: &Records, i: usize, bodies: &mut [Body], depth: usize) -> usize
+    requires { (depth ≤ length bodies.old) × (kind_is_compound (record_of records.now i).kind ≡ true → depth < length bodies.old) }
+    ensures { (frames_of bodies.new result ≡ push_if (kind_is_compound (record_of records.now i).kind) i (in_extension (record_of records.now i).extension (frames_of bodies.old depth))) × (result ≤ length bodies.old) }
 {
-    note_extension(
-        bodies,
-        depth,
-        table_records::extension_at(table, unpacked, i),
-    );
-    if is_compound(table_records::kind_at(table, unpacked, i)) {
-        numbers::set_cell(bodies, depth, 2 * (i as u32));
+    note_extension(bodies, depth, records.extension_at(i));
+    if is_compound(records.kind_at(i)) {
+        numbers::set(
+            bodies,
+            depth,
+            Body {
+                number: i,
+                extended: false,
+            },
+        );
         return depth + 1;
     }
     depth
 }
 
-fn no_bodies() -> [u32; numbers::DEPTH_LIMIT]
-    ensures { depth_limit ≡ length result }
+pub fn ordered(records: &Records) -> bool
+    ensures { result ≡ is_ordered [] 0 (records_of records.now) }
 {
-    [0u32; numbers::DEPTH_LIMIT]
-}
-
-// The bound keeps a record's number in a u32.
-pub fn ordered(table: &[u8], unpacked: &[u32], n: usize) -> bool
-    requires { n ≤ parameter_limit }
-    ensures { result ≡ is_ordered [] 0 (records_at table.now unpacked.now n) }
-{
-    let mut bodies = no_bodies();
+    let mut bodies = [NO_BODY; numbers::DEPTH_LIMIT];
     let mut depth: usize = 0;
-    let mut i: usize = 0;
-    while i < n {
-        depth = closed_to(&bodies, depth, table_records::parent_at(table, unpacked, i));
-        if !stands_in(table, unpacked, i, &bodies, depth) {
+    for i in 0..records.count {
+        depth = closed_to(&bodies, depth, records.parent_at(i));
+        if !stands_in(records, i, &bodies, depth) {
             return false;
         }
-        depth = opened(table, unpacked, i, &mut bodies, depth);
-        i += 1;
+        depth = opened(records, i, &mut bodies, depth);
     }
     true
 }

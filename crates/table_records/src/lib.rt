@@ -8,30 +8,36 @@ ghost use Rattle.numbers.specs.Limits.{parameter_limit};
 ghost use Rattle.numbers.specs.LittleEndian.{le16, le_int};
 ghost use Rattle.reading_rules.specs.Schema.{is_under};
 ghost use Rattle.definition_rules.specs.Table.{up_number};
-ghost use Rattle.table_records.specs.Stored.{record_cells, cell_in, kept_in, record_in, Unpacked};
+ghost use Rattle.table_records.specs.Stored.{record_cells, cell_in, kept_in, Unpacked};
+ghost use Rattle.table_records.specs.Cells.{cell_number};
+ghost use Rattle.table_records.specs.Shown.{record_of};
 
-// The cells of a record: where its bytes begin, and its numbers in their order.
+// How many cells a record has.
 pub const WIDTH: usize = 10;
 
-const BYTES: u8 = 0;
+// They are where its bytes begin, and its numbers in their order.
+#[derive(Clone, Copy)]
+enum RecordCell {
+    Bytes,
+    Kind,
+    Parent,
+    Flags,
+    LoCount,
+    HiCount,
+    Least,
+    Most,
+    Target,
+    LabelLength,
+}
 
-const KIND: u8 = 1;
-
-const PARENT: u8 = 2;
-
-const FLAGS: u8 = 3;
-
-const LO_COUNT: u8 = 4;
-
-const HI_COUNT: u8 = 5;
-
-const LEAST: u8 = 6;
-
-const MOST: u8 = 7;
-
-const TARGET: u8 = 8;
-
-const LABEL_LENGTH: u8 = 9;
+impl RecordCell {
+    // Which of a record's cells it is.
+    fn number(self) -> usize
+        ensures { (result ≡ cell_number self) × (result < record_cells) }
+    {
+        self as usize
+    }
+}
 
 // A hi count that sets no limit, as counts are given here.
 pub const NO_LIMIT: usize = numbers::NO_LIMIT as usize;
@@ -39,18 +45,26 @@ pub const NO_LIMIT: usize = numbers::NO_LIMIT as usize;
 // Cells for as many records as there may be.
 pub const ALL_CELLS: usize = WIDTH * numbers::PARAMETER_LIMIT;
 
-// The k-th cell of record i. The test is the same for all cells of a record, here and below, so that the compiler can
+// The records of a table: its bytes, the cells that they are unpacked into, and how many they are. Whoever calls lends the
+// cells, as no heap is used.
+#[derive(Clone, Copy)]
+pub struct Records<'a> {
+    pub table: &'a [u8],
+    pub unpacked: &'a [u32],
+    pub count: usize,
+}
+
+// A cell of record i. The test is the same for all cells of a record, here and below, so that the compiler can
 // make it once.
-fn cell(unpacked: &[u32], i: usize, k: u8) -> u32
-    requires { k < record_cells }
-    ensures { result ≡ cell_in unpacked.now i k }
+fn cell(unpacked: &[u32], i: usize, k: RecordCell) -> u32
+    ensures { result ≡ cell_in unpacked.now i (cell_number k) }
 {
     if numbers::PARAMETER_LIMIT <= i {
         return 0;
     }
     let at = WIDTH * i;
     if at + WIDTH <= unpacked.len() {
-        return unpacked[at + k as usize];
+        return unpacked[at + k.number()];
     }
     0
 }
@@ -60,7 +74,7 @@ fn pair(table: &[u8], at: usize) -> u32
     requires { at + 2 ≤ length table.now }
     ensures { (result ≡ le16 table.now at) × (result < 65536) }
 {
-    numbers::u8_as_u32(table[at]) + 256 * numbers::u8_as_u32(table[at + 1])
+    u32::from(table[at]) + 256 * u32::from(table[at + 1])
 }
 
 // The i32 in four bytes that are there, counted from the least.
@@ -71,17 +85,16 @@ fn int(table: &[u8], at: usize) -> u32
     numbers::signed(pair(table, at) + 65536 * pair(table, at + 2))
 }
 
-// Keeps a number in the k-th cell of record i, where its cells are there.
-fn keep(unpacked: &mut [u32], i: usize, k: u8, x: u32)
-    requires { k < record_cells }
-    ensures { unpacked.new ≡ kept_in unpacked.old i k x }
+// Keeps a number in a cell of record i, where its cells are there.
+fn keep(unpacked: &mut [u32], i: usize, k: RecordCell, x: u32)
+    ensures { unpacked.new ≡ kept_in unpacked.old i (cell_number k) x }
 {
     if numbers::PARAMETER_LIMIT <= i {
         return;
     }
     let at = WIDTH * i;
     if at + WIDTH <= unpacked.len() {
-        unpacked[at + k as usize] = x;
+        unpacked[at + k.number()] = x;
     }
 }
 
@@ -91,30 +104,60 @@ pub fn unpack(table: &[u8], at: u32, unpacked: &mut [u32], i: usize)
     requires { at + 24 ≤ length table.now }
     ensures { i < parameter_limit → record_cells * (i + 1) ≤ length unpacked.old → Unpacked table.now at unpacked.old i unpacked.new }
 {
-    let from = numbers::u32_as_usize(at);
-    keep(unpacked, i, BYTES, at);
-    keep(unpacked, i, KIND, pair(table, from + numbers::KIND_AT));
-    keep(unpacked, i, PARENT, pair(table, from + numbers::PARENT_AT));
-    keep(unpacked, i, FLAGS, pair(table, from + numbers::FLAGS_AT));
+    let from = at as usize;
+    keep(unpacked, i, RecordCell::Bytes, at);
     keep(
         unpacked,
         i,
-        LO_COUNT,
+        RecordCell::Kind,
+        pair(table, from + numbers::KIND_AT),
+    );
+    keep(
+        unpacked,
+        i,
+        RecordCell::Parent,
+        pair(table, from + numbers::PARENT_AT),
+    );
+    keep(
+        unpacked,
+        i,
+        RecordCell::Flags,
+        pair(table, from + numbers::FLAGS_AT),
+    );
+    keep(
+        unpacked,
+        i,
+        RecordCell::LoCount,
         pair(table, from + numbers::LO_COUNT_AT),
     );
     keep(
         unpacked,
         i,
-        HI_COUNT,
+        RecordCell::HiCount,
         pair(table, from + numbers::HI_COUNT_AT),
     );
-    keep(unpacked, i, LEAST, int(table, from + numbers::LEAST_AT));
-    keep(unpacked, i, MOST, int(table, from + numbers::MOST_AT));
-    keep(unpacked, i, TARGET, pair(table, from + numbers::TARGET_AT));
     keep(
         unpacked,
         i,
-        LABEL_LENGTH,
+        RecordCell::Least,
+        int(table, from + numbers::LEAST_AT),
+    );
+    keep(
+        unpacked,
+        i,
+        RecordCell::Most,
+        int(table, from + numbers::MOST_AT),
+    );
+    keep(
+        unpacked,
+        i,
+        RecordCell::Target,
+        pair(table, from + numbers::TARGET_AT),
+    );
+    keep(
+        unpacked,
+        i,
+        RecordCell::LabelLength,
         pair(table, from + numbers::LABEL_LENGTH_AT),
     );
 }
@@ -124,98 +167,101 @@ pub fn length_at(table: &[u8], at: usize) -> usize
     requires { at + 2 ≤ length table.now }
     ensures { result ≡ le16 table.now at }
 {
-    numbers::u32_as_usize(pair(table, at))
+    pair(table, at) as usize
 }
 
-// Where the bytes of record i begin.
-pub fn place_at(unpacked: &[u32], i: usize) -> usize
-    ensures { result ≡ cell_in unpacked.now i 0 }
-{
-    numbers::u32_as_usize(cell(unpacked, i, BYTES))
-}
+#[tactic(auto, unfolding(crate::specs::Stored::record_in, definition_rules::specs::Table::flag1, definition_rules::specs::Table::flag2, definition_rules::specs::Table::flag4))]
+impl<'a> Records<'a> {
+    // Where the bytes of record i begin.
+    pub fn place_at(&self, i: usize) -> usize
+        ensures { result ≡ cell_in self.now.unpacked.now i 0 }
+    {
+        cell(self.unpacked, i, RecordCell::Bytes) as usize
+    }
 
-// Kinds 1 to 10.
-pub fn kind_at(table: &[u8], unpacked: &[u32], i: usize) -> u32
-    ensures { result ≡ (record_in table.now unpacked.now i).kind }
-{
-    cell(unpacked, i, KIND)
-}
+    // Kinds 1 to 10.
+    pub fn kind_at(&self, i: usize) -> u32
+        ensures { result ≡ (record_of self.now i).kind }
+    {
+        cell(self.unpacked, i, RecordCell::Kind)
+    }
 
-// The parent's number, 65,535 for a top.
-pub fn parent_at(table: &[u8], unpacked: &[u32], i: usize) -> usize
-    ensures { result ≡ up_number (record_in table.now unpacked.now i).parent }
-{
-    numbers::u32_as_usize(cell(unpacked, i, PARENT))
-}
+    // The parent's number, 65,535 for a top.
+    pub fn parent_at(&self, i: usize) -> usize
+        ensures { result ≡ up_number (record_of self.now i).parent }
+    {
+        cell(self.unpacked, i, RecordCell::Parent) as usize
+    }
 
-// The record stands in the body of p.
-pub fn is_under(table: &[u8], unpacked: &[u32], i: usize, p: usize) -> bool
-    ensures { result ≡ is_under p (record_in table.now unpacked.now i).parent }
-{
-    let up = numbers::u32_as_usize(cell(unpacked, i, PARENT));
-    (up != numbers::NONE16) & (up == p)
-}
+    // The record stands in the body of p.
+    pub fn is_under(&self, i: usize, p: usize) -> bool
+        ensures { result ≡ is_under p (record_of self.now i).parent }
+    {
+        let up = cell(self.unpacked, i, RecordCell::Parent) as usize;
+        (up != numbers::NONE16) & (up == p)
+    }
 
-// The flags, as one number.
-pub fn flags_at(table: &[u8], unpacked: &[u32], i: usize) -> u32
-    ensures { result ≡ cell_in unpacked.now i 3 }
-{
-    cell(unpacked, i, FLAGS)
-}
+    // The flags, as one number.
+    pub fn flags_at(&self, i: usize) -> u32
+        ensures { result ≡ cell_in self.now.unpacked.now i 3 }
+    {
+        cell(self.unpacked, i, RecordCell::Flags)
+    }
 
-pub fn untagged_at(table: &[u8], unpacked: &[u32], i: usize) -> bool
-    ensures { result ≡ (record_in table.now unpacked.now i).untagged }
-{
-    flags_at(table, unpacked, i) % numbers::EXTENSION == numbers::UNTAGGED
-}
+    pub fn untagged_at(&self, i: usize) -> bool
+        ensures { result ≡ (record_of self.now i).untagged }
+    {
+        self.flags_at(i) % numbers::EXTENSION == numbers::UNTAGGED
+    }
 
-pub fn extension_at(table: &[u8], unpacked: &[u32], i: usize) -> bool
-    ensures { result ≡ (record_in table.now unpacked.now i).extension }
-{
-    numbers::EXTENSION <= flags_at(table, unpacked, i) % numbers::PLUGIN
-}
+    pub fn extension_at(&self, i: usize) -> bool
+        ensures { result ≡ (record_of self.now i).extension }
+    {
+        numbers::EXTENSION <= self.flags_at(i) % numbers::PLUGIN
+    }
 
-pub fn plugin_at(table: &[u8], unpacked: &[u32], i: usize) -> bool
-    ensures { result ≡ (record_in table.now unpacked.now i).plugin }
-{
-    numbers::PLUGIN <= flags_at(table, unpacked, i)
-}
+    pub fn plugin_at(&self, i: usize) -> bool
+        ensures { result ≡ (record_of self.now i).plugin }
+    {
+        numbers::PLUGIN <= self.flags_at(i)
+    }
 
-pub fn lo_count_at(table: &[u8], unpacked: &[u32], i: usize) -> usize
-    ensures { result ≡ (record_in table.now unpacked.now i).lo_count }
-{
-    numbers::u32_as_usize(cell(unpacked, i, LO_COUNT))
-}
+    pub fn lo_count_at(&self, i: usize) -> usize
+        ensures { result ≡ (record_of self.now i).lo_count }
+    {
+        cell(self.unpacked, i, RecordCell::LoCount) as usize
+    }
 
-pub fn hi_count_at(table: &[u8], unpacked: &[u32], i: usize) -> usize
-    ensures { result ≡ (record_in table.now unpacked.now i).hi_count }
-{
-    numbers::u32_as_usize(cell(unpacked, i, HI_COUNT))
-}
+    pub fn hi_count_at(&self, i: usize) -> usize
+        ensures { result ≡ (record_of self.now i).hi_count }
+    {
+        cell(self.unpacked, i, RecordCell::HiCount) as usize
+    }
 
-pub fn least_at(table: &[u8], unpacked: &[u32], i: usize) -> u32
-    ensures { result ≡ (record_in table.now unpacked.now i).least }
-{
-    cell(unpacked, i, LEAST)
-}
+    pub fn least_at(&self, i: usize) -> u32
+        ensures { result ≡ (record_of self.now i).least }
+    {
+        cell(self.unpacked, i, RecordCell::Least)
+    }
 
-pub fn most_at(table: &[u8], unpacked: &[u32], i: usize) -> u32
-    ensures { result ≡ (record_in table.now unpacked.now i).most }
-{
-    cell(unpacked, i, MOST)
-}
+    pub fn most_at(&self, i: usize) -> u32
+        ensures { result ≡ (record_of self.now i).most }
+    {
+        cell(self.unpacked, i, RecordCell::Most)
+    }
 
-pub fn target_at(table: &[u8], unpacked: &[u32], i: usize) -> usize
-    ensures { result ≡ (record_in table.now unpacked.now i).target }
-{
-    numbers::u32_as_usize(cell(unpacked, i, TARGET))
-}
+    pub fn target_at(&self, i: usize) -> usize
+        ensures { result ≡ (record_of self.now i).target }
+    {
+        cell(self.unpacked, i, RecordCell::Target) as usize
+    }
 
-// The wire tag, or the name where untagged or top.
-pub fn label_at<'a>(table: &'a [u8], unpacked: &[u32], i: usize) -> &'a [u8]
-    ensures { result.now ≡ (record_in table.now unpacked.now i).label }
-{
-    let n = numbers::u32_as_usize(cell(unpacked, i, LABEL_LENGTH));
-    let from = numbers::u32_as_usize(cell(unpacked, i, BYTES)) + numbers::RECORD_HEADER;
-    classes::part(table, from, from + n)
+    // The wire tag, or the name where untagged or top.
+    pub fn label_at(&self, i: usize) -> &'a [u8]
+        ensures { result.now ≡ (record_of self.now i).label }
+    {
+        let n = cell(self.unpacked, i, RecordCell::LabelLength) as usize;
+        let from = cell(self.unpacked, i, RecordCell::Bytes) as usize + numbers::RECORD_HEADER;
+        classes::part(self.table, from, from + n)
+    }
 }

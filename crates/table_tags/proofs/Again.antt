@@ -14,6 +14,8 @@ use Rattle.definition_rules.specs.Faults.{any_before, beside, has_wire_tag, tag_
 use Rattle.definition_rules.specs.Table.{up_number}
 use Rattle.table_records.specs.Stored.{record_in, records_from, records_at}
 use Rattle.table_checks.proofs.Parents.{parent_top, parent_under}
+use Rattle.std.specs.Prelude.{Option, Some, None, is_some}
+use Rattle.table_tags.specs.Search.{found_of}
 use Rattle.table_tags.proofs.Searching.{first_here, first_later}
 
 -- ---- those before
@@ -82,16 +84,14 @@ module _ (t cs : List ℕ) (n i : ℕ) where
     repeated = ap (λ f. has_wire_tag r && any_before i f rs) (fun_ext (λ q. sym (tagged_same p r q up))) ∙ rw wired
 
     -- what a search among the records before says of the tag
-    again : (w : List ℕ) (g : schema.Found) → w ≡ r.label → g ≡ first_where (is_tagged_as p w) 0 (records_from t cs (i - 0) 0) → is_found g ≡ tag_repeated rs i r
+    pub again : (w : List ℕ) (g : schema.Found) → w ≡ r.label → g ≡ first_where (is_tagged_as p w) 0 (records_from t cs (i - 0) 0) → is_found g ≡ tag_repeated rs i r
     again w g x y =
         let b : i - 0 ≡ i = omega arith in
         ap is_found (y ∙ (ap (λ v. first_where (is_tagged_as p v) 0 (records_from t cs (i - 0) 0)) x ∙ ap (λ m. first_where (is_tagged_as p r.label) 0 (records_from t cs m 0)) b))
         ∙ (sym (any_first t cs (is_tagged_as p r.label) i n 0 (omega arith)) ∙ sym repeated)
 
-    pub again_found : (w : List ℕ) (g : schema.Found) (q : ℕ) → w ≡ r.label → g ≡ first_where (is_tagged_as p w) 0 (records_from t cs (i - 0) 0) → g ≡ schema.found q → true ≡ tag_repeated rs i r
-    unfolding is_found
-    again_found w g q x y e = sym (ap is_found e) ∙ again w g x y
-
-    pub again_none : (w : List ℕ) (g : schema.Found) → w ≡ r.label → g ≡ first_where (is_tagged_as p w) 0 (records_from t cs (i - 0) 0) → g ≡ schema.nowhere → false ≡ tag_repeated rs i r
-    unfolding is_found
-    again_none w g x y e = sym (ap is_found e) ∙ again w g x y
+-- what the code says of it
+pub some_found : (o : Option ℕ) → is_some o ≡ is_found (found_of o)
+unfolding is_found
+some_found None = refl
+some_found (Some q) = refl

@@ -1,16 +1,14 @@
 -- The search for a tag: what it answers, and what it asks of a table's records.
-use Rattle.std.specs.Prelude.{◌≡◌, true, List, ℕ, ◌<◌, length}
+use Rattle.std.specs.Prelude.{◌≡◌, true, List, ℕ, ◌<◌, length, Option, Some, None}
 use Rattle.reading_rules.specs.Record.{Record, record_at, AfterParents}
 use Rattle.reading_rules.specs.Schema as schema
 use Rattle.reading_rules.specs.Schema.{is_tagged_as, first_where}
 use Rattle.table_records.specs.Stored.{records_at, Laid}
-use Rattle.table_tags.specs.declared.Found.{Found}
-use Rattle.table_tags.specs.declared.Found.TheVariants.{Nowhere, At}
 
 -- what the code's answer means
-abbrev pub found_of : Found → schema.Found
-found_of Nowhere = schema.nowhere
-found_of (At q) = schema.found q
+abbrev pub found_of : Option ℕ → schema.Found
+found_of None = schema.nowhere
+found_of (Some q) = schema.found q
 
 -- the field or alternative of p with this wire tag: the first of all records that is one
 abbrev pub searched : List ℕ → List ℕ → ℕ → ℕ → List ℕ → schema.Found

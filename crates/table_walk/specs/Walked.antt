@@ -1,13 +1,11 @@
 -- The walk over a table's records, by their lengths.
-use Rattle.std.specs.Prelude.{◌≡◌, Bool, ◌&&◌, List, ℕ, ◌+◌, ◌-◌, ◌*◌, ◌≤◌, ◌<◌, eqb, ltb, leb, length}
+use Rattle.std.specs.Prelude.{◌≡◌, Bool, ◌&&◌, List, ℕ, ◌+◌, ◌-◌, ◌*◌, ◌≤◌, ◌<◌, eqb, ltb, leb, length, Option, Some, None}
 use Rattle.numbers.specs.Limits.{parameter_limit}
 use Rattle.numbers.specs.LittleEndian.{le16}
 use Rattle.classes.specs.Lists.{pick}
 use Rattle.reading_rules.specs.Record.{Record}
 use Rattle.definition_rules.specs.Table.{just, decode}
 use Rattle.table_records.specs.Stored.{record_cells, records_at, Laid}
-use Rattle.table_walk.specs.declared.Walk.{Walk}
-use Rattle.table_walk.specs.declared.Walk.TheVariants.{Count, Bad}
 
 -- a whole record begins at this place
 unfoldable pub is_whole : List ℕ → ℕ → Bool
@@ -17,6 +15,11 @@ is_whole t at =
 -- its length; 0 where none begins
 unfoldable pub length_at : List ℕ → ℕ → ℕ
 length_at t at = pick (is_whole t at) (le16 t at) 0
+
+-- what the code says of a place: that length, or that none begins there
+abbrev pub WholeAt : List ℕ → ℕ → Option ℕ → Type 0
+WholeAt t at (Some n) = (n ≡ length_at t at) × (0 < n) × (n < 65536)
+WholeAt t at None = length_at t at ≡ 0
 
 -- there is room to unpack the records of a table of so many bytes
 abbrev pub Enough : ℕ → ℕ → Type 0
@@ -33,6 +36,6 @@ pub record RecordsCounted (t unpacked : List ℕ) (n : ℕ) : Type 0 where
 abbrev pub Uncounted : List ℕ → Type 0
 Uncounted t = (rs : List Record) → decode t ≡ just rs → parameter_limit < length rs
 
-unfoldable pub Walked : List ℕ → List ℕ → Walk → Type 0
-Walked t unpacked (Count n) = RecordsCounted t unpacked n
-Walked t unpacked Bad = Uncounted t
+unfoldable pub Walked : List ℕ → List ℕ → Option ℕ → Type 0
+Walked t unpacked (Some n) = RecordsCounted t unpacked n
+Walked t unpacked None = Uncounted t

@@ -3,10 +3,9 @@
 
 ghost use Rattle.std.specs.Prelude.{◌≤◌, length};
 
-use definition::Compiled;
-use message::Verdict;
 use std::io::Read;
 use test_frames::{Front, Head};
+use text::Page;
 
 // Lines are written out once they have as many bytes. The longest line, of 20,000 rows, has at most
 // 1,100,017 bytes and fits behind them.
@@ -17,86 +16,64 @@ const INPUT: usize = 400_000;
 
 const OUTPUT: usize = 1_200_000;
 
-// Where the program stands.
+// The input's bytes that are there and not answered yet.
 #[derive(Clone, Copy)]
-struct State {
-    // The input's bytes that are there and not answered yet.
+struct Waiting {
     from: usize,
     to: usize,
-    // How many bytes of lines are not written yet.
-    at: usize,
-    // Is there more to do?
-    on: bool,
 }
 
-fn compile_line(text: &[u8], lent: &mut [u8], out: &mut [u8], at: usize) -> usize {
-    test_frames::lend_bytes(lent);
+fn compile_line(page: &mut Page, text: &[u8], lent: &mut [u8]) {
+    lent.fill(test_frames::LENT);
     match definition::compile(text, lent) {
-        Compiled::Table(length) => test_frames::put_table(out, at, length, lent),
-        Compiled::Refused(number, place) => test_frames::put_no_table(out, at, number, place, lent),
+        Ok(length) => test_frames::put_table(page, length, lent),
+        Err(refusal) => {
+            test_frames::put_no_table(page, refusal.rule.number(), refusal.place, lent)
+        }
     }
 }
 
-fn read_line(table: &[u8], message: &[u8], lent: &mut [u32], out: &mut [u8], at: usize) -> usize {
-    test_frames::lend_numbers(lent);
+fn read_line(page: &mut Page, table: &[u8], message: &[u8], lent: &mut [u32]) {
+    lent.fill(test_frames::LENT_NUMBER);
     match message::read(table, message, lent) {
-        Verdict::Accepted(count) => test_frames::put_rows(out, at, count, lent),
-        Verdict::Refused(number, place) => test_frames::put_no_rows(out, at, number, place, lent),
+        Ok(count) => test_frames::put_rows(page, count, lent),
+        Err(refusal) => {
+            test_frames::put_no_rows(page, refusal.rule.number(), refusal.place, lent)
+        }
     }
 }
 
-fn row_line(
-    rows: &[u8],
-    message: &[u8],
-    row: usize,
-    numbers: &mut [u32],
-    out: &mut [u8],
-    at: usize,
-) -> usize {
+fn row_line(page: &mut Page, rows: &[u8], message: &[u8], row: usize, numbers: &mut [u32]) {
     let n = test_frames::words(rows, numbers);
-    test_frames::put_bytes(out, at, message::row_bytes(message, &numbers[..n], row))
+    test_frames::put_bytes(page, message::row_bytes(message, &numbers[..n], row));
 }
 
 // The answer to a whole frame.
-fn line(
-    frame: &[u8],
-    head: Head,
-    table: &mut [u8],
-    numbers: &mut [u32],
-    out: &mut [u8],
-    at: usize,
-) -> usize {
-    let kind = head.kind;
-    let room = numbers::u32_as_usize(head.room);
+fn line(page: &mut Page, frame: &[u8], head: Head, table: &mut [u8], numbers: &mut [u32]) {
+    let room = head.room as usize;
     let a = test_frames::first_of(frame, head);
     let b = test_frames::second_of(frame, head);
-    match kind {
+    match head.kind {
         1 => {
-            let n = text::least(room, table.len());
-            compile_line(a, &mut table[..n], out, at)
+            let n = room.min(table.len());
+            compile_line(page, a, &mut table[..n]);
         }
         2 => {
-            let n = text::least(room, numbers.len());
-            read_line(a, b, &mut numbers[..n], out, at)
+            let n = room.min(numbers.len());
+            read_line(page, a, b, &mut numbers[..n]);
         }
-        3 => test_frames::put_yes(out, at, table::table_ok(a)),
-        4 => row_line(a, b, room, numbers, out, at),
-        _ => text::put_text(out, at, b"unknown\n"),
+        3 => test_frames::put_yes(page, table::table_ok(a)),
+        4 => row_line(page, a, b, room, numbers),
+        _ => page.text(b"unknown\n"),
     }
 }
 
 // The input ends, inside a frame or between two.
-fn ended(out: &mut [u8], at: usize, is_short: bool) -> State {
-    let mut end = at;
+fn ended(page: &mut Page, is_short: bool) -> Option<Waiting> {
     if is_short {
-        end = text::put_text(out, at, b"short\n");
+        page.text(b"short\n");
     }
-    State {
-        from: 0,
-        to: 0,
-        at: end,
-        on: false,
-    }
+    None
 }
 
 // Reads once, and answers how many bytes came: none at the end of the input.
@@ -110,25 +87,23 @@ fn read_some(rt: HostRuntime, space: &mut [u8]) -> usize
 }
 
 // Reads more behind what is left of the input.
-fn refill(rt: HostRuntime, input: &mut [u8], out: &mut [u8], s: State) -> State {
-    let n = test_frames::to_front(input, s.from, s.to);
+fn refill(rt: HostRuntime, page: &mut Page, input: &mut [u8], w: Waiting) -> Option<Waiting> {
+    let n = test_frames::to_front(input, w.from, w.to);
     let more = read_some(rt, &mut input[n..]);
     if more == 0 {
-        return ended(out, s.at, 0 < n);
+        return ended(page, 0 < n);
     }
-    State {
+    Some(Waiting {
         from: 0,
-        to: text::sum(n, more),
-        at: s.at,
-        on: true,
-    }
+        to: n.saturating_add(more),
+    })
 }
 
-// Reads past some bytes; false where the input ends before.
+// Reads past some bytes; false where the input ends before. A `while`, as each turn passes as many as came.
 fn pass(rt: HostRuntime, input: &mut [u8], count: usize) -> bool {
     let mut left = count;
     while 0 < left {
-        let n = text::least(left, input.len());
+        let n = left.min(input.len());
         let passed = read_some(rt, &mut input[..n]);
         if passed == 0 {
             return false;
@@ -139,65 +114,59 @@ fn pass(rt: HostRuntime, input: &mut [u8], count: usize) -> bool {
 }
 
 // Passes over a frame that is too long.
-fn pass_frame(rt: HostRuntime, input: &mut [u8], out: &mut [u8], s: State, length: usize) -> State {
-    let there = classes::part(input, s.from, s.to).len();
-    if length <= there {
-        return State {
-            from: text::sum(s.from, length),
-            to: s.to,
-            at: text::put_text(out, s.at, b"too long\n"),
-            on: true,
-        };
+fn pass_frame(
+    rt: HostRuntime,
+    page: &mut Page,
+    input: &mut [u8],
+    w: Waiting,
+    length: usize,
+) -> Option<Waiting> {
+    let there = classes::part(input, w.from, w.to).len();
+    if there < length && !pass(rt, input, length - there) {
+        return ended(page, true);
     }
-    if !pass(rt, input, length - there) {
-        return ended(out, s.at, true);
+    page.text(b"too long\n");
+    if there < length {
+        return Some(Waiting { from: 0, to: 0 });
     }
-    State {
-        from: 0,
-        to: 0,
-        at: text::put_text(out, s.at, b"too long\n"),
-        on: true,
-    }
+    Some(Waiting {
+        from: w.from.saturating_add(length),
+        to: w.to,
+    })
 }
 
-// One frame, or one reading of more input.
+// One frame, or one reading of more input; none where the input ends.
 fn turn(
     rt: HostRuntime,
+    page: &mut Page,
     input: &mut [u8],
     table: &mut [u8],
     numbers: &mut [u32],
-    out: &mut [u8],
-    s: State,
-) -> State {
-    let frame = classes::part(input, s.from, s.to);
+    w: Waiting,
+) -> Option<Waiting> {
+    let frame = classes::part(input, w.from, w.to);
     match test_frames::next(frame) {
-        Front::Part => refill(rt, input, out, s),
-        Front::Long(length) => pass_frame(rt, input, out, s, length),
-        Front::Whole(head) => State {
-            from: text::sum(s.from, test_frames::length_of(head)),
-            to: s.to,
-            at: line(frame, head, table, numbers, out, s.at),
-            on: true,
-        },
+        Front::Part => refill(rt, page, input, w),
+        Front::Long(length) => pass_frame(rt, page, input, w, length),
+        Front::Whole(head) => {
+            line(page, frame, head, table, numbers);
+            Some(Waiting {
+                from: w.from.saturating_add(test_frames::length_of(head)),
+                to: w.to,
+            })
+        }
     }
 }
 
-// Writes the lines out where there are many, or none will follow.
-fn flushed(rt: HostRuntime, out: &[u8], s: State) -> State {
-    if s.on && s.at < MANY {
-        return s;
-    }
-    let is_written = rt.write_all(classes::part(out, 0, s.at)).is_ok();
-    State {
-        from: s.from,
-        to: s.to,
-        at: 0,
-        on: s.on && is_written,
-    }
+// Writes the lines out; false where that fails.
+fn flush(rt: HostRuntime, page: &mut Page) -> bool {
+    let is_written = rt.write_all(page.written()).is_ok();
+    page.at = 0;
+    is_written
 }
 
-// A proved loop has to end, and nothing says that the input does. So the loop counts its turns down
-// from a number that no run uses up.
+// A proved loop has to end, and nothing says that the input does. So the loop counts its turns, up to a number that no
+// run reaches.
 fn run(
     rt: HostRuntime,
     input: &mut [u8; INPUT],
@@ -205,18 +174,18 @@ fn run(
     numbers: &mut [u32; test_frames::LIMIT],
     out: &mut [u8; OUTPUT],
 ) {
-    let mut turns = u64::MAX;
-    let mut s = State {
-        from: 0,
-        to: 0,
-        at: 0,
-        on: true,
-    };
-    while 0 < turns && s.on {
-        let t = turn(rt, input, table, numbers, out, s);
-        s = flushed(rt, out, t);
-        turns -= 1;
+    let mut page = Page::new(out);
+    let mut waiting = Waiting { from: 0, to: 0 };
+    for _ in 0..u64::MAX {
+        let Some(more) = turn(rt, &mut page, input, table, numbers, waiting) else {
+            break;
+        };
+        if MANY <= page.at && !flush(rt, &mut page) {
+            return;
+        }
+        waiting = more;
     }
+    flush(rt, &mut page);
 }
 
 fn main(rt: HostRuntime) {

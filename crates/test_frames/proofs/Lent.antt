@@ -1,17 +1,12 @@
 -- Rows that are filled from the front.
-use Prim.Native.Nat.{ℕ, ◌+◌, ◌*◌, ◌<◌, ◌≤◌}
-use mathlib.Core.List.{List, ◌++◌, append-nil}
+use Prim.Native.Nat.{ℕ, ◌+◌, ◌*◌, ◌<◌}
+use mathlib.Core.List.{List}
 use mathlib.Core.Path.{◌≡◌, ◌∙◌}
 use native.Mathlib.Omega.{arith}
 use borrow.Author.Count.{below_more}
-use lib.ListN.{length, get_or, drop, set, replicate, drop_of_length-le}
+use lib.ListN.{length, get_or, set}
 use lib.Seq.{get_or-set_same, get_or-set_other}
 use Rattle.numbers.specs.LittleEndian.{le32}
-
-pub filled : (d e : List ℕ) (i v : ℕ) → i ≤ length d → length d ≤ i → e ≡ replicate i v ++ drop i d → e ≡ replicate (length d) v
-filled d e i v a b h =
-    let q : i ≡ length d = omega arith in
-    h ∙ rw (drop_of_length-le d b, append-nil, q)
 
 pub words_more : (s d : List ℕ) (i v : ℕ) → i < length d → v ≡ le32 s (4 * i) → ((k : ℕ) → k < i → get_or d k 0 ≡ le32 s (4 * k))
     → (k : ℕ) → k < i + 1 → get_or (set d i v) k 0 ≡ le32 s (4 * k)

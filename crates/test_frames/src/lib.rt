@@ -3,23 +3,25 @@
 // A frame, all numbers little-endian: kind u8, room u32, a u32, b u32, then a bytes and b bytes.
 #![tactic(auto)]
 
-ghost use Rattle.std.specs.Prelude.{◌≡◌, ◌+◌, ◌*◌, min, max, length, replicate};
+ghost use Rattle.std.specs.Prelude.{◌≡◌, ◌+◌, ◌*◌, min, max, length, drop};
 ghost use Rattle.std.proofs.lemmas.List.Edits.{sets};
 ghost use Rattle.test_frames.specs.Frame.{frame_head, length_of, front_by};
 ghost use Rattle.test_frames.specs.Lent.{kept_from, Words};
 ghost use Rattle.classes.specs.Lists.{part};
 ghost use Rattle.numbers.specs.Limits.{row_width};
-ghost use Rattle.text.specs.Text.{Wrote, each, spaced};
+ghost use Rattle.text.specs.Text.{Added, each, spaced};
 ghost use Rattle.test_frames.specs.Lines.{kept_text, refused_text, table_line, rows_line, refused_line, yes_line, bytes_line};
+
+use text::Page;
 
 // The bytes of a frame's head.
 const HEAD_BYTES: usize = 13;
 // The most that room, a and b may be.
 pub const LIMIT: usize = 100_000;
 // What a lent byte, and a lent number, holds before.
-const LENT: u8 = 0xA5;
+pub const LENT: u8 = 0xA5;
 
-const LENT_NUMBER: u32 = 0xA5A5_A5A5;
+pub const LENT_NUMBER: u32 = 0xA5A5_A5A5;
 
 // ---- frames
 
@@ -46,7 +48,7 @@ fn head_of(s: &[u8]) -> Head
     ensures { result ≡ frame_head s.now }
 {
     Head {
-        kind: numbers::byte_at(s, 0),
+        kind: numbers::get_or(s, 0, 0),
         room: numbers::u32_at(s, 1),
         a: numbers::u32_at(s, 5),
         b: numbers::u32_at(s, 9),
@@ -57,16 +59,13 @@ fn head_of(s: &[u8]) -> Head
 pub fn length_of(h: Head) -> usize
     ensures { result ≡ length_of h }
 {
-    HEAD_BYTES + numbers::u32_as_usize(h.a) + numbers::u32_as_usize(h.b)
+    HEAD_BYTES + h.a as usize + h.b as usize
 }
 
 fn largest(h: Head) -> usize
     ensures { result ≡ max h.room (max h.a h.b) }
 {
-    text::most(
-        numbers::u32_as_usize(h.room),
-        text::most(numbers::u32_as_usize(h.a), numbers::u32_as_usize(h.b)),
-    )
+    h.room.max(h.a).max(h.b) as usize
 }
 
 pub fn next(s: &[u8]) -> Front
@@ -92,10 +91,8 @@ pub fn to_front(d: &mut [u8], from: usize, to: usize) -> usize
     ensures d_after { d.new ≡ sets d.old 0 (part d.old from to) }
 {
     let n = classes::part(d, from, to).len();
-    let mut i = 0;
-    while i < n {
+    for i in 0..n {
         d[i] = d[from + i];
-        i += 1;
     }
     n
 }
@@ -104,177 +101,145 @@ pub fn to_front(d: &mut [u8], from: usize, to: usize) -> usize
 pub fn first_of(s: &[u8], h: Head) -> &[u8]
     ensures { result.now ≡ part s.now 13 (13 + h.a) }
 {
-    classes::part(s, HEAD_BYTES, HEAD_BYTES + numbers::u32_as_usize(h.a))
+    classes::part(s, HEAD_BYTES, HEAD_BYTES + h.a as usize)
 }
 
 // A frame's b bytes.
 pub fn second_of(s: &[u8], h: Head) -> &[u8]
     ensures { result.now ≡ part s.now (13 + h.a) (length_of h) }
 {
-    classes::part(s, HEAD_BYTES + numbers::u32_as_usize(h.a), length_of(h))
+    classes::part(s, HEAD_BYTES + h.a as usize, length_of(h))
 }
 
 // ---- what is lent
 
-pub fn lend_bytes(d: &mut [u8])
-    ensures { d.new ≡ replicate (length d.old) 0xA5 }
-{
-    let mut i = 0;
-    while i < d.len() {
-        d[i] = LENT;
-        i += 1;
-    }
-}
-
-pub fn lend_numbers(d: &mut [u32])
-    ensures { d.new ≡ replicate (length d.old) 0xA5A5A5A5 }
-{
-    let mut i = 0;
-    while i < d.len() {
-        d[i] = LENT_NUMBER;
-        i += 1;
-    }
-}
-
-// Is each byte from a place on as it was lent?
+// Is each byte from a place on as it was lent? It differs from the next in type and constant; one generic function would
+// take both from its caller and be no shorter than either.
 fn bytes_kept(d: &[u8], from: usize) -> bool
     ensures { result ≡ kept_from 0xA5 d.now from }
 {
-    let mut i = from;
-    while i < d.len() {
-        if d[i] != LENT {
-            return false;
-        }
-        i += 1;
-    }
-    true
+    classes::rest(d, from).iter().all(|b| *b == LENT)
+}
+
+// The numbers from a place on, none past the end.
+fn numbers_from(d: &[u32], from: usize) -> &[u32]
+    ensures { result.now ≡ drop from d.now }
+{
+    d.get(from..).unwrap_or(&[])
 }
 
 fn numbers_kept(d: &[u32], from: usize) -> bool
     ensures { result ≡ kept_from 0xA5A5A5A5 d.now from }
 {
-    let mut i = from;
-    while i < d.len() {
-        if d[i] != LENT_NUMBER {
-            return false;
-        }
-        i += 1;
-    }
-    true
+    numbers_from(d, from).iter().all(|n| *n == LENT_NUMBER)
 }
 
 // The u32s of a row of bytes, as many as are whole and fit; answers how many.
 pub fn words(s: &[u8], d: &mut [u32]) -> usize
     ensures { Words s.now d.new result }
 {
-    let n = text::least(s.len() / 4, d.len());
-    let mut i = 0;
-    while i < n {
+    let n = (s.len() / 4).min(d.len());
+    for i in 0..n {
         d[i] = numbers::u32_at(s, 4 * i);
-        i += 1;
     }
     n
 }
 
 // ---- pieces of lines
 
-fn put_numbers(out: &mut [u8], at: usize, numbers: &[u32]) -> usize
-    ensures { Wrote (each spaced numbers.now) out.old at out.new result }
+fn put_numbers(page: &mut Page, numbers: &[u32])
+    ensures { Added (each spaced numbers.now) page.old page.new }
 {
-    let mut i = 0;
-    let mut o = at;
-    while i < numbers.len() {
-        o = text::put_number(out, o, numbers[i] as u64);
-        i += 1;
+    for n in numbers {
+        page.number(*n as u64);
     }
-    o
 }
 
-fn put_kept(out: &mut [u8], at: usize, kept: bool) -> usize
-    ensures { Wrote (kept_text kept) out.old at out.new result }
+fn put_kept(page: &mut Page, kept: bool)
+    ensures { Added (kept_text kept) page.old page.new }
 {
     if kept {
-        return text::put_text(out, at, b" kept\n");
+        page.text(b" kept\n");
+    } else {
+        page.text(b" touched\n");
     }
-    text::put_text(out, at, b" touched\n")
 }
 
-fn put_refused(out: &mut [u8], at: usize, number: u32, place: usize) -> usize
-    ensures { Wrote (refused_text number place) out.old at out.new result }
+fn put_refused(page: &mut Page, number: u32, place: usize)
+    ensures { Added (refused_text number place) page.old page.new }
 {
-    let o = text::put_text(out, at, b"refused");
-    let o = text::put_number(out, o, number as u64);
-    text::put_number(out, o, place as u64)
+    page.text(b"refused");
+    page.number(number as u64);
+    page.number(place as u64);
 }
 
 // ---- lines
 
 // The line of a table of some length in the lent bytes.
-pub fn put_table(out: &mut [u8], at: usize, length: usize, lent: &[u8]) -> usize
-    ensures { Wrote (table_line length lent.now) out.old at out.new result }
+pub fn put_table(page: &mut Page, length: usize, lent: &[u8])
+    ensures { Added (table_line length lent.now) page.old page.new }
 {
-    let o = text::put_text(out, at, b"ok");
-    let o = text::put_number(out, o, length as u64);
-    let o = text::put_byte(out, o, b' ');
-    let o = text::put_hex(out, o, classes::part(lent, 0, length));
-    put_kept(out, o, bytes_kept(lent, length))
+    page.text(b"ok");
+    page.number(length as u64);
+    page.byte(b' ');
+    page.hex(classes::part(lent, 0, length));
+    put_kept(page, bytes_kept(lent, length));
 }
 
-// The line of a definition that is refused.
-pub fn put_no_table(out: &mut [u8], at: usize, number: u32, place: usize, lent: &[u8]) -> usize
-    ensures { Wrote (refused_line 0xA5 number place lent.now) out.old at out.new result }
+// The line of a definition that is refused. docs/PROMISES.md names it, and the one of a message.
+pub fn put_no_table(page: &mut Page, number: u32, place: usize, lent: &[u8])
+    ensures { Added (refused_line 0xA5 number place lent.now) page.old page.new }
 {
-    let o = put_refused(out, at, number, place);
-    put_kept(out, o, bytes_kept(lent, 0))
+    put_refused(page, number, place);
+    put_kept(page, bytes_kept(lent, 0));
 }
 
 // How many numbers some rows have, as far as they lie within some numbers.
 fn cells(count: usize, within: usize) -> usize
     ensures { result ≡ min (row_width * count) within }
 {
-    if within / numbers::ROW_WIDTH < count {
-        return within;
-    }
-    numbers::ROW_WIDTH * count
+    count.saturating_mul(numbers::ROW_WIDTH).min(within)
 }
 
 // The line of some rows in the lent numbers.
-pub fn put_rows(out: &mut [u8], at: usize, count: usize, lent: &[u32]) -> usize
-    ensures { Wrote (rows_line count lent.now) out.old at out.new result }
+pub fn put_rows(page: &mut Page, count: usize, lent: &[u32])
+    ensures { Added (rows_line count lent.now) page.old page.new }
 {
     let n = cells(count, lent.len());
-    let o = text::put_text(out, at, b"ok");
-    let o = text::put_number(out, o, count as u64);
-    let o = put_numbers(out, o, &lent[..n]);
-    put_kept(out, o, numbers_kept(lent, n))
+    page.text(b"ok");
+    page.number(count as u64);
+    put_numbers(page, &lent[..n]);
+    put_kept(page, numbers_kept(lent, n));
 }
 
 // The line of a message that is refused.
-pub fn put_no_rows(out: &mut [u8], at: usize, number: u32, place: usize, lent: &[u32]) -> usize
-    ensures { Wrote (refused_line 0xA5A5A5A5 number place lent.now) out.old at out.new result }
+pub fn put_no_rows(page: &mut Page, number: u32, place: usize, lent: &[u32])
+    ensures { Added (refused_line 0xA5A5A5A5 number place lent.now) page.old page.new }
 {
-    let o = put_refused(out, at, number, place);
-    put_kept(out, o, numbers_kept(lent, 0))
+    put_refused(page, number, place);
+    put_kept(page, numbers_kept(lent, 0));
 }
 
 // The line of a judgement.
-pub fn put_yes(out: &mut [u8], at: usize, yes: bool) -> usize
-    ensures { Wrote (yes_line yes) out.old at out.new result }
+pub fn put_yes(page: &mut Page, yes: bool)
+    ensures { Added (yes_line yes) page.old page.new }
 {
     if yes {
-        return text::put_text(out, at, b"yes\n");
+        page.text(b"yes\n");
+    } else {
+        page.text(b"no\n");
     }
-    text::put_text(out, at, b"no\n")
 }
 
 // The line of a row's bytes.
-pub fn put_bytes(out: &mut [u8], at: usize, bytes: &[u8]) -> usize
-    ensures { Wrote (bytes_line bytes.now) out.old at out.new result }
+pub fn put_bytes(page: &mut Page, bytes: &[u8])
+    ensures { Added (bytes_line bytes.now) page.old page.new }
 {
-    if bytes.len() == 0 {
-        return text::put_text(out, at, b"bytes\n");
+    if bytes.is_empty() {
+        page.text(b"bytes\n");
+        return;
     }
-    let o = text::put_text(out, at, b"bytes ");
-    let o = text::put_hex(out, o, bytes);
-    text::put_byte(out, o, b'\n')
+    page.text(b"bytes ");
+    page.hex(bytes);
+    page.byte(b'\n');
 }

@@ -8,11 +8,15 @@ use native.Mathlib.Omega.{arith}
 use lib.ListN.{length, get_or, take, set, length-append}
 use lib.Seq.{sets, length-sets, take_all, take-suc, set_out}
 use Rattle.io.specs.Digits.{hex_digit_ascii}
-use Rattle.text.specs.Text.{Wrote, each, hex_byte}
+use Rattle.text.specs.Text.{Wrote, Added, each, hex_byte}
+use Rattle.text.specs.declared.Page.{Page}
 use Rattle.classes.proofs.Stores.{sets_out, sets_append}
 
-pub nothing : (o : List ℕ) (at : ℕ) → Wrote [] o at o at
-nothing o at = record { bytes = refl; place = omega arith }
+nothing_wrote : (o : List ℕ) (at : ℕ) → Wrote [] o at o at
+nothing_wrote o at = record { bytes = refl; place = omega arith }
+
+pub nothing : (p : Page) → Added [] p p
+nothing p = record { wrote = nothing_wrote p.out.now p.at; same = refl }
 
 -- a byte at a place, and past the end
 pub one : (b : ℕ) (o : List ℕ) (at : ℕ) → at < length o → Wrote (b ∷ []) o at (set o at b) (at + 1)
@@ -38,8 +42,11 @@ module _ {x y o o₁ o₂ : List ℕ} {at r₁ r₂ : ℕ} (u : Wrote x o at o�
       let s : length (sets o at x) ≤ at + length x = rw (length-sets o at x) (omega (arith, h)) in
       v.bytes ∙ sets_out y o₁ r₁ q ∙ u.bytes ∙ sym (sets_out y (sets o at x) (at + length x) s) ∙ sets_append x y o at
 
-  pub both : Wrote (x ++ y) o at o₂ r₂
-  both = record { bytes = bytes_by (dec_le (at + length x) (length o)); place = place_both }
+  both_wrote : Wrote (x ++ y) o at o₂ r₂
+  both_wrote = record { bytes = bytes_by (dec_le (at + length x) (length o)); place = place_both }
+
+pub both : {x y : List ℕ} {p q r : Page} → Added x p q → Added y q r → Added (x ++ y) p r
+both u v = record { wrote = both_wrote u.wrote v.wrote; same = v.same ∙ u.same }
 
 -- ---- the texts of some numbers
 
@@ -55,29 +62,23 @@ each_one f n = append-nil (f n)
 each_more : (f : ℕ → List ℕ) (l : List ℕ) (i : ℕ) → i < length l → each f (take (i + 1) l) ≡ each f (take i l) ++ f (get_or l i 0)
 each_more f l i h = rw (add-one, take-suc l i 0 h, each_append, each_one)
 
-module _ (f : ℕ → List ℕ) (l : List ℕ) (i : ℕ) {o o₁ : List ℕ} {at r₁ : ℕ} where
-  pub more : {o₂ : List ℕ} {r₂ : ℕ} → i < length l → Wrote (each f (take i l)) o at o₁ r₁ → Wrote (f (get_or l i 0)) o₁ r₁ o₂ r₂
-      → Wrote (each f (take (i + 1) l)) o at o₂ r₂
-  more h u v = rw (each_more f l i h) (both u v)
+module _ (f : ℕ → List ℕ) (l : List ℕ) where
+  pub none : (p : Page) → Added (each f (take 0 l)) p p
+  unfolding each
+  none p = nothing p
 
-  pub all : length l ≤ i → Wrote (each f (take i l)) o at o₁ r₁ → Wrote (each f l) o at o₁ r₁
-  all h u = rw (take_all i l h) at u
+  pub more : (i : ℕ) {p q r : Page} → i < length l → Added (each f (take i l)) p q → Added (f (get_or l i 0)) q r → Added (each f (take (i + 1) l)) p r
+  more i h u v = rw (each_more f l i h) (both u v)
 
-pub none : (f : ℕ → List ℕ) (l o : List ℕ) (at : ℕ) → Wrote (each f (take 0 l)) o at o at
-unfolding each
-none f l o at = nothing o at
+  pub all : (i : ℕ) {p q : Page} → length l ≤ i → Added (each f (take i l)) p q → Added (each f l) p q
+  all i h u = rw (take_all i l h) at u
 
 -- bytes as they are
-pub each_same : (l : List ℕ) → each (λ b. b ∷ []) l ≡ l
-unfolding each
-each_same [] = refl
-each_same (b ∷ l) = rw (each_same l)
-
-pub whole : (l : List ℕ) (i : ℕ) {o o₁ : List ℕ} {at r₁ : ℕ} → length l ≤ i → Wrote (each (λ b. b ∷ []) (take i l)) o at o₁ r₁ → Wrote l o at o₁ r₁
-whole l i h u = rw (take_all i l h, each_same l) at u
+pub more_text : (l : List ℕ) (i : ℕ) {p q r : Page} → i < length l → Added (take i l) p q → Added (get_or l i 0 ∷ []) q r → Added (take (i + 1) l) p r
+more_text l i h u v = rw (add-one, take-suc l i 0 h) (both u v)
 
 -- two digits
-pub hex_two : {o o₁ o₂ : List ℕ} {at r r₂ : ℕ} (b x y : ℕ) → x ≡ hex_digit_ascii (b / 16) → y ≡ hex_digit_ascii (b % 16) → Wrote (x ∷ []) o at o₁ r → Wrote (y ∷ []) o₁ r o₂ r₂
-    → Wrote (hex_byte b) o at o₂ r₂
+pub hex_two : {p q r : Page} (b x y : ℕ) → x ≡ hex_digit_ascii (b / 16) → y ≡ hex_digit_ascii (b % 16) → Added (x ∷ []) p q → Added (y ∷ []) q r
+    → Added (hex_byte b) p r
 unfolding hex_byte
-hex_two b x y p q u v = rw (← p, ← q) (both u v)
+hex_two b x y e f u v = rw (← e, ← f) (both u v)

@@ -2,11 +2,17 @@
 use Rattle.std.specs.Prelude.{cond, List, [], ◌∷◌, ◌++◌, ◌≡◌, ℕ, zero, suc, ◌+◌, ◌/◌, ◌%◌, ◌^◌, min, max, ltb, length}
 use Rattle.std.proofs.lemmas.List.Edits.{sets}
 use Rattle.io.specs.Digits.{hex_digit_ascii, last_digits}
+use Rattle.text.specs.declared.Page.{Page}
 
 -- what lies past the end is dropped; the next place is behind the text, or the end
 pub record Wrote (text before : List ℕ) (at : ℕ) (after : List ℕ) (next : ℕ) : Type 0 where
   pub bytes : after ≡ sets before at text
   pub place : next ≡ max at (min (length before) (at + length text))
+
+-- the same of a page, which keeps the bytes that it was lent
+pub record Added (text : List ℕ) (before after : Page) : Type 0 where
+  pub wrote : Wrote text before.out.now before.at after.out.now after.at
+  pub same : after.out.ghost_name ≡ before.out.ghost_name
 
 -- the texts of some numbers, one behind the other
 unfoldable pub each : (ℕ → List ℕ) → List ℕ → List ℕ

@@ -1,76 +1,95 @@
-// Text written into a lent row of bytes at a place. What would lie past its end is dropped.
+// Text written into a lent row of bytes. What would lie past its end is dropped.
 #![tactic(auto)]
 
-ghost use Rattle.std.specs.Prelude.{◌≡◌, [], ◌∷◌, ◌+◌, ◌<◌, ◌^◌, ◌-◌, min, max};
+ghost use Rattle.std.specs.Prelude.{◌≡◌, [], ◌∷◌, ◌<◌};
+ghost use Rattle.classes.specs.Lists.{part};
 ghost use Rattle.io.specs.Digits.{hex_digit_ascii};
-ghost use Rattle.text.specs.Text.{Wrote, each, hex_byte, decimal, spaced};
+ghost use Rattle.text.specs.Text.{Added, each, hex_byte, decimal, spaced};
 
-// ---- numbers
-
-// The larger one.
-pub fn most(a: usize, b: usize) -> usize
-    ensures { result ≡ max a b }
-{
-    if a < b {
-        return b;
-    }
-    a
+// A lent row of bytes and the place in it where the next byte is written: behind what is written, or its end.
+#[derive(Drop)]
+pub struct Page<'a> {
+    pub out: &'a mut [u8],
+    pub at: usize,
 }
 
-// The smaller one.
-pub fn least(a: usize, b: usize) -> usize
-    ensures { result ≡ min a b }
-{
-    if a < b {
-        return a;
+impl<'a> Page<'a> {
+    // A page with nothing on it.
+    pub fn new(out: &'a mut [u8]) -> Page<'a>
+        ensures same { result.out.ghost_name ≡ out.entry.ghost_name }
+        ensures old { result.out.now ≡ out.entry.now }
+        ensures place { result.at ≡ 0 }
+    {
+        Page { out, at: 0 }
     }
-    b
-}
 
-// The sum, as far as it can be held.
-pub fn sum(a: usize, b: usize) -> usize
-    ensures { result ≡ min (a + b) (2 ^ 64 - 1) }
-{
-    if usize::MAX - a < b {
-        return usize::MAX;
+    // What is written so far, if writing began at the first byte.
+    pub fn written(&self) -> &[u8]
+        ensures { result.now ≡ part self.now.out.now 0 self.now.at }
+    {
+        classes::part(self.out, 0, self.at)
     }
-    a + b
-}
 
-// ---- writing
-
-// Each function that writes answers the next place: behind what it wrote, or the end.
-// This one writes a byte.
-pub fn put_byte(out: &mut [u8], at: usize, b: u8) -> usize
-    ensures { Wrote (b ∷ []) out.old at out.new result }
-{
-    if out.len() <= at {
-        return at;
+    // The same, for as long as the row is lent.
+    pub fn into_written(self) -> &'a [u8]
+        ensures { result.now ≡ part self.entry.out.now 0 self.entry.at }
+    {
+        let Page { out, at } = self;
+        classes::part(out, 0, at)
     }
-    out[at] = b;
-    at + 1
-}
 
-// Bytes as they are.
-pub fn put_text(out: &mut [u8], at: usize, text: &[u8]) -> usize
-    ensures { Wrote text.now out.old at out.new result }
-{
-    let mut i = 0;
-    let mut o = at;
-    while i < text.len() {
-        o = put_byte(out, o, text[i]);
-        i += 1;
+    // Writes a byte.
+    pub fn byte(&mut self, b: u8)
+        ensures { Added (b ∷ []) self.old self.new }
+    {
+        if self.at < self.out.len() {
+            self.out[self.at] = b;
+            self.at += 1;
+        }
     }
-    o
-}
 
-// A number in as many decimal digits as it takes.
-pub fn put_decimal(out: &mut [u8], at: usize, n: u64) -> usize
-    ensures { Wrote (decimal n) out.old at out.new result }
-{
-    let mut digits = [0u8; 20];
-    let k = io::decimal(n, &mut digits);
-    put_text(out, at, &digits[..k])
+    // Bytes as they are.
+    pub fn text(&mut self, text: &[u8])
+        ensures { Added text.now self.old self.new }
+    {
+        for b in text {
+            self.byte(*b);
+        }
+    }
+
+    // A number in as many decimal digits as it takes.
+    pub fn decimal(&mut self, n: u64)
+        ensures { Added (decimal n) self.old self.new }
+    {
+        let mut digits = [0u8; 20];
+        let k = io::decimal(n, &mut digits);
+        self.text(&digits[..k]);
+    }
+
+    // A byte as two hex digits.
+    pub fn hex_byte(&mut self, b: u8)
+        ensures { Added (hex_byte b) self.old self.new }
+    {
+        self.byte(digit(b / 16));
+        self.byte(digit(b % 16));
+    }
+
+    // Bytes as hex digits, two each.
+    pub fn hex(&mut self, bytes: &[u8])
+        ensures { Added (each hex_byte bytes.now) self.old self.new }
+    {
+        for b in bytes {
+            self.hex_byte(*b);
+        }
+    }
+
+    // A space and the number.
+    pub fn number(&mut self, n: u64)
+        ensures { Added (spaced n) self.old self.new }
+    {
+        self.byte(b' ');
+        self.decimal(n);
+    }
 }
 
 // The lowercase hex digit of a number below 16.
@@ -79,33 +98,4 @@ pub fn digit(n: u8) -> u8
     ensures { result ≡ hex_digit_ascii n }
 {
     if n < 10 { 48 + n } else { 87 + n }
-}
-
-// A byte as two hex digits.
-pub fn put_hex_byte(out: &mut [u8], at: usize, b: u8) -> usize
-    ensures { Wrote (hex_byte b) out.old at out.new result }
-{
-    let o = put_byte(out, at, digit(b / 16));
-    put_byte(out, o, digit(b % 16))
-}
-
-// Bytes as hex digits, two each.
-pub fn put_hex(out: &mut [u8], at: usize, bytes: &[u8]) -> usize
-    ensures { Wrote (each hex_byte bytes.now) out.old at out.new result }
-{
-    let mut i = 0;
-    let mut o = at;
-    while i < bytes.len() {
-        o = put_hex_byte(out, o, bytes[i]);
-        i += 1;
-    }
-    o
-}
-
-// A space and the number.
-pub fn put_number(out: &mut [u8], at: usize, n: u64) -> usize
-    ensures { Wrote (spaced n) out.old at out.new result }
-{
-    let o = put_byte(out, at, b' ');
-    put_decimal(out, o, n)
 }

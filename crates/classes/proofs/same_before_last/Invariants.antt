@@ -6,6 +6,3 @@ use Rattle.classes.proofs.same_before_last.Given as goal
 
 abbrev pub invariant-loop-i : goal.invariant-loop-i
 invariant-loop-i l = (same_bytes (drop (l.i - 1) l.a) (drop (l.i - 1) l.b) ≡ same_bytes l.a l.b) × ((1 ≤ l.i) × (l.i - 1 ≤ length l.a - 1))
-
-abbrev pub decreases-loop-i : goal.decreases-loop-i
-decreases-loop-i l = length l.a - l.i

@@ -1,13 +1,10 @@
-use mathlib.Core.Path.{refl}
-use Prim.Native.Nat.{◌-◌}
-use native.Mathlib.Omega.{arith}
-use Rattle.cli_places.specs.Lines.{breaks_before}
-use Rattle.cli_places.proofs.LineLaws.{breaks_more}
+use Rattle.std.proofs.Common.{rules, ◌≡◌, take}
+use Rattle.std.specs.List.{count_by}
+use lib.Dec.{eqb}
+use Rattle.cli_places.proofs.LineLaws.{breaks_are}
 use Rattle.cli_places.proofs.line_of.Goals as goal
 
-pub loop-i-init : goal.loop-i-init
-unfolding breaks_before
-loop-i-init c = (refl, omega arith, omega arith)
-
-pub loop-i-preserved : goal.loop-i-preserved
-loop-i-preserved c = (omega (arith, c.breaks-n.ensures.0, breaks_more c.args.s.now c.loop-i.i), omega arith, omega (arith, c.breaks-n.ensures.1))
+pub returns : goal.returns
+returns c =
+    let counted : c.count.result ≡ count_by (λ b. eqb b 10) (take c.args.place c.args.s.now) = search rules in
+    rw (breaks_are c.args.s.now c.args.place c.requires.0, counted)

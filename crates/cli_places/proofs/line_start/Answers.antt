@@ -1,13 +1,9 @@
-use mathlib.Core.Path.{sym, ◌∙◌}
-use borrow.Author.Rules.{rules}
-use Rattle.cli_places.proofs.LineLaws.{starts_behind, starts_before, starts_first}
+use Rattle.std.proofs.Common.{rules, arith}
+use Rattle.cli_places.proofs.LineLaws.{last_start, no_start}
 use Rattle.cli_places.proofs.line_start.Goals as goal
 
-pub returns-then-s-i-eq10 : goal.returns-then-s-i-eq10
-returns-then-s-i-eq10 c = (sym (c.loop-i.invariant.0 ∙ starts_behind c.args.s.now c.loop-i.i c.loop-i-test.true c.if-s-i-eq10.true), search rules)
+pub returns-in-Some : goal.returns-in-Some
+returns-in-Some c = last_start c.args.s.now c.args.place c.in-Some.i c.requires (search rules) (search rules) (search rules)
 
-pub loop-i-preserved : goal.loop-i-preserved
-loop-i-preserved c = (c.loop-i.invariant.0 ∙ starts_before c.args.s.now c.loop-i.i c.loop-i-test.true c.if-s-i-eq10.false, search rules)
-
-pub returns : goal.returns
-returns c = (sym (c.loop-i.invariant.0 ∙ starts_first c.args.s.now c.loop-i.i c.loop-i-test.false), search rules)
+pub returns-in-None : goal.returns-in-None
+returns-in-None c = (no_start c.args.s.now c.args.place c.requires (search rules), omega arith)

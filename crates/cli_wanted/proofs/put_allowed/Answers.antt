@@ -1,21 +1,28 @@
-use borrow.Author.Tests.{eq-eqb, ne_eqb}
+use mathlib.Core.Path.{◌≡◌}
+use borrow.Author.Rules.{rules}
+use borrow.Author.Tests.{ne_eqb}
 use Rattle.text.proofs.Writing.{both}
 use Rattle.cli_wording.specs.Sayings.{bytes}
 use Rattle.cli_wanted.specs.Wanted.{allowed_text}
 use Rattle.cli_wanted.proofs.put_allowed.Goals as goal
 
-pub returns-then-kind-eq-INT : goal.returns-then-kind-eq-INT
+pub returns-in-3 : goal.returns-in-3
 unfolding allowed_text bytes
-returns-then-kind-eq-INT c = rw (← c.kind_at-kind.ensures, eq-eqb _ 3 c.if-kind-eq-INT.true) (both c.put_text-o.ensures c.put_span.ensures)
+returns-in-3 c = rw (← c.kind_at.ensures, c.in-3.is) (both c.text.ensures c.put_span.ensures)
 
-pub returns-then-kind-eq-DATE : goal.returns-then-kind-eq-DATE
+pub returns-in-6 : goal.returns-in-6
 unfolding allowed_text bytes
-returns-then-kind-eq-DATE c = rw (← c.kind_at-kind.ensures, ne_eqb _ 3 c.if-kind-eq-INT.false, eq-eqb _ 6 c.if-kind-eq-DATE.true) c.put_text.ensures
+returns-in-6 c = rw (← c.kind_at.ensures, c.in-6.is) c.text-in-6.ensures
 
-pub returns-then-kind-eq-TIME : goal.returns-then-kind-eq-TIME
+pub returns-in-7 : goal.returns-in-7
 unfolding allowed_text bytes
-returns-then-kind-eq-TIME c = rw (← c.kind_at-kind.ensures, ne_eqb _ 3 c.if-kind-eq-INT.false, ne_eqb _ 6 c.if-kind-eq-DATE.false, eq-eqb _ 7 c.if-kind-eq-TIME.true) c.put_text-then-kind-eq-TIME.ensures
+returns-in-7 c = rw (← c.kind_at.ensures, c.in-7.is) c.text-in-7.ensures
 
-pub returns : goal.returns
+pub returns-in_default : goal.returns-in_default
 unfolding allowed_text bytes
-returns c = rw (← c.kind_at-kind.ensures, ne_eqb _ 3 c.if-kind-eq-INT.false, ne_eqb _ 6 c.if-kind-eq-DATE.false, ne_eqb _ 7 c.if-kind-eq-TIME.false) (both (both c.put_text-o-2.ensures c.put_span-o.ensures) c.put_text-2.ensures)
+returns-in_default c =
+    let no_int : c.kind_at.result ≡ 3 → ⊥ = search rules in
+    let no_date : c.kind_at.result ≡ 6 → ⊥ = search rules in
+    let no_time : c.kind_at.result ≡ 7 → ⊥ = search rules in
+    rw (← c.kind_at.ensures, ne_eqb _ 3 no_int, ne_eqb _ 6 no_date, ne_eqb _ 7 no_time)
+    (both (both c.text-in_default.ensures c.put_span-in_default.ensures) c.text-in_default-2.ensures)

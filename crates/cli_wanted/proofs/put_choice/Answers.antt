@@ -4,8 +4,8 @@ use Rattle.cli_wanted.proofs.put_choice.Goals as goal
 
 pub returns-then-choice : goal.returns-then-choice
 unfolding choice_text bytes
-returns-then-choice c = rw c.if-choice.true c.put_text.ensures
+returns-then-choice c = rw c.if-choice.true c.text.ensures
 
-pub returns : goal.returns
+pub returns-else-choice : goal.returns-else-choice
 unfolding choice_text bytes
-returns c = rw c.if-choice.false c.put_byte.ensures
+returns-else-choice c = rw c.if-choice.false c.byte.ensures

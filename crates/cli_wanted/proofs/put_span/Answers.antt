@@ -5,4 +5,4 @@ use Rattle.cli_wanted.proofs.put_span.Goals as goal
 
 pub returns : goal.returns
 unfolding span_text bytes
-returns c = rw (← c.least_at.ensures, ← c.most_at.ensures) (both (both c.put_int-o.ensures c.put_text-o.ensures) c.put_int.ensures)
+returns c = rw (← c.least_at.ensures, ← c.most_at.ensures) (both (both c.put_int.ensures c.text.ensures) c.put_int-2.ensures)

@@ -5,4 +5,4 @@ use Rattle.cli_wanted.proofs.put_wanted.Goals as goal
 
 pub returns : goal.returns
 unfolding wanted_text bytes
-returns c = rw (← c.is_choice.ensures, ← c.resolved.ensures, ← c.label_at.ensures) (both (both (both (both c.put_text-o.ensures c.put_type-o.ensures) c.put_byte-o.ensures) c.put_text-o-2.ensures) c.put_choice.ensures)
+returns c = rw (← c.is_choice.ensures, ← c.resolved.ensures, ← c.label_at.ensures) (both (both (both (both c.text.ensures c.put_type.ensures) c.byte.ensures) c.text-2.ensures) c.put_choice.ensures)

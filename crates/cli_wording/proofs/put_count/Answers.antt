@@ -3,10 +3,10 @@ use Rattle.text.proofs.Writing.{both, nothing}
 use Rattle.cli_wording.specs.Sayings.{counted, bytes}
 use Rattle.cli_wording.proofs.put_count.Goals as goal
 
-pub returns-then-count-eq1 : goal.returns-then-count-eq1
+pub returns-then-count-ne1 : goal.returns-then-count-ne1
 unfolding counted bytes
-returns-then-count-eq1 c = rw (eq-eqb _ 1 c.if-count-eq1.true) (both (both (both c.put_decimal-o.ensures c.put_byte-o.ensures) c.put_text-o.ensures) (nothing _ _))
+returns-then-count-ne1 c = rw (ne_eqb _ 1 c.if-count-ne1.true) (both (both (both c.decimal.ensures c.byte.ensures) c.text.ensures) c.byte-then-count-ne1.ensures)
 
-pub returns : goal.returns
+pub returns-else-count-ne1 : goal.returns-else-count-ne1
 unfolding counted bytes
-returns c = rw (ne_eqb _ 1 c.if-count-eq1.false) (both (both (both c.put_decimal-o.ensures c.put_byte-o.ensures) c.put_text-o.ensures) c.put_byte.ensures)
+returns-else-count-ne1 c = rw (eq-eqb _ 1 c.if-count-ne1.false) (both (both (both c.decimal.ensures c.byte.ensures) c.text.ensures) (nothing _))

@@ -4,4 +4,4 @@ use Rattle.cli_wording.proofs.put_explanation.Goals as goal
 
 pub returns : goal.returns
 unfolding explanation bytes
-returns c = both (both (both c.put_refused-o.ensures c.put_text-o.ensures) c.put_place_meaning-o.ensures) c.put_text.ensures
+returns c = both (both (both c.put_refused.ensures c.text.ensures) (rw c.place_meaning.ensures at c.text-2.ensures)) c.text-3.ensures

@@ -1,19 +1,19 @@
 use native.Mathlib.Omega.{arith}
-use mathlib.Core.Path.{sym, ◌∙◌}
-use Rattle.definition.proofs.Order.{at_seven, past_seven, at_eight, past_eight, at_nine, past_nine, at_ten, past_ten}
+use mathlib.Core.Path.{sym, ap, ◌∙◌}
+use Rattle.std.proofs.Common.{rules, ◌≡◌, Err}
+use Rattle.numbers.specs.declared.Rule.TheVariants.{LabelTwice, Target}
+use Rattle.definition.specs.Answers.{refused_at, stop_finding}
+use Rattle.definition.proofs.Order.{at_seven, at_eight, at_nine, at_ten}
 use Rattle.definition.proofs.record_fault.Goals as goal
 
-pub returns-in-At : goal.returns-in-At
-returns-in-At c = λ w. at_seven c.args.text.now c.args.cells.now c.args.table.now c.args.unpacked.now c.args.n _ _ (sym c.in-At.is ∙ c.least_fault.ensures)
+pub returns-in_err-refuse : goal.returns-in_err-refuse
+returns-in_err-refuse c = λ n w. let q : c.from_residual.result ≡ Err c.in_err-refuse.field-0.0 = search rules in rw q (at_seven c.args.noted.now.text.now c.args.noted.now.cells.now c.args.noted.now.count c.args.records.now n _ (search rules) _ (sym c.refuse.ensures ∙ c.in_err-refuse.was))
 
-pub returns-in-At-lesser : goal.returns-in-At-lesser
-returns-in-At-lesser c = λ w. at_eight c.args.text.now c.args.cells.now c.args.table.now c.args.unpacked.now c.args.n _ _ _ (past_seven c.args.text.now c.args.cells.now c.args.table.now c.args.unpacked.now c.args.n _ (sym c.in-Nowhere.is ∙ c.least_fault.ensures)) c.repeated_name-names.ensures c.repeated_tag-tags.ensures (sym c.in-At-lesser.is ∙ c.lesser.ensures)
+pub returns-in_err-refuse-2 : goal.returns-in_err-refuse-2
+returns-in_err-refuse-2 c = λ n w. let q : c.from_residual-in_err-refuse-2.result ≡ Err c.in_err-refuse-2.field-0.0 = search rules in rw q (at_eight c.args.noted.now.text.now c.args.noted.now.cells.now c.args.noted.now.count c.args.records.now n _ (search rules) _ (sym c.refuse.ensures ∙ c.in_ok-refuse.was) _ _ c.repeated_name-names.ensures c.repeated_tag-tags.ensures _ (sym (c.refuse-2.ensures ∙ ap (refused_at LabelTwice) c.lesser.ensures) ∙ c.in_err-refuse-2.was))
 
-pub returns-in-At-lesser-2 : goal.returns-in-At-lesser-2
-returns-in-At-lesser-2 c = λ w. at_nine c.args.text.now c.args.cells.now c.args.table.now c.args.unpacked.now c.args.n _ _ _ _ (past_seven c.args.text.now c.args.cells.now c.args.table.now c.args.unpacked.now c.args.n _ (sym c.in-Nowhere.is ∙ c.least_fault.ensures)) (past_eight c.args.text.now c.args.cells.now c.args.table.now c.args.unpacked.now c.args.n _ _ c.repeated_name-names.ensures c.repeated_tag-tags.ensures (sym c.in-Nowhere-lesser.is ∙ c.lesser.ensures)) c.least_fault-root.ensures c.dangling-lost.ensures (sym c.in-At-lesser-2.is ∙ c.lesser-2.ensures)
+pub returns-in_err-refuse-3 : goal.returns-in_err-refuse-3
+returns-in_err-refuse-3 c = λ n w. let q : c.from_residual-in_err-refuse-3.result ≡ Err c.in_err-refuse-3.field-0.0 = search rules in rw q (at_nine c.args.noted.now.text.now c.args.noted.now.cells.now c.args.noted.now.count c.args.records.now n _ (search rules) _ (sym c.refuse.ensures ∙ c.in_ok-refuse.was) _ _ c.repeated_name-names.ensures c.repeated_tag-tags.ensures _ (sym (c.refuse-2.ensures ∙ ap (refused_at LabelTwice) c.lesser.ensures) ∙ c.in_ok-refuse-2.was) _ _ c.root_no_struct-root.ensures c.dangling-lost.ensures _ (sym (c.refuse-3.ensures ∙ ap (refused_at Target) c.lesser-2.ensures) ∙ c.in_err-refuse-3.was))
 
-pub returns-in-At-least_fault : goal.returns-in-At-least_fault
-returns-in-At-least_fault c = λ w. at_ten c.args.text.now c.args.cells.now c.args.table.now c.args.unpacked.now c.args.n (past_seven c.args.text.now c.args.cells.now c.args.table.now c.args.unpacked.now c.args.n _ (sym c.in-Nowhere.is ∙ c.least_fault.ensures)) (past_eight c.args.text.now c.args.cells.now c.args.table.now c.args.unpacked.now c.args.n _ _ c.repeated_name-names.ensures c.repeated_tag-tags.ensures (sym c.in-Nowhere-lesser.is ∙ c.lesser.ensures)) (past_nine c.args.text.now c.args.cells.now c.args.table.now c.args.unpacked.now c.args.n _ _ _ c.least_fault-root.ensures c.dangling-lost.ensures (sym c.in-Nowhere-lesser-2.is ∙ c.lesser-2.ensures)) _ (c.finites.ensures w (omega (arith, c.requires.0, c.blank_marks-have.ensures)) (omega (arith, c.requires.0, c.blank_marks-rest.ensures))) _ (sym c.in-At-least_fault.is ∙ c.least_fault-2.ensures)
-
-pub returns-in-Nowhere-least_fault : goal.returns-in-Nowhere-least_fault
-returns-in-Nowhere-least_fault c = λ w. past_ten c.args.text.now c.args.cells.now c.args.table.now c.args.unpacked.now c.args.n (past_seven c.args.text.now c.args.cells.now c.args.table.now c.args.unpacked.now c.args.n _ (sym c.in-Nowhere.is ∙ c.least_fault.ensures)) (past_eight c.args.text.now c.args.cells.now c.args.table.now c.args.unpacked.now c.args.n _ _ c.repeated_name-names.ensures c.repeated_tag-tags.ensures (sym c.in-Nowhere-lesser.is ∙ c.lesser.ensures)) (past_nine c.args.text.now c.args.cells.now c.args.table.now c.args.unpacked.now c.args.n _ _ _ c.least_fault-root.ensures c.dangling-lost.ensures (sym c.in-Nowhere-lesser-2.is ∙ c.lesser-2.ensures)) _ (c.finites.ensures w (omega (arith, c.requires.0, c.blank_marks-have.ensures)) (omega (arith, c.requires.0, c.blank_marks-rest.ensures))) (sym c.in-Nowhere-least_fault.is ∙ c.least_fault-2.ensures)
+pub returns : goal.returns
+returns c = λ n w. ap stop_finding c.refuse-4.ensures ∙ at_ten c.args.noted.now.text.now c.args.noted.now.cells.now c.args.noted.now.count c.args.records.now n _ (search rules) _ (sym c.refuse.ensures ∙ c.in_ok-refuse.was) _ _ c.repeated_name-names.ensures c.repeated_tag-tags.ensures _ (sym (c.refuse-2.ensures ∙ ap (refused_at LabelTwice) c.lesser.ensures) ∙ c.in_ok-refuse-2.was) _ _ c.root_no_struct-root.ensures c.dangling-lost.ensures _ (sym (c.refuse-3.ensures ∙ ap (refused_at Target) c.lesser-2.ensures) ∙ c.in_ok-refuse-3.was) _ (c.finites.ensures w (omega arith) (omega arith)) _ c.endless.ensures

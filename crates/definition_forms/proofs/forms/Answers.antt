@@ -1,19 +1,38 @@
-use mathlib.Core.Path.{refl, ap, ◌∙◌}
-use Prim.Native.Nat.{◌-◌}
+use Rattle.std.proofs.Common.{rules, ◌≡◌}
+use mathlib.Core.Path.{sym, ap, ◌∙◌}
 use native.Mathlib.Omega.{arith}
 use lib.ListN.{length}
 use Rattle.definition_automaton.specs.Acts.{act_of}
+use Rattle.definition_automaton.specs.States.{context_of}
+use Rattle.definition_automaton.specs.declared.Token.TheVariants.{End}
+use Rattle.definition_automaton.specs.Codes.{token_number, mode_number, act_number, answer_number, stand_of, hand_of}
+use Rattle.definition_forms.proofs.KindLaws.{end_is, some_act}
 use Rattle.definition_forms.proofs.Loop.{inv_start, inv_stuck, note_length, inv_step, inv_end}
 use Rattle.definition_forms.proofs.forms.Goals as goal
 
 pub loop-x-init : goal.loop-x-init
-loop-x-init c = ((λ clean. inv_start _ _ _ _ _ clean c.seen_from-x.ensures c.start-st.ensures c.nothing-p.ensures), (0, c.seen_from-x.ensures), c.requires.parameter_limit_in_bounds, refl, c.requires.text_len_bound)
+loop-x-init c = record { read = λ clean. inv_start _ _ _ _ _ clean c.seen_from-x.ensures c.start-st.ensures c.nothing-p.ensures; at = 0; sees = c.seen_from-x.ensures; room = c.requires.parameter_limit_in_bounds; short = c.requires.text_len_bound }
 
-pub returns-then-a-eq-STUCK : goal.returns-then-a-eq-STUCK
-returns-then-a-eq-STUCK c = λ clean. inv_stuck (c.loop-x.invariant.0 clean) c.act-a.result (c.act-a.ensures ∙ ap (λ d. act_of c.loop-x.st.mode d c.loop-x.p.kind c.loop-x.x.kind) c.context.ensures) c.loop-x-test.true c.if-a-eq-STUCK.true
+pub returns-in_default : goal.returns-in_default
+returns-in_default c =
+    let z : c.loop-x.x.kind ≡ End → ⊥ = search rules in
+    let f : answer_number c.act.result ≡ act_of (mode_number c.loop-x.st.mode) (context_of (stand_of c.loop-x.st)) (token_number c.loop-x.p.kind) (token_number c.loop-x.x.kind) = c.act.ensures ∙ ap (λ d. act_of (mode_number c.loop-x.st.mode) d (token_number c.loop-x.p.kind) (token_number c.loop-x.x.kind)) c.context.ensures in
+    λ clean. inv_stuck (c.loop-x.invariant.read clean) (answer_number c.act.result) f (λ e. z (end_is _ e)) (ap answer_number c.in_default.is) _ c.stuck.ensures
 
 pub loop-x-preserved : goal.loop-x-preserved
-loop-x-preserved c = ((λ clean. inv_step (c.loop-x.invariant.0 clean) c.act-a.result (c.act-a.ensures ∙ ap (λ d. act_of c.loop-x.st.mode d c.loop-x.p.kind c.loop-x.x.kind) c.context.ensures) c.loop-x.invariant.4 c.loop-x.invariant.2 c.loop-x-test.true c.if-a-eq-STUCK.false _ c.seen_from-x-in-loop-x.ensures _ _ _ c.acted-st.ensures c.read-p.ensures c.note.ensures), (c.loop-x.x.end, c.seen_from-x-in-loop-x.ensures), omega (arith, (ap length c.note.ensures ∙ note_length c.loop-x.st c.loop-x.p c.act-a.result c.loop-x.cells), c.loop-x.invariant.2), (ap length c.note.ensures ∙ note_length c.loop-x.st c.loop-x.p c.act-a.result c.loop-x.cells) ∙ c.loop-x.invariant.3, c.loop-x.invariant.4)
+loop-x-preserved c =
+    let z : c.loop-x.x.kind ≡ End → ⊥ = search rules in
+    let f : act_number c.in-Some.act ≡ act_of (mode_number c.loop-x.st.mode) (context_of (stand_of c.loop-x.st)) (token_number c.loop-x.p.kind) (token_number c.loop-x.x.kind) = sym (ap answer_number c.in-Some.is) ∙ (c.act.ensures ∙ ap (λ d. act_of (mode_number c.loop-x.st.mode) d (token_number c.loop-x.p.kind) (token_number c.loop-x.x.kind)) c.context.ensures) in
+    let n : length c.note.new.cells ≡ length c.loop-x.cells = ap length c.note.ensures ∙ note_length (stand_of c.loop-x.st) (hand_of c.loop-x.p) (act_number c.in-Some.act) c.loop-x.cells in
+    record {
+      read = λ clean. inv_step (c.loop-x.invariant.read clean) (act_number c.in-Some.act) f c.loop-x.invariant.short c.loop-x.invariant.room (λ e. z (end_is _ e)) (some_act _) _ c.seen_from-x-in-loop-x.ensures _ _ _ c.acted-st.ensures c.read-p.ensures c.note.ensures;
+      at = c.loop-x.x.end;
+      sees = c.seen_from-x-in-loop-x.ensures;
+      room = omega arith;
+      short = c.loop-x.invariant.short;
+    }
 
 pub returns : goal.returns
-returns c = λ clean. inv_end (c.loop-x.invariant.0 clean) c.loop-x-test.false _ c.finish.ensures
+returns c =
+    let z : c.loop-x.x.kind ≡ End = search rules in
+    λ clean. inv_end (c.loop-x.invariant.read clean) (ap token_number z) _ c.finish.ensures

@@ -1,14 +1,11 @@
-use mathlib.Core.Path.{sym, ◌∙◌}
-use Prim.Native.Nat.{◌-◌}
-use native.Mathlib.Omega.{arith}
-use Rattle.definition_headings.proofs.HeadLaws.{find_yes, find_no, find_end, found, not_found}
+use Rattle.std.proofs.Common.{rules}
+use borrow.Author.Tests.{tests}
+use Rattle.std.proofs.lemmas.Iterator.{first_from_Range}
+use Rattle.std.proofs.Common.{◌≡◌, true, false}
+use Rattle.definition_headings.specs.Heads.{is_named_at}
+use Rattle.definition_headings.proofs.HeadLaws.{first_top}
 use Rattle.definition_headings.proofs.find_top.Goals as goal
 
-pub returns-then-is_named : goal.returns-then-is_named
-returns-then-is_named c = found c.args.text.now c.args.cells.now c.args.n c.args.w.now _ (c.loop-j.invariant.0 ∙ find_yes c.args.text.now c.args.cells.now c.args.n _ c.args.w.now c.loop-j-test.true (sym c.is_named.ensures ∙ c.if-is_named.true))
-
-pub loop-j-preserved : goal.loop-j-preserved
-loop-j-preserved c = (c.loop-j.invariant.0 ∙ find_no c.args.text.now c.args.cells.now c.args.n _ c.args.w.now c.loop-j-test.true (sym c.is_named.ensures ∙ c.if-is_named.false), omega arith)
-
 pub returns : goal.returns
-returns c = not_found c.args.text.now c.args.cells.now c.args.n c.args.w.now (c.loop-j.invariant.0 ∙ find_end c.args.text.now c.args.cells.now c.args.n _ c.args.w.now c.loop-j-test.false)
+returns c = first_top c.args.noted.now.text.now c.args.noted.now.cells.now c.args.noted.now.count c.args.w.now _
+    (first_from_Range _ _ _ _ (λ j. is_named_at c.args.noted.now.text.now c.args.noted.now.cells.now j c.args.w.now ≡ true) (λ j. is_named_at c.args.noted.now.text.now c.args.noted.now.cells.now j c.args.w.now ≡ false) c.find.ensures.ran (λ x q k. search (rules, tests)) (λ x q k. search (rules, tests)))

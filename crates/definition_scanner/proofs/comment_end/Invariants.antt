@@ -1,11 +1,8 @@
 use mathlib.Core.Path.{◌≡◌}
-use Prim.Native.Nat.{ℕ, ◌-◌, ◌≤◌}
-use lib.ListN.{length, drop}
+use Prim.Native.Nat.{ℕ}
+use lib.ListN.{drop}
 use Rattle.definition_rules.specs.Scan.{scan, comment}
 use Rattle.definition_scanner.proofs.comment_end.Given as goal
 
 abbrev pub invariant-loop-at : goal.invariant-loop-at
-invariant-loop-at l = ((q : ℕ) → scan (comment q) l.from (drop l.from l.text) ≡ scan (comment q) l.at (drop l.at l.text)) × (l.from ≤ l.at) × (l.at ≤ length l.text)
-
-abbrev pub decreases-loop-at : goal.decreases-loop-at
-decreases-loop-at l = length l.text - l.at
+invariant-loop-at l = (q : ℕ) → scan (comment q) l.from (drop l.from l.text) ≡ scan (comment q) l.at (drop l.at l.text)

@@ -8,13 +8,9 @@ pub returns-then-b-eq123 : goal.returns-then-b-eq123
 unfolding braces_after pick
 returns-then-b-eq123 c = simp (eq-eqb _ _ c.if-b-eq123.true) (omega arith)
 
-pub returns-then-deep-eq0 : goal.returns-then-deep-eq0
-unfolding braces_after pick
-returns-then-deep-eq0 c = simp (ne_eqb _ _ c.if-b-eq123.false, eq-eqb _ _ c.if-b-eq125.true) (omega arith)
-
 pub returns-then-b-eq125 : goal.returns-then-b-eq125
 unfolding braces_after pick
-returns-then-b-eq125 c = simp (ne_eqb _ _ c.if-b-eq123.false, eq-eqb _ _ c.if-b-eq125.true)
+returns-then-b-eq125 c = simp (ne_eqb _ _ c.if-b-eq123.false, eq-eqb _ _ c.if-b-eq125.true) (omega arith)
 
 pub returns : goal.returns
 unfolding braces_after pick

@@ -7,7 +7,4 @@ use Rattle.definition_writer.specs.Written.{records_written, records_after, enco
 use Rattle.definition_writer.proofs.write_records.Given as goal
 
 abbrev pub invariant-loop-i : goal.invariant-loop-i
-invariant-loop-i l = (length (encode (records_written l.text l.cells l.n)) ≡ l.at + length (encode (records_after l.text l.cells l.n l.i))) × (sets l.initial.table 0 (encode_cut (records_written l.text l.cells l.n)) ≡ sets l.table l.at (encode_cut (records_after l.text l.cells l.n l.i))) × (l.at ≤ 65559 * l.i) × (l.i ≤ l.n) × (length l.table ≡ length l.initial.table)
-
-abbrev pub decreases-loop-i : goal.decreases-loop-i
-decreases-loop-i l = l.n - l.i
+invariant-loop-i l = (length (encode (records_written l.noted.text.now l.noted.cells.now l.noted.count)) ≡ l.at + length (encode (records_after l.noted.text.now l.noted.cells.now l.noted.count l.i))) × (sets l.initial.table 0 (encode_cut (records_written l.noted.text.now l.noted.cells.now l.noted.count)) ≡ sets l.table l.at (encode_cut (records_after l.noted.text.now l.noted.cells.now l.noted.count l.i))) × (l.at ≤ 65559 * l.i) × (l.i ≤ l.noted.count) × (length l.table ≡ length l.initial.table)

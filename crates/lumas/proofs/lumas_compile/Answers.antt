@@ -1,26 +1,21 @@
-use Rattle.lumas.proofs.Hearing.{told_table, told_refusal}
+use mathlib.Core.Path.{◌∙◌}
+use Rattle.lumas.proofs.Hearing.{told_compile}
 use Rattle.lumas.proofs.lumas_compile.Goals as goal
 
-pub returns-in-Table-clause-value : goal.returns-in-Table-clause-value
-returns-in-Table-clause-value c = let t = told_table _ _ _ (rw c.in-Table.is at c.compile.ensures.result_value) (rw c.in-Table.is at c.compile.ensures.stuck_promise, rw c.in-Table.is at c.compile.ensures.endless_promise) in t.number
+pub returns-clause-number : goal.returns-clause-number
+returns-clause-number c = let t = told_compile _ _ c.compile.result c.compile.ensures.result_value c.compile.ensures.stuck_promise c.compile.ensures.endless_promise in c.told.ensures.number ∙ t.number
 
-pub returns-in-Table-clause-value_after : goal.returns-in-Table-clause-value_after
-returns-in-Table-clause-value_after c = let t = told_table _ _ _ (rw c.in-Table.is at c.compile.ensures.result_value) (rw c.in-Table.is at c.compile.ensures.stuck_promise, rw c.in-Table.is at c.compile.ensures.endless_promise) in t.value
+pub returns-clause-value_after : goal.returns-clause-value_after
+returns-clause-value_after c = let t = told_compile _ _ c.compile.result c.compile.ensures.result_value c.compile.ensures.stuck_promise c.compile.ensures.endless_promise in c.told.ensures.value_after ∙ t.value
 
-pub returns-in-Refused-clause-value : goal.returns-in-Refused-clause-value
-returns-in-Refused-clause-value c = let t = told_refusal _ _ _ _ (rw c.in-Refused.is at c.compile.ensures.result_value) (rw c.in-Refused.is at c.compile.ensures.stuck_promise, rw c.in-Refused.is at c.compile.ensures.endless_promise) in t.number
+pub returns-clause-heard : goal.returns-clause-heard
+returns-clause-heard c = let t = told_compile _ _ c.compile.result c.compile.ensures.result_value c.compile.ensures.stuck_promise c.compile.ensures.endless_promise in rw (c.told.ensures.number, c.told.ensures.value_after) t.heard
 
-pub returns-in-Refused-clause-value_after : goal.returns-in-Refused-clause-value_after
-returns-in-Refused-clause-value_after c = let t = told_refusal _ _ _ _ (rw c.in-Refused.is at c.compile.ensures.result_value) (rw c.in-Refused.is at c.compile.ensures.stuck_promise, rw c.in-Refused.is at c.compile.ensures.endless_promise) in t.value
+pub returns-clause-stuck_promise : goal.returns-clause-stuck_promise
+returns-clause-stuck_promise c = let t = told_compile _ _ c.compile.result c.compile.ensures.result_value c.compile.ensures.stuck_promise c.compile.ensures.endless_promise in rw (c.told.ensures.number, c.told.ensures.value_after) t.stuck
 
-pub returns-in-Refused-clause-value_after_2 : goal.returns-in-Refused-clause-value_after_2
-returns-in-Refused-clause-value_after_2 c = let t = told_refusal _ _ _ _ (rw c.in-Refused.is at c.compile.ensures.result_value) (rw c.in-Refused.is at c.compile.ensures.stuck_promise, rw c.in-Refused.is at c.compile.ensures.endless_promise) in t.heard
+pub returns-clause-endless_promise : goal.returns-clause-endless_promise
+returns-clause-endless_promise c = let t = told_compile _ _ c.compile.result c.compile.ensures.result_value c.compile.ensures.stuck_promise c.compile.ensures.endless_promise in rw (c.told.ensures.number, c.told.ensures.value_after) t.endless
 
-pub returns-in-Refused-clause-stuck_promise : goal.returns-in-Refused-clause-stuck_promise
-returns-in-Refused-clause-stuck_promise c = let t = told_refusal _ _ _ _ (rw c.in-Refused.is at c.compile.ensures.result_value) (rw c.in-Refused.is at c.compile.ensures.stuck_promise, rw c.in-Refused.is at c.compile.ensures.endless_promise) in t.stuck
-
-pub returns-in-Refused-clause-endless_promise : goal.returns-in-Refused-clause-endless_promise
-returns-in-Refused-clause-endless_promise c = let t = told_refusal _ _ _ _ (rw c.in-Refused.is at c.compile.ensures.result_value) (rw c.in-Refused.is at c.compile.ensures.stuck_promise, rw c.in-Refused.is at c.compile.ensures.endless_promise) in t.endless
-
-pub returns-in-Refused-clause-fact : goal.returns-in-Refused-clause-fact
-returns-in-Refused-clause-fact c = let t = told_refusal _ _ _ _ (rw c.in-Refused.is at c.compile.ensures.result_value) (rw c.in-Refused.is at c.compile.ensures.stuck_promise, rw c.in-Refused.is at c.compile.ensures.endless_promise) in t.fits
+pub returns-clause-fits : goal.returns-clause-fits
+returns-clause-fits c = let t = told_compile _ _ c.compile.result c.compile.ensures.result_value c.compile.ensures.stuck_promise c.compile.ensures.endless_promise in rw c.told.ensures.number t.fits

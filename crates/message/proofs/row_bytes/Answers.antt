@@ -10,19 +10,19 @@ pub returns-then-rows-row-clause-ref_ptr_value : goal.returns-then-rows-row-clau
 returns-then-rows-row-clause-ref_ptr_value c = let x = bytes_lost _ _ _ c.if-rows-row.true in c.empty_part.ensures.ref_ptr_value ∙ ap (further c.args.message.ref_ptr) x.1
 
 pub returns-then-end-start-clause-result_value : goal.returns-then-end-start-clause-result_value
-returns-then-end-start-clause-result_value c = let x = bytes_back _ _ _ c.if-rows-row.false (rw (c.u32_as_usize-end.ensures.0, c.u32_as_usize-start.ensures.0) at c.if-end-start.true) in c.empty_part-then-end-start.ensures.result_value ∙ x.0
+returns-then-end-start-clause-result_value c = let x = bytes_back _ _ _ c.if-rows-row.false c.if-end-start.true in c.empty_part-then-end-start.ensures.result_value ∙ x.0
 
 pub returns-then-end-start-clause-ref_ptr_value : goal.returns-then-end-start-clause-ref_ptr_value
-returns-then-end-start-clause-ref_ptr_value c = let x = bytes_back _ _ _ c.if-rows-row.false (rw (c.u32_as_usize-end.ensures.0, c.u32_as_usize-start.ensures.0) at c.if-end-start.true) in c.empty_part-then-end-start.ensures.ref_ptr_value ∙ ap (further c.args.message.ref_ptr) x.1
+returns-then-end-start-clause-ref_ptr_value c = let x = bytes_back _ _ _ c.if-rows-row.false c.if-end-start.true in c.empty_part-then-end-start.ensures.ref_ptr_value ∙ ap (further c.args.message.ref_ptr) x.1
 
 pub returns-then-message-end-clause-result_value : goal.returns-then-message-end-clause-result_value
-returns-then-message-end-clause-result_value c = let x = bytes_over _ _ _ c.if-rows-row.false (rw (c.u32_as_usize-end.ensures.0, c.u32_as_usize-start.ensures.0) at c.if-end-start.false) (rw c.u32_as_usize-end.ensures.0 at c.if-message-end.true) in c.empty_part-then-message-end.ensures.result_value ∙ x.0
+returns-then-message-end-clause-result_value c = let x = bytes_over _ _ _ c.if-rows-row.false c.if-end-start.false c.if-message-end.true in c.empty_part-then-message-end.ensures.result_value ∙ x.0
 
 pub returns-then-message-end-clause-ref_ptr_value : goal.returns-then-message-end-clause-ref_ptr_value
-returns-then-message-end-clause-ref_ptr_value c = let x = bytes_over _ _ _ c.if-rows-row.false (rw (c.u32_as_usize-end.ensures.0, c.u32_as_usize-start.ensures.0) at c.if-end-start.false) (rw c.u32_as_usize-end.ensures.0 at c.if-message-end.true) in c.empty_part-then-message-end.ensures.ref_ptr_value ∙ ap (further c.args.message.ref_ptr) x.1
+returns-then-message-end-clause-ref_ptr_value c = let x = bytes_over _ _ _ c.if-rows-row.false c.if-end-start.false c.if-message-end.true in c.empty_part-then-message-end.ensures.ref_ptr_value ∙ ap (further c.args.message.ref_ptr) x.1
 
 pub returns-clause-result_value : goal.returns-clause-result_value
-returns-clause-result_value c = let x = bytes_there _ _ _ c.if-rows-row.false (rw (c.u32_as_usize-end.ensures.0, c.u32_as_usize-start.ensures.0) at c.if-end-start.false) (rw c.u32_as_usize-end.ensures.0 at c.if-message-end.false) in rw (c.u32_as_usize-start.ensures.0, c.u32_as_usize-end.ensures.0) x.0
+returns-clause-result_value c = let x = bytes_there _ _ _ c.if-rows-row.false c.if-end-start.false c.if-message-end.false in x.0
 
 pub returns-clause-ref_ptr_value : goal.returns-clause-ref_ptr_value
-returns-clause-ref_ptr_value c = let x = bytes_there _ _ _ c.if-rows-row.false (rw (c.u32_as_usize-end.ensures.0, c.u32_as_usize-start.ensures.0) at c.if-end-start.false) (rw c.u32_as_usize-end.ensures.0 at c.if-message-end.false) in rw c.u32_as_usize-start.ensures.0 (ap (further c.args.message.ref_ptr) x.1)
+returns-clause-ref_ptr_value c = let x = bytes_there _ _ _ c.if-rows-row.false c.if-end-start.false c.if-message-end.false in ap (further c.args.message.ref_ptr) x.1

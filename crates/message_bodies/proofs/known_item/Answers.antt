@@ -4,14 +4,14 @@ use Rattle.message_frame.proofs.AtToken.{step_of_equals}
 use Rattle.message_bodies.proofs.Parts.{known_again, known_bare}
 use Rattle.message_bodies.proofs.known_item.Goals as goal
 
-pub returns-then-mark_at : goal.returns-then-mark_at
-returns-then-mark_at c = λ vs next ks w i m h. known_again _ _ _ _ _ _ _ vs next ks w i m h (sym c.mark_at.ensures ∙ c.if-mark_at.true)
+pub returns-then-get_or : goal.returns-then-get_or
+returns-then-get_or c = λ vs next ks w i m h. known_again _ _ _ _ _ _ _ vs next ks w i m h (sym c.get_or.ensures ∙ c.if-get_or.true)
 
-pub returns-then-h-eq-EQUALS : goal.returns-then-h-eq-EQUALS
-returns-then-h-eq-EQUALS c = record { same = refl; new = sym c.mark_at.ensures ∙ c.if-mark_at.false; void = sym c.is_void.ensures ∙ c.if-is_void.false; place = c.head-h.result.start; step = step_of_equals _ _ _ c.head-h.result (c.head-h.ensures _) c.if-h-eq-EQUALS.true }
+pub returns-in-Equals : goal.returns-in-Equals
+returns-in-Equals c = record { same = refl; new = sym c.get_or.ensures ∙ c.if-get_or.false; void = sym c.is_void.ensures ∙ c.if-is_void.false; place = c.head-h.result.start; step = step_of_equals _ _ _ c.head-h.result (c.head-h.ensures _) c.in-Equals.is }
 
-pub overflow_add-result-2 : goal.overflow_add-result-2
-overflow_add-result-2 c = omega (arith, (c.head-h.ensures 0).within, c.requires.0)
+pub overflow_add-result-in_default : goal.overflow_add-result-in_default
+overflow_add-result-in_default c = omega (arith, (c.head-h.ensures 0).within, c.requires.0)
 
-pub returns : goal.returns
-returns c = λ vs next ks w i m h. known_bare _ _ _ _ _ _ _ vs next ks w i m h c.head-h.result (c.head-h.ensures _) (sym c.mark_at.ensures ∙ c.if-mark_at.false) (sym c.is_void.ensures ∙ c.if-is_void.false) c.if-h-eq-EQUALS.false
+pub returns-in_default : goal.returns-in_default
+returns-in_default c = λ vs next ks w i m h. known_bare _ _ _ _ _ _ _ vs next ks w i m h c.head-h.result (c.head-h.ensures _) (sym c.get_or.ensures ∙ c.if-get_or.false) (sym c.is_void.ensures ∙ c.if-is_void.false) c.in_default.not-Equals

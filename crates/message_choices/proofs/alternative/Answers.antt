@@ -1,20 +1,19 @@
 use mathlib.Core.Path.{sym, ◌∙◌}
 use native.Mathlib.Omega.{arith}
-use Rattle.table_tags.proofs.FoundLaws.{found_at, found_none}
 use Rattle.message_choices.proofs.Parts.{alternative_none, alternative_open, alternative_void, alternative_equals}
 use Rattle.message_choices.proofs.alternative.Goals as goal
 
+pub returns-in_default : goal.returns-in_default
+returns-in_default c = alternative_none c.args.records.now _ c.args.f _ _ _ 0 (sym (rw c.in_default.is at c.find.ensures))
+
 pub returns-then-is_void : goal.returns-then-is_void
-returns-then-is_void c = alternative_void _ _ _ _ c.args.f _ _ _ _ (found_at c.find.result _ _ c.in-At.is c.find.ensures) (sym c.is_void.ensures ∙ c.if-is_void.true)
+returns-then-is_void c = alternative_void c.args.records.now _ c.args.f _ _ _ _ (sym (rw c.in-Some.is at c.find.ensures)) (sym c.is_void.ensures ∙ c.if-is_void.true)
 
-pub returns-then-h-eq-EQUALS : goal.returns-then-h-eq-EQUALS
-returns-then-h-eq-EQUALS c = alternative_equals _ _ _ _ c.args.f _ _ _ _ c.head-h.result (found_at c.find.result _ _ c.in-At.is c.find.ensures) (sym c.is_void.ensures ∙ c.if-is_void.false) (c.head-h.ensures _) c.if-h-eq-EQUALS.true
+pub returns-in-Equals : goal.returns-in-Equals
+returns-in-Equals c = alternative_equals c.args.records.now _ c.args.f _ _ _ _ c.head-h.result (sym (rw c.in-Some.is at c.find.ensures)) (sym c.is_void.ensures ∙ c.if-is_void.false) (c.head-h.ensures _) c.in-Equals.is
 
-pub overflow_add-result-in-At : goal.overflow_add-result-in-At
-overflow_add-result-in-At c = omega (arith, (c.head-h.ensures 0).within, c.requires.s_bound.0)
+pub overflow_add-result-in_default-kind : goal.overflow_add-result-in_default-kind
+overflow_add-result-in_default-kind c = omega (arith, (c.head-h.ensures 0).within, c.requires.s_bound.0)
 
-pub returns-in-Nowhere : goal.returns-in-Nowhere
-returns-in-Nowhere c = alternative_none _ _ _ _ c.args.f _ _ _ 0 (found_none c.find.result _ c.in-Nowhere.is c.find.ensures)
-
-pub returns-else-h-eq-EQUALS : goal.returns-else-h-eq-EQUALS
-returns-else-h-eq-EQUALS c = alternative_open _ _ _ _ c.args.f _ _ _ _ c.head-h.result (found_at c.find.result _ _ c.in-At.is c.find.ensures) (sym c.is_void.ensures ∙ c.if-is_void.false) (c.head-h.ensures _) c.if-h-eq-EQUALS.false
+pub returns-in_default-kind : goal.returns-in_default-kind
+returns-in_default-kind c = alternative_open c.args.records.now _ c.args.f _ _ _ _ c.head-h.result (sym (rw c.in-Some.is at c.find.ensures)) (sym c.is_void.ensures ∙ c.if-is_void.false) (c.head-h.ensures _) c.in_default-kind.not-Equals

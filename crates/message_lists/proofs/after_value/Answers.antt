@@ -6,20 +6,17 @@ use Rattle.message_lists.proofs.after_value.Goals as goal
 pub returns-then-lo-c : goal.returns-then-lo-c
 returns-then-lo-c c = value_bare _ _ c.args.s.now _ _ _ (c.lacks_comma.ensures c.if-lacks_comma.true) (rw (← c.lo.ensures) c.if-lo-c.true)
 
+pub overflow_add-refusal : goal.overflow_add-refusal
+overflow_add-refusal c = omega (arith, (c.head-h.ensures 0).within, c.requires)
+
 pub returns-then-may_grow : goal.returns-then-may_grow
-returns-then-may_grow c = value_grows _ _ _ _ _ _ c.head-h.result (c.head-h.ensures _) c.if-h-eq-COMMA.true (rw (← c.hi.ensures) (sym c.may_grow.ensures ∙ c.if-may_grow.true))
+returns-then-may_grow c = value_grows _ _ _ _ _ _ c.head-h.result (c.head-h.ensures _) c.in-Comma.is (rw (← c.hi.ensures) (sym c.may_grow.ensures ∙ c.if-may_grow.true))
 
-pub overflow_add-result : goal.overflow_add-result
-overflow_add-result c = omega (arith, (c.head-h.ensures 0).within, c.requires)
-
-pub returns-then-h-eq-COMMA : goal.returns-then-h-eq-COMMA
-returns-then-h-eq-COMMA c = value_long _ _ _ _ _ _ c.head-h.result (c.head-h.ensures _) c.if-h-eq-COMMA.true (rw (← c.hi.ensures) (sym c.may_grow.ensures ∙ c.if-may_grow.false))
+pub returns-else-may_grow : goal.returns-else-may_grow
+returns-else-may_grow c = value_long _ _ _ _ _ _ c.head-h.result (c.head-h.ensures _) c.in-Comma.is (rw (← c.hi.ensures) (sym c.may_grow.ensures ∙ c.if-may_grow.false))
 
 pub returns-then-lo-c-2 : goal.returns-then-lo-c-2
-returns-then-lo-c-2 c = value_last _ _ _ _ _ _ c.head-h.result (c.head-h.ensures _) c.if-h-eq-COMMA.false (rw (← c.lo-2.ensures) c.if-lo-c-2.true)
+returns-then-lo-c-2 c = value_last _ _ _ _ _ _ c.head-h.result (c.head-h.ensures _) c.in_default.not-Comma (rw (← c.lo-in_default.ensures) c.if-lo-c-2.true)
 
-pub overflow_add-result-2 : goal.overflow_add-result-2
-overflow_add-result-2 c = omega (arith, (c.head-h.ensures 0).within, c.requires)
-
-pub returns : goal.returns
-returns c = value_short _ _ _ _ _ _ c.head-h.result (c.head-h.ensures _) c.if-h-eq-COMMA.false (rw (← c.lo-2.ensures) c.if-lo-c-2.false)
+pub returns-else-lo-c-2 : goal.returns-else-lo-c-2
+returns-else-lo-c-2 c = value_short _ _ _ _ _ _ c.head-h.result (c.head-h.ensures _) c.in_default.not-Comma (rw (← c.lo-in_default.ensures) c.if-lo-c-2.false)

@@ -7,14 +7,14 @@ use Rattle.message_lookup.proofs.Steps.{past, here}
 use Rattle.message_lookup.proofs.Judging.{value_blank}
 use Rattle.message_lookup.proofs.judge.Goals as goal
 
-pub returns-then-n-q : goal.returns-then-n-q
+pub returns-then-records-q-clause-number : goal.returns-then-records-q-clause-number
 unfolding schema_of
-returns-then-n-q c = value_blank c.args.text.now c.args.quoted ∙ past (λ (r : Record). value_number r (text_token c.args.quoted c.args.text.now)) c.args.table.now c.args.unpacked.now c.args.n c.args.q c.if-n-q.true
+returns-then-records-q-clause-number c = value_blank c.args.text.now c.args.quoted ∙ past (λ (r : Record). value_number r (text_token c.args.quoted c.args.text.now)) _ _ _ c.args.q c.if-records-q.true
 
-pub returns-then-quoted : goal.returns-then-quoted
+pub returns-then-quoted-clause-number : goal.returns-then-quoted-clause-number
 unfolding schema_of
-returns-then-quoted c = here (λ (r : Record). value_number r (text_token c.args.quoted c.args.text.now)) c.args.table.now c.args.unpacked.now c.args.n c.args.q c.if-n-q.false (rw c.if-quoted.true c.judge_string.ensures)
+returns-then-quoted-clause-number c = here (λ (r : Record). value_number r (text_token c.args.quoted c.args.text.now)) _ _ _ c.args.q c.if-records-q.false (rw c.if-quoted.true c.judge_string.ensures.number)
 
-pub returns : goal.returns
+pub returns-clause-number : goal.returns-clause-number
 unfolding schema_of
-returns c = here (λ (r : Record). value_number r (text_token c.args.quoted c.args.text.now)) c.args.table.now c.args.unpacked.now c.args.n c.args.q c.if-n-q.false (rw c.if-quoted.false c.judge_word.ensures)
+returns-clause-number c = here (λ (r : Record). value_number r (text_token c.args.quoted c.args.text.now)) _ _ _ c.args.q c.if-records-q.false (rw c.if-quoted.false c.judge_word.ensures.number)

@@ -5,13 +5,13 @@ use Rattle.message_lookup.proofs.Steps.{search_hit, search_more, search_end, sea
 use Rattle.message_lookup.proofs.next_untagged.Goals as goal
 
 pub loop-at-init : goal.loop-at-init
-loop-at-init c = search_starts c.args.table.now c.args.unpacked.now c.args.n (is_untagged_of c.args.p) c.args.i
+loop-at-init c = search_starts _ _ _ (is_untagged_of c.args.p) c.args.i
 
 pub returns-then-is_untagged_of : goal.returns-then-is_untagged_of
-returns-then-is_untagged_of c = sym (search_hit c.args.table.now c.args.unpacked.now c.args.n (is_untagged_of c.args.p) c.loop-at.at c.loop-at-test.true (sym c.is_untagged_of.ensures ∙ c.if-is_untagged_of.true)) ∙ c.loop-at.invariant
+returns-then-is_untagged_of c = sym (search_hit _ _ _ (is_untagged_of c.args.p) c.loop-at.at c.loop-at-test.true (sym c.is_untagged_of.ensures ∙ c.if-is_untagged_of.true)) ∙ c.loop-at.invariant
 
 pub loop-at-preserved : goal.loop-at-preserved
-loop-at-preserved c = sym (search_more c.args.table.now c.args.unpacked.now c.args.n (is_untagged_of c.args.p) c.loop-at.at c.loop-at-test.true (sym c.is_untagged_of.ensures ∙ c.if-is_untagged_of.false)) ∙ c.loop-at.invariant
+loop-at-preserved c = sym (search_more _ _ _ (is_untagged_of c.args.p) c.loop-at.at c.loop-at-test.true (sym c.is_untagged_of.ensures ∙ c.if-is_untagged_of.false)) ∙ c.loop-at.invariant
 
 pub returns : goal.returns
-returns c = sym (search_end c.args.table.now c.args.unpacked.now c.args.n (is_untagged_of c.args.p) c.loop-at.at c.loop-at-test.false) ∙ c.loop-at.invariant
+returns c = sym (search_end _ _ _ (is_untagged_of c.args.p) c.loop-at.at c.loop-at-test.false) ∙ c.loop-at.invariant

@@ -1,4 +1,4 @@
-use Rattle.std.proofs.Common.{◌-◌, sym, refl, ◌∙◌}
+use Rattle.std.proofs.Common.{sym, refl, ◌∙◌}
 use Rattle.message_tokens.proofs.Naturals.{summed_start, summed_more, digit_floor, digits_counted, none_there}
 use Rattle.message_tokens.proofs.digits_by_byte.Goals as goal
 
@@ -9,7 +9,7 @@ pub overflow_sub-b : goal.overflow_sub-b
 overflow_sub-b c = digit_floor _ _ c.is_digit.ensures c.if-is_digit.true
 
 pub loop-i-preserved : goal.loop-i-preserved
-loop-i-preserved c = summed_more _ _ _ _ _ c.loop-i.invariant c.loop-i-test.true (sym c.is_digit.ensures ∙ c.if-is_digit.true) (rw c.u8_as_u64.ensures.0)
+loop-i-preserved c = summed_more _ _ _ _ _ c.loop-i.invariant c.loop-i-test.true (sym c.is_digit.ensures ∙ c.if-is_digit.true) (rw c.from.ensures refl)
 
 pub returns-else-is_digit : goal.returns-else-is_digit
 returns-else-is_digit c = digits_counted _ _ _ _ c.loop-i.invariant _ refl c.digits_before.result c.digits_before.ensures

@@ -1,4 +1,4 @@
-use Rattle.std.proofs.Common.{◌-◌, sym, ◌∙◌}
+use Rattle.std.proofs.Common.{sym, ◌∙◌}
 use Rattle.message_tokens.proofs.Plain.{plain_more, plain_many}
 use Rattle.message_tokens.proofs.plain_end.Goals as goal
 

@@ -3,8 +3,8 @@ use lib.ListN.{length}
 use Rattle.message_unknown.proofs.Steps.{UnknownListed}
 use Rattle.message_unknown.proofs.list.Given as goal
 
-abbrev pub invariant-loop-v : goal.invariant-loop-v
-invariant-loop-v l = UnknownListed l.base l.s l.initial.u.at l.u.at
+abbrev pub invariant-loop-past : goal.invariant-loop-past
+invariant-loop-past l = UnknownListed l.base l.s l.initial.u.at l.u.at
 
-abbrev pub decreases-loop-v : goal.decreases-loop-v
-decreases-loop-v l = length l.s - l.u.at
+abbrev pub decreases-loop-past : goal.decreases-loop-past
+decreases-loop-past l = length l.s - l.u.at

@@ -1,16 +1,11 @@
-use Prim.Native.Nat.{◌-◌}
-use mathlib.Core.Path.{sym, ◌∙◌}
-use borrow.Author.Tests.{eq-eqb, ne_eqb}
-use Rattle.classes.proofs.Rows.{run_more, run_stop, run_end}
+use native.Mathlib.Omega.{arith}
+use Rattle.std.proofs.Common.{rules, ◌≡◌, ◌+◌}
+use Rattle.classes.specs.Lists.{run_of}
+use Rattle.classes.proofs.Rows.{run_within}
 use Rattle.numbers.specs.Range.{not_dot}
-use borrow.Author.Rules.{rules}
 use Rattle.numbers.proofs.first_dot.Goals as goal
 
-pub returns-then-w-i-eq46 : goal.returns-then-w-i-eq46
-returns-then-w-i-eq46 c = (sym (run_stop not_dot _ _ c.loop-i-test.true (rw (eq-eqb _ _ c.if-w-i-eq46.true))) ∙ c.loop-i.invariant.0, search rules)
-
-pub loop-i-preserved : goal.loop-i-preserved
-loop-i-preserved c = (sym (run_more not_dot _ _ c.loop-i-test.true (rw (ne_eqb _ _ c.if-w-i-eq46.false))) ∙ c.loop-i.invariant.0, search rules)
-
 pub returns : goal.returns
-returns c = (sym (run_end not_dot _ _ c.loop-i-test.false) ∙ c.loop-i.invariant.0, search rules)
+returns c =
+    let h : c.run_end.result ≡ 0 + run_of not_dot c.args.w.now = c.run_end.ensures not_dot (λ b r k. search rules) in
+    (omega (arith, h), omega (arith, h, run_within not_dot c.args.w.now))

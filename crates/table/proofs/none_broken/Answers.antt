@@ -1,15 +1,19 @@
-use mathlib.Core.Path.{sym, ◌∙◌}
-use Prim.Native.Nat.{◌-◌}
-use Rattle.table_records.specs.Stored.{records_at}
+use mathlib.Core.Path.{refl}
+use mathlib.Core.Bool.{Bool}
+use Prim.Native.Nat.{ℕ}
+use native.Mathlib.Omega.{arith}
+use borrow.Author.Tests.{tests}
+use Rattle.std.proofs.Common.{rules}
+use Rattle.std.proofs.lemmas.Iterator.{YieldsList-from_range}
+use Rattle.std.proofs.lemmas.Iterator.Search.{any_from_yields_List}
+use Rattle.reading_rules.specs.Record.{Record}
 use Rattle.table.specs.Checks.{is_broken}
-use Rattle.table.proofs.Laws.{none_end, none_no, none_more}
+use Rattle.table_records.specs.Shown.{record_of, records_of}
+use Rattle.table.proofs.Laws.{none_by}
 use Rattle.table.proofs.none_broken.Goals as goal
 
-pub returns-then-is_broken : goal.returns-then-is_broken
-returns-then-is_broken c = sym (c.loop-i.invariant ∙ none_no (is_broken (records_at c.args.table.now c.args.unpacked.now c.args.n)) c.args.table.now c.args.unpacked.now c.args.n _ c.loop-i-test.true (sym c.is_broken.ensures ∙ c.if-is_broken.true))
-
-pub loop-i-preserved : goal.loop-i-preserved
-loop-i-preserved c = c.loop-i.invariant ∙ none_more (is_broken (records_at c.args.table.now c.args.unpacked.now c.args.n)) c.args.table.now c.args.unpacked.now c.args.n _ c.loop-i-test.true (sym c.is_broken.ensures ∙ c.if-is_broken.false)
-
 pub returns : goal.returns
-returns c = sym (c.loop-i.invariant ∙ none_end (is_broken (records_at c.args.table.now c.args.unpacked.now c.args.n)) c.args.table.now c.args.unpacked.now c.args.n _ c.loop-i-test.false)
+returns c =
+    let wrong : ℕ → Record → Bool = is_broken (records_of c.args.records.now) in
+    let found = any_from_yields_List (λ j. wrong j (record_of c.args.records.now j)) _ _ c.any.result c.any.ensures.ran (YieldsList-from_range 0 c.args.records.now.count c.args.records.now.count refl (omega arith)) (λ x b q k. search (rules, tests)) in
+    none_by wrong c.args.records.now.table.now c.args.records.now.unpacked.now c.args.records.now.count _ found

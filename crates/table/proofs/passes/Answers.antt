@@ -1,9 +1,6 @@
-use mathlib.Core.Path.{sym}
-use Rattle.table.proofs.Laws.{checked_fine, checked_bad}
+use mathlib.Core.Path.{◌∙◌}
+use Rattle.table.proofs.Laws.{checked_kept}
 use Rattle.table.proofs.passes.Goals as goal
 
-pub returns-in-Count : goal.returns-in-Count
-returns-in-Count c = sym (checked_fine _ _ c.checked.result _ c.checked.ensures c.in-Count.is).kept
-
-pub returns-in-Bad : goal.returns-in-Bad
-returns-in-Bad c = sym (checked_bad _ _ c.checked.result c.checked.ensures c.in-Bad.is)
+pub returns : goal.returns
+returns c = c.is_some.ensures ∙ checked_kept _ _ c.checked.result c.checked.ensures

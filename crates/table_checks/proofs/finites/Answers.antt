@@ -1,20 +1,26 @@
-use borrow.Author.Rules.{rules}
-use mathlib.Core.Path.{refl}
-use Prim.Native.Nat.{◌-◌}
+use mathlib.Core.Path.{◌≡◌}
+use mathlib.Core.Bool.{false}
 use native.Mathlib.Omega.{arith}
-use Rattle.table_records.specs.Stored.{records_at}
+use lib.ListN.{length, replicate}
+use Rattle.std.proofs.Common.{rules}
+use Rattle.table_records.specs.Shown.{records_of}
 use Rattle.table_records.proofs.Laws.{length_records}
+use Rattle.table_checks.specs.Sweeps.{NoneMarked}
+use Rattle.table_checks.proofs.Bodies.{none_marked}
 use Rattle.table_checks.proofs.Sweeping.{going_start, going_more, going_still, going_end}
 use Rattle.table_checks.proofs.finites.Goals as goal
 
-pub loop-k-init : goal.loop-k-init
-loop-k-init c = ((λ w. going_start (records_at c.args.table.now c.args.unpacked.now c.args.n) _ (omega (arith, length_records c.args.table.now c.args.unpacked.now c.args.n 0, c.clear.auto.have, c.if-have-n.false)) c.clear.ensures), omega arith, refl, refl)
+pub loop-init : goal.loop-init
+loop-init c =
+    let none : c.fill.new.self ≡ replicate (length c.args.have.now) false = search rules in
+    let unmarked : NoneMarked c.fill.new.self = rw none (none_marked (length c.args.have.now)) in
+    λ w. going_start (records_of c.args.records.now) _ (omega (arith, length_records c.args.records.now.table.now c.args.records.now.unpacked.now c.args.records.now.count 0, c.fill.ensures.len)) unmarked
 
-pub loop-k-preserved : goal.loop-k-preserved
-loop-k-preserved c = ((λ w. going_more (records_at c.args.table.now c.args.unpacked.now c.args.n) c.loop-k.k c.loop-k.have _ _ c.sweep.auto.have (c.sweep.ensures w) (c.loop-k.invariant.0 w)), omega arith, search rules, search rules)
+pub loop-preserved : goal.loop-preserved
+loop-preserved c = λ w. going_more (records_of c.args.records.now) c.loop.counter c.loop.have _ _ c.sweep-is_done.auto.have (c.sweep-is_done.ensures w) (c.loop.invariant w)
 
-pub returns-else-sweep : goal.returns-else-sweep
-returns-else-sweep c = λ w h l. going_still (records_at c.args.table.now c.args.unpacked.now c.args.n) c.loop-k.k c.loop-k.have _ _ c.sweep.auto.have (c.sweep.ensures w) (c.loop-k.invariant.0 w) c.if-sweep.false
+pub returns-then-is_done : goal.returns-then-is_done
+returns-then-is_done c = λ w h l. going_still (records_of c.args.records.now) c.loop.counter c.loop.have _ _ c.sweep-is_done.auto.have (c.sweep-is_done.ensures w) (c.loop.invariant w) c.if-is_done.true
 
 pub returns : goal.returns
-returns c = λ w h l. going_end (records_at c.args.table.now c.args.unpacked.now c.args.n) c.loop-k.k c.loop-k.have (omega (arith, length_records c.args.table.now c.args.unpacked.now c.args.n 0, c.loop-k-test.false, c.loop-k.invariant.1)) (c.loop-k.invariant.0 w)
+returns c = λ w h l. going_end (records_of c.args.records.now) c.loop.counter c.loop.have (omega (arith, length_records c.args.records.now.table.now c.args.records.now.unpacked.now c.args.records.now.count 0, c.loop-test.false)) (c.loop.invariant w)

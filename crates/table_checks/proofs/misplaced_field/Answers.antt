@@ -1,18 +1,19 @@
-use mathlib.Core.Path.{sym, ◌∙◌}
-use borrow.Author.Tests.{eq-eqb, ne_eqb}
-use Rattle.definition_rules.specs.Faults.{misplaced_field}
-use Rattle.table_records.specs.Stored.{record_in, records_at}
-use Rattle.table_checks.specs.Besides.{is_such}
-use Rattle.table_checks.proofs.Any.{field_in_extension}
+use mathlib.Core.Path.{refl, sym, ◌∙◌}
+use mathlib.Core.Bool.{Bool, not, ◌&&◌}
+use native.Mathlib.Omega.{arith}
+use borrow.Author.Tests.{ne_eqb, tests}
+use Rattle.std.proofs.Common.{rules}
+use Rattle.std.proofs.lemmas.Iterator.{YieldsList-from_range}
+use Rattle.std.proofs.lemmas.Iterator.Search.{any_from_yields_List}
+use Rattle.reading_rules.specs.Record.{Record}
+use Rattle.definition_rules.specs.Faults.{misplaced_field, beside}
+use Rattle.table_records.specs.Shown.{record_of}
+use Rattle.table_checks.proofs.Any.{any_among}
 use Rattle.table_checks.proofs.misplaced_field.Goals as goal
 
-pub returns-then-extension_at : goal.returns-then-extension_at
-returns-then-extension_at c = field_in_extension (records_at c.args.table.now c.args.unpacked.now c.args.n) c.args.i (record_in c.args.table.now c.args.unpacked.now c.args.i) (sym c.extension_at.ensures ∙ c.if-extension_at.true)
-
-pub returns-then-kind_at-eq-VOID : goal.returns-then-kind_at-eq-VOID
-unfolding misplaced_field
-returns-then-kind_at-eq-VOID c = rw (sym c.extension_at.ensures ∙ c.if-extension_at.false, eq-eqb _ 1 (rw c.kind_at.ensures at c.if-kind_at-eq-VOID.true))
-
 pub returns : goal.returns
-unfolding misplaced_field is_such
-returns c = rw (sym c.extension_at.ensures ∙ c.if-extension_at.false, ne_eqb _ 1 (rw c.kind_at.ensures at c.if-kind_at-eq-VOID.false)) c.any_such.ensures
+unfolding misplaced_field
+returns c =
+    let such : Record → Bool = λ q. beside (record_of c.args.records.now c.args.i) q && not q.untagged in
+    let found = any_from_yields_List (λ j. such (record_of c.args.records.now j)) _ _ c.any.result c.any.ensures.ran (YieldsList-from_range 0 c.min.result c.min.result refl (omega arith)) (λ x b q k. search (rules, tests)) in
+    rw (sym c.extension_at.ensures ∙ c.if-extension_at.false, ne_eqb _ 1 (rw c.kind_at.ensures at c.if-kind_at-eq-VOID.false)) (found ∙ any_among such c.args.records.now.table.now c.args.records.now.unpacked.now c.args.i c.args.records.now.count _ c.min.ensures)

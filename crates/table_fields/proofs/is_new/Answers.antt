@@ -1,15 +1,19 @@
-use mathlib.Core.Path.{sym, ◌∙◌}
-use Prim.Native.Nat.{◌-◌}
-use Rattle.table_records.specs.Stored.{record_in}
+use mathlib.Core.Path.{refl, ap, ◌∙◌}
+use mathlib.Core.Bool.{Bool, not, ◌&&◌}
+use Prim.Native.Nat.{ℕ, ◌-◌}
+use borrow.Author.Tests.{tests}
+use Rattle.std.proofs.Common.{rules}
+use Rattle.std.proofs.lemmas.Iterator.{YieldsList-from_range}
+use Rattle.std.proofs.lemmas.Iterator.Search.{any_from_yields_List}
+use Rattle.definition_rules.specs.Faults.{same_key}
+use Rattle.table_rules.specs.RecordRules.{shows_name}
+use Rattle.table_records.specs.Shown.{record_of}
 use Rattle.table_fields.specs.Keys.{label_key}
-use Rattle.table_fields.proofs.Loops.{new_end, new_no, new_more}
+use Rattle.table_fields.proofs.Loops.{new_range}
 use Rattle.table_fields.proofs.is_new.Goals as goal
 
-pub returns-then-same_name : goal.returns-then-same_name
-returns-then-same_name c = sym (c.loop-j.invariant ∙ new_no c.args.table.now c.args.unpacked.now c.args.n (label_key (record_in c.args.table.now c.args.unpacked.now c.args.i)) _ c.loop-j-test.true (sym c.same_name.ensures ∙ c.if-same_name.true))
-
-pub loop-j-preserved : goal.loop-j-preserved
-loop-j-preserved c = c.loop-j.invariant ∙ new_more c.args.table.now c.args.unpacked.now c.args.n (label_key (record_in c.args.table.now c.args.unpacked.now c.args.i)) _ c.loop-j-test.true (sym c.same_name.ensures ∙ c.if-same_name.false)
-
 pub returns : goal.returns
-returns c = sym (c.loop-j.invariant ∙ new_end c.args.table.now c.args.unpacked.now c.args.n (label_key (record_in c.args.table.now c.args.unpacked.now c.args.i)) _ c.loop-j-test.false)
+returns c =
+    let such : ℕ → Bool = λ j. shows_name (record_of c.args.records.now j) && same_key (label_key (record_of c.args.records.now c.args.i)) (label_key (record_of c.args.records.now j)) in
+    let found = any_from_yields_List such _ _ c.any.result c.any.ensures.ran (YieldsList-from_range c.args.from c.args.records.now.count (c.args.records.now.count - c.args.from) refl refl) (λ x b q k. search (rules, tests)) in
+    ap not found ∙ new_range c.args.records.now.table.now c.args.records.now.unpacked.now (label_key (record_of c.args.records.now c.args.i)) (c.args.records.now.count - c.args.from) c.args.from

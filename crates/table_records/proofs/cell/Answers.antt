@@ -1,12 +1,13 @@
+use Rattle.table_records.specs.Cells.{cell_number}
 use Rattle.table_records.proofs.Laws.{there}
 use Rattle.table_records.proofs.Fields.{past_limit, past_end, cell_there, cell_out}
 use Rattle.table_records.proofs.cell.Goals as goal
 
 pub returns-then-i-ge-PARAMETER_LIMIT : goal.returns-then-i-ge-PARAMETER_LIMIT
-returns-then-i-ge-PARAMETER_LIMIT c = cell_out c.args.unpacked.now c.args.i c.args.k (past_limit c.args.unpacked.now c.args.i c.if-i-ge-PARAMETER_LIMIT.true)
+returns-then-i-ge-PARAMETER_LIMIT c = cell_out c.args.unpacked.now c.args.i (cell_number c.args.k) (past_limit c.args.unpacked.now c.args.i c.if-i-ge-PARAMETER_LIMIT.true)
 
 pub returns-then-at-unpacked : goal.returns-then-at-unpacked
-returns-then-at-unpacked c = cell_there c.args.unpacked.now c.args.i c.args.k (there c.args.unpacked.now c.args.i c.if-i-ge-PARAMETER_LIMIT.false c.if-at-unpacked.true)
+returns-then-at-unpacked c = rw c.number.ensures.0 (cell_there c.args.unpacked.now c.args.i (cell_number c.args.k) (there c.args.unpacked.now c.args.i c.if-i-ge-PARAMETER_LIMIT.false c.if-at-unpacked.true))
 
 pub returns : goal.returns
-returns c = cell_out c.args.unpacked.now c.args.i c.args.k (past_end c.args.unpacked.now c.args.i c.if-i-ge-PARAMETER_LIMIT.false c.if-at-unpacked.false)
+returns c = cell_out c.args.unpacked.now c.args.i (cell_number c.args.k) (past_end c.args.unpacked.now c.args.i c.if-i-ge-PARAMETER_LIMIT.false c.if-at-unpacked.false)

@@ -3,8 +3,8 @@ use Rattle.test_frames.proofs.put_kept.Goals as goal
 
 pub returns-then-kept : goal.returns-then-kept
 unfolding kept_text
-returns-then-kept c = rw c.if-kept.true c.put_text.ensures
+returns-then-kept c = rw c.if-kept.true c.text.ensures
 
-pub returns : goal.returns
+pub returns-else-kept : goal.returns-else-kept
 unfolding kept_text
-returns c = rw c.if-kept.false c.put_text-2.ensures
+returns-else-kept c = rw c.if-kept.false c.text-else-kept.ensures

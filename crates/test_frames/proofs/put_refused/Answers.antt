@@ -4,4 +4,4 @@ use Rattle.test_frames.proofs.put_refused.Goals as goal
 
 pub returns : goal.returns
 unfolding refused_text
-returns c = both c.put_text-o.ensures (both c.put_number-o.ensures c.put_number.ensures)
+returns c = both c.text.ensures (both c.number.ensures c.number-2.ensures)

@@ -6,4 +6,4 @@ use Rattle.test_frames.proofs.put_rows.Goals as goal
 pub returns : goal.returns
 unfolding ok_text
 returns c = rows_line_lem _ _ _ _ c.cells-n.ensures c.numbers_kept.ensures
-    (both (both (both c.put_text-o.ensures c.put_number-o.ensures) c.put_numbers-o.ensures) c.put_kept.ensures)
+    (both (both (both c.text.ensures c.number.ensures) c.put_numbers.ensures) c.put_kept.ensures)

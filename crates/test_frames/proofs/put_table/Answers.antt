@@ -6,4 +6,4 @@ use Rattle.test_frames.proofs.put_table.Goals as goal
 pub returns : goal.returns
 unfolding ok_text
 returns c = table_line_lem _ _ _ _ c.part.ensures c.bytes_kept.ensures
-    (both (both (both (both c.put_text-o.ensures c.put_number-o.ensures) c.put_byte-o.ensures) c.put_hex-o.ensures) c.put_kept.ensures)
+    (both (both (both (both c.text.ensures c.number.ensures) c.byte.ensures) c.hex.ensures) c.put_kept.ensures)

@@ -3,8 +3,8 @@ use Rattle.test_frames.proofs.put_yes.Goals as goal
 
 pub returns-then-yes : goal.returns-then-yes
 unfolding yes_line
-returns-then-yes c = rw c.if-yes.true c.put_text.ensures
+returns-then-yes c = rw c.if-yes.true c.text.ensures
 
-pub returns : goal.returns
+pub returns-else-yes : goal.returns-else-yes
 unfolding yes_line
-returns c = rw c.if-yes.false c.put_text-2.ensures
+returns-else-yes c = rw c.if-yes.false c.text-else-yes.ensures

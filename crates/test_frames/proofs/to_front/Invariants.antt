@@ -1,12 +1,8 @@
-use Prim.Native.Nat.{◌-◌, ◌≤◌}
 use mathlib.Core.Path.{◌≡◌}
-use lib.ListN.{length, take}
+use lib.ListN.{take}
 use lib.Seq.{sets}
 use Rattle.classes.specs.Lists.{part}
 use Rattle.test_frames.proofs.to_front.Given as goal
 
 abbrev pub invariant-loop-i : goal.invariant-loop-i
-invariant-loop-i l = (l.d ≡ sets l.initial.d 0 (take l.i (part l.initial.d l.from l.to))) × (l.i ≤ l.n) × (l.n ≡ length (part l.initial.d l.from l.to)) × (length l.d ≡ length l.initial.d)
-
-abbrev pub decreases-loop-i : goal.decreases-loop-i
-decreases-loop-i l = l.n - l.i
+invariant-loop-i l = l.d ≡ sets l.initial.d 0 (take l.i (part l.initial.d l.from l.to))

@@ -5,4 +5,4 @@ use Rattle.cli_report.proofs.refusals.put_in_table.Goals as goal
 
 pub returns : goal.returns
 unfolding in_table bytes
-returns c = both (both (both (both c.put_text-o.ensures c.put_text-o-2.ensures) c.put_decimal-o.ensures) c.put_text-o-3.ensures) c.put_refused.ensures
+returns c = both (both (both (both c.text.ensures c.text-2.ensures) c.decimal.ensures) c.text-3.ensures) c.put_refused.ensures

@@ -4,4 +4,4 @@ use Rattle.cli_report.proofs.refusals.put_in_text.Goals as goal
 
 pub returns : goal.returns
 unfolding in_text
-returns c = both (both c.put_where-o.ensures c.put_refused-o.ensures) c.put_view.ensures
+returns c = both (both c.put_where.ensures c.put_refused.ensures) c.put_view.ensures

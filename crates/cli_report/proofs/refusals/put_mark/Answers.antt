@@ -4,8 +4,8 @@ use Rattle.cli_report.proofs.refusals.put_mark.Goals as goal
 
 pub returns-then-last : goal.returns-then-last
 unfolding mark_text bytes
-returns-then-last c = rw c.if-last.true c.put_text.ensures
+returns-then-last c = rw c.if-last.true c.text.ensures
 
-pub returns : goal.returns
+pub returns-else-last : goal.returns-else-last
 unfolding mark_text bytes
-returns c = rw c.if-last.false c.put_text-2.ensures
+returns-else-last c = rw c.if-last.false c.text-else-last.ensures

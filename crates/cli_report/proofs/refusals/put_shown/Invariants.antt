@@ -1,13 +1,8 @@
-use mathlib.Core.Path.{◌≡◌}
 use mathlib.Core.List.{[], ◌∷◌}
-use Prim.Native.Nat.{◌-◌, ◌≤◌}
-use lib.ListN.{length, take}
-use Rattle.text.specs.Text.{Wrote, each}
+use lib.ListN.{take}
+use Rattle.text.specs.Text.{Added, each}
 use Rattle.cli_report.specs.Shown.{shown_byte}
 use Rattle.cli_report.proofs.refusals.put_shown.Given as goal
 
-abbrev pub invariant-loop-i : goal.invariant-loop-i
-invariant-loop-i l = Wrote (each (λ b. shown_byte b ∷ []) (take l.i l.bytes)) l.initial.out l.at l.out l.o × (l.i ≤ length l.bytes) × (length l.out ≡ length l.initial.out)
-
-abbrev pub decreases-loop-i : goal.decreases-loop-i
-decreases-loop-i l = length l.bytes - l.i
+abbrev pub invariant-loop-b : goal.invariant-loop-b
+invariant-loop-b l = Added (each (λ b. shown_byte b ∷ []) (take l.b-index l.bytes)) l.initial.page l.page

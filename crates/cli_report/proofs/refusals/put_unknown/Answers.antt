@@ -5,4 +5,4 @@ use Rattle.cli_report.proofs.refusals.put_unknown.Goals as goal
 
 pub returns : goal.returns
 unfolding unknown_line bytes
-returns c = both (both (both c.put_where-o.ensures c.put_text-o.ensures) c.put_text-o-2.ensures) c.put_byte.ensures
+returns c = both (both (both c.put_where.ensures c.text.ensures) c.text-2.ensures) c.byte.ensures

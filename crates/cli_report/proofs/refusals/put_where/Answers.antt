@@ -5,4 +5,4 @@ use Rattle.cli_report.proofs.refusals.put_where.Goals as goal
 
 pub returns : goal.returns
 unfolding where_text bytes
-returns c = rw (← c.line_of.ensures, ← c.column_of.ensures) (both (both (both (both (both c.put_text-o.ensures c.put_byte-o.ensures) c.put_decimal-o.ensures) c.put_byte-o-2.ensures) c.put_decimal-o-2.ensures) c.put_text.ensures)
+returns c = rw (← c.line_of.ensures, ← c.column_of.ensures) (both (both (both (both (both c.text.ensures c.byte.ensures) c.decimal.ensures) c.byte-2.ensures) c.decimal-2.ensures) c.text-2.ensures)

@@ -5,4 +5,4 @@ use Rattle.cli_report.proofs.tables.put_bounds.Goals as goal
 
 pub returns : goal.returns
 unfolding bounds_text bytes
-returns c = both (both c.put_int-o.ensures c.put_text-o.ensures) c.put_int.ensures
+returns c = both (both c.put_int.ensures c.text.ensures) c.put_int-2.ensures

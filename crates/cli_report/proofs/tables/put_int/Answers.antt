@@ -5,8 +5,8 @@ use Rattle.cli_report.proofs.tables.put_int.Goals as goal
 
 pub returns-then-n-lt-BIAS : goal.returns-then-n-lt-BIAS
 unfolding int_text
-returns-then-n-lt-BIAS c = rw (lt-ltb _ _ c.if-n-lt-BIAS.true) (both c.put_byte-o.ensures c.put_decimal.ensures)
+returns-then-n-lt-BIAS c = rw (lt-ltb _ _ c.if-n-lt-BIAS.true) (both c.byte.ensures c.decimal.ensures)
 
-pub returns : goal.returns
+pub returns-else-n-lt-BIAS : goal.returns-else-n-lt-BIAS
 unfolding int_text
-returns c = rw (le-ltb _ _ c.if-n-lt-BIAS.false) c.put_decimal-2.ensures
+returns-else-n-lt-BIAS c = rw (le-ltb _ _ c.if-n-lt-BIAS.false) c.decimal-else-n-lt-BIAS.ensures

@@ -1,8 +1,0 @@
-use mathlib.Core.Path.{◌∙◌}
-use Rattle.table_records.specs.Stored.{record_in}
-use Rattle.table_records.proofs.Fields.{under_number}
-use Rattle.table_records.proofs.is_under.Goals as goal
-
-pub returns : goal.returns
-unfolding record_in
-returns c = under_number _ _ _ (c.u32_as_usize-up.ensures.0 ∙ c.cell.ensures)

@@ -1,6 +1,0 @@
-use Rattle.table_records.specs.Stored.{record_in}
-use Rattle.table_records.proofs.kind_at.Goals as goal
-
-pub returns : goal.returns
-unfolding record_in
-returns c = c.cell.ensures
