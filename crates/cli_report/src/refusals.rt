@@ -136,7 +136,8 @@ fn put_needed(page: &mut Page, path: &[u8], number: u32, needed: usize)
     put_refused(page, number);
 }
 
-// The lines of a refusal, asked of any number, as docs/PROMISES.md names it. The text is shorter than 2^32 bytes, so that line and column are numbers that can be written.
+// The lines of a refusal. The number is no `Rule`: the contract, which docs/PROMISES.md names, holds of any. The text is
+// shorter than 2^32 bytes, so that line and column are numbers that can be written.
 #[tactic(auto, unfolding(crate::specs::Shown::refusal_text))]
 pub fn put_refusal(page: &mut Page, source: &Source, number: u32, place: usize)
     requires { length source.now.bytes.now < 2 ^ 32 }
