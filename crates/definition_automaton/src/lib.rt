@@ -293,7 +293,8 @@ fn tag_act(token: Token) -> Option<Action>
     mark_act(Token::Question, Action::TakeNoTag, token)
 }
 
-// What a token does in a context, the part of the innermost body, after a type of a kind; none if it can't go on.
+// What a token does in a context, the part of the innermost body, after a type of a kind; none if it can't go on. The four stand
+// apart, as each is matched on its own.
 #[tactic(auto, unfolding(crate::specs::Acts::act_of, classes::specs::Lists::pick))]
 pub fn act(mode: Mode, context: Option<Part>, kind: Token, token: Token) -> Option<Action>
     ensures { answer_number result ≡ act_of (mode_number mode) (context_number_of context) (token_number kind) (token_number token) }

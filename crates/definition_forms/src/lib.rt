@@ -125,6 +125,7 @@ fn finish(st: State, len: usize) -> Result<usize, Refusal>
 // Reads the forms of a text without a fault of number 2 and notes the first 256 declarations: how many there are.
 // Refused where a token can't go on (number 3), or at the 257th name (4).
 // A text has at most 65,535 bytes (number 1), so that its places fit the row's numbers, and the row has 16 for each declaration.
+// It fills the cells that `Declarations` then lends.
 pub fn forms(text: &[u8], cells: &mut [u32]) -> Result<usize, Refusal>
     requires text_len_bound { length text.now ≤ text_limit }
     requires parameter_limit_in_bounds { cell_width * parameter_limit ≤ length cells.old }

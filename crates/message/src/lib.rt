@@ -134,7 +134,7 @@ fn read_tokens(records: &Records, message: &[u8], rows: &mut [u32]) -> Result<us
     Ok(m)
 }
 
-// The same with cells lent, which are enough for the table's records: number 20 first.
+// The same with cells lent, which are enough for the table's records, and filled here for `Records`: number 20 first.
 fn read_with(
     table: &[u8],
     unpacked: &mut [u32],

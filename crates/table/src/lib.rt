@@ -121,7 +121,7 @@ fn rules(records: &Records) -> bool
 // ---- a table's bytes
 
 // The records of a table that some definition compiles to, unpacked; of another table it says so. The cells are enough for
-// the table's records.
+// the table's records, and filled here for `Records`.
 pub fn checked(table: &[u8], unpacked: &mut [u32]) -> Option<usize>
     requires { Enough (length table.now) (length unpacked.old) }
     ensures { Checked table.now unpacked.new result }

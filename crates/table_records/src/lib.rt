@@ -99,7 +99,8 @@ fn keep(unpacked: &mut [u32], i: usize, k: RecordCell, x: u32)
 }
 
 // Unpacks the record whose bytes begin at a place into the cells of record i, where they are there. Its numbers are in
-// the table, so none of them needs a test of its own.
+// the table, so none of them needs a test of its own. Table and cells stand apart until the cells are filled, here and where
+// others fill them: `Records` lends filled ones.
 pub fn unpack(table: &[u8], at: u32, unpacked: &mut [u32], i: usize)
     requires { at + 24 ≤ length table.now }
     ensures { i < parameter_limit → record_cells * (i + 1) ≤ length unpacked.old → Unpacked table.now at unpacked.old i unpacked.new }

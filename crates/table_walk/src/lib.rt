@@ -31,7 +31,7 @@ fn length_at(table: &[u8], at: usize) -> Option<usize>
 }
 
 // Unpacks the records of a table, if there is room for them all, and says how many they are; none where its bytes are no
-// whole records, or over 256.
+// whole records, or over 256. It fills the cells that `Records` then lends.
 pub fn unpack(table: &[u8], unpacked: &mut [u32]) -> Option<usize>
     ensures { Enough (length table.now) (length unpacked.old) → Walked table.now unpacked.new result }
 {
