@@ -43,7 +43,7 @@ pub fn counts(noted: &Declarations, i: usize) -> Option<Range>
     Some(Range { low: 1, high: 1 })
 }
 
-// A range's numbers, 0 where it could not be read.
+// A range's numbers, 0 where it could not be read: two functions, as one would take the field as a closure and be longer.
 #[tactic(auto, unfolding(numbers::specs::Range::low_of))]
 pub fn low(range: Option<Range>) -> u32
     ensures { result ≡ low_of (range_of range) }

@@ -8,7 +8,7 @@ use native.Mathlib.Omega.{arith}
 use lib.ListN.{length, take, drop}
 use lib.Seq.{sets, sets-eq}
 use borrow.Author.Tests.{le-leb, lt-leb}
-use Rattle.numbers.specs.Limits.{message_limit, row_width, no_row, parameter_limit}
+use Rattle.numbers.specs.Limits.{message_limit, row_width, no_row}
 use Rattle.reading_rules.specs.Schema.{schema_of}
 use Rattle.table_records.specs.Stored.{records_at}
 use Rattle.message_rules.specs.RowBytes.{row_from, row_to, row_lies, row_bytes, row_start}
@@ -28,7 +28,7 @@ use Rattle.numbers.specs.Rules.{rule_number}
 use Rattle.numbers.specs.declared.Refusal.{Refusal}
 use Rattle.message_unknown.specs.Along.{Stopped}
 use Rattle.message_frame.specs.declared.Done.{Done}
-use Rattle.message_frame.specs.Ends.{Room, Ended, Ends}
+use Rattle.message_frame.specs.Ends.{Ended, Ends}
 use Rattle.message.specs.Reads.{root_frame, reading, Rows, Fills}
 
 -- ---- a row's bytes
@@ -61,9 +61,6 @@ module _ (m lent : List ℕ) (row : ℕ) where
   bytes_there h e f = lying (rw (le-leb (row_width * row + row_width) (length lent) (row_there (length lent) row h), le-leb (row_from lent row) (row_to lent row) e, le-leb (row_to lent row) (length m) f) refl)
 
 -- ---- the passes
-pub root_room : (n len : ℕ) → len ≤ message_limit → n ≤ parameter_limit → Room root_frame len n
-root_room n len l k = record { short = omega (arith, l); here = omega arith; few = omega arith; above = omega arith; indexed = omega arith; known = k }
-
 module _ (t o : List ℕ) (n : ℕ) (m : List ℕ) (before after : List ℕ) where
   start : (cut m).lexemes ≡ lexemes_at 0 m 0
   start = ap (λ c. c.lexemes) (cut_start m)

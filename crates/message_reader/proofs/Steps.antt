@@ -27,7 +27,7 @@ use Rattle.message_tokens.specs.declared.Cursor.{Cursor}
 use Rattle.message_tokens.proofs.Heads.{step_lex, step_tokens, step_left, step_within}
 use Rattle.message_unknown.specs.Along.{Tail, tokens_at, Stopped}
 use Rattle.message_unknown.specs.Along as along
-use Rattle.message_unknown.proofs.AlongLaws.{tail_trans, drop_tail, step_tail, tokens_length, part_lexemes, part_start, part_end, part_length}
+use Rattle.message_unknown.proofs.AlongLaws.{tail_trans, drop_tail, step_tail, tokens_length, part_lexemes, part_start, part_end}
 use Rattle.message_rows.proofs.Stores.{row_first}
 use Rattle.message_rows.proofs.Trees.{rows_at, place_at, body_any}
 use Rattle.reading_rules.specs.Schema.{first, found}
@@ -47,8 +47,6 @@ use Rattle.numbers.specs.declared.Refusal.{Refusal}
 use Rattle.std.specs.Prelude.{Result as Answer, Ok, Err, Some}
 use Rattle.message_rows.specs.Filled.{with_ends}
 use Rattle.message_frame.specs.Ends.{Room, Moved, Ended, Ends, EndedValue, EndsValue}
-use Rattle.message_lookup.specs.IntList.{IntsOf}
-use Rattle.message_lookup.specs.declared.Ints.{Ints}
 use Rattle.message_lists.specs.Quickly.{QuickValue, QuickOn, QuickAt}
 use Rattle.message_frame.specs.Going.{Going, Chain}
 use Rattle.message_frame.specs.Ends.{Values}
@@ -76,9 +74,6 @@ room_moved f len n least at row r m = room_placed f len n least at row f.index r
 
 pub room_under : (f : Frame) (len n at q : ℕ) → Room f len n → f.at < at → at ≤ len → Room (under_of f at q) len n
 room_under f len n at q r l h = record { short = r.short; here = h; few = omega (arith, r.few, l); above = omega (arith, r.few, r.short, r.here); indexed = omega arith; known = r.known }
-
-pub room_inner : (f : Frame) (s : List ℕ) (n e u : ℕ) → Room f (length s) n → f.at < e → e ≤ length s → Room (inner_of f e u) (length (take (length s - e) (drop e s))) n
-room_inner f s n e u r l h = record { short = omega (arith, part_end f.base s e h, r.short); here = omega arith; few = omega (arith, r.few, l); above = omega (arith, r.few, r.short, r.here); indexed = omega arith; known = r.known }
 
 -- ---- answers that are equal
 pub value_same : {o o' : Result (Tree value)} (s : List ℕ) (f : Frame) (before after : List ℕ) (g : Answer Done Refusal) → o ≡ o' → EndsValue o' s f before after g → EndsValue o s f before after g
@@ -364,9 +359,6 @@ module _ (S : Schema) (s : List ℕ) (f : Frame) (u a e : ℕ) (before mid after
     inside_left =
         sym (part_lexemes f.base s e v.at) ∙ (h.read.left ∙ (ap (drop (width h.read.tree)) (part_start f.base s e ∙ step_left f.base s f.at opening a e w) ∙ drop-drop (width h.read.tree) 1 (lexemes_at f.base s f.at)))
 
-    pub braced_within : e + v.at ≤ length s
-    braced_within = omega (arith, h.moved.within, part_length s e, (step_within f.base s f.at opening a e w).1)
-
     shut_done : (at next : ℕ) → Shut s f a (e + v.at) m mid after at next → EndedValue (struct_at (body_at S f.depth true) u (here s f)) s f before after at next
     unfolding width row_count rows_of row_over
     shut_done at next k =
@@ -613,17 +605,8 @@ listing_start S s f before h z = record {
 }
 
 module _ {S : Schema} {s : List ℕ} {f g : Frame} {before after : List ℕ} (i : Listing S s f g before after) where
-  pub listing_room : (n : ℕ) → Room f (length s) n → Room g (length s) n
-  listing_room n r = rw i.same (room_placed f (length s) n 0 g.at g.row g.index r i.loop.line.moved (omega (arith, i.few)))
-
   pub listing_named : g.parameter ≡ f.parameter
   listing_named = ap (λ (z : Frame). z.parameter) i.same
-
-  pub listing_depth : g.depth ≡ f.depth
-  listing_depth = ap (λ (z : Frame). z.depth) i.same
-
-  pub listing_ints : (e : Ints) → IntsOf S f.parameter e → IntsOf S g.parameter e
-  listing_ints e h = subst (λ q. IntsOf S q e) (sym listing_named) h
 
   module _ (mid : List ℕ) (u : Cursor) (m : ℕ) where
     pub listing_turn : ElementAt S s g after mid (Ok (taken.On u m)) → (g.at < u.at) × (u.at ≤ length s)
@@ -759,9 +742,6 @@ module _ {S : Schema} {s : List ℕ} {f g : Frame} {n : ℕ} {before after : Lis
   pub choosing_room : Room g (length s) n
   choosing_room = rw i.same i.down.room
 
-  pub choosing_depth : g.depth ≡ f.depth
-  choosing_depth = ap (λ (z : Frame). z.depth) i.same
-
   pub choosing_value : (u : ℕ) (mid final : List ℕ) (x : Answer Done Refusal) → u ≡ S.core g.parameter → is_union (S.kind u) ≡ false → PlainAt S s g after mid x → final ≡ closed_rows x f.base f.row g.row mid → EndsValue (values_of S f.depth f.parameter (here s f)) s f before final x
   choosing_value u mid final x c k h w = down_value S s f g.at g.row g.parameter g.parent g.index n before after i.down mid final x (rw c at k) (subst (λ z. PlainAt S s z after mid x) i.same h) w
 
@@ -781,17 +761,8 @@ module _ {S : Schema} {s : List ℕ} {f g : Frame} {n : ℕ} {before after : Lis
         size = sets_length after mid (row_width * g.row) (cells (record { parameter = g.parameter; parent = g.parent; start = g.base + a; end = 0; index = g.index } ∷ [])) w ∙ i.size;
       }
 
-  pub deeper_less : (u c a e : ℕ) → Deeper S n s g u c a e → (g.at < e) × (e ≤ length s) × (a ≤ length s) × (a < e)
-  deeper_less u c a e h =
-      let b = step_within g.base s g.at (word h.text) a h.past h.first in
-      let d = step_within g.base s h.past equals h.place e h.second in
-      (omega (arith, b.0, d.0), d.1, omega (arith, h.first.less, b.1), omega (arith, h.first.less, d.0))
-
 pub plain_fits : (S : Schema) (s : List ℕ) (g : Frame) (after mid : List ℕ) (u : ℕ) (x : Done) → u ≡ S.core g.parameter → is_union (S.kind u) ≡ false → PlainAt S s g after mid (Ok x) → x.past.at ≤ length s
 plain_fits S s g after mid u x c k h = (h 0 (no_union (S.kind (S.core g.parameter)) (rw c at k))).ended.moved.within
-
-pub whole_fits : (g : Frame) (c a e : ℕ) (before after : List ℕ) (x : Done) → WholeAt g c a e before after x → x.past.at ≤ e
-whole_fits g c a e before after x h = omega (arith, h.same)
 
 pub next_between : (t o : List ℕ) (n p i q : ℕ) → first (untagged_from t o n p i) ≡ found q → (i ≤ q) × (q < n)
 next_between t o n p i q e = ((next_in (is_untagged_of p) i (drop i (records_at t o n)) q e).from, untagged_below t o n p i q e)
