@@ -1,10 +1,10 @@
 -- Stores in a row of numbers, one after the other; a number past the end is not stored.
 use mathlib.Core.Path.{◌≡◌, refl}
 use mathlib.Core.List.{List, [], ◌∷◌, ◌++◌}
-use Prim.Native.Nat.{ℕ, suc, ◌+◌, ◌≤◌}
+use Prim.Native.Nat.{ℕ, zero, suc, ◌+◌, ◌<◌, ◌≤◌}
 use native.Mathlib.Nat.{add-zero}
 use native.Mathlib.Omega.{arith}
-use lib.ListN.{length, set}
+use lib.ListN.{length, get_or, set, take}
 use lib.Seq.{sets, set_out}
 
 pub sets_out : (xs l : List ℕ) (i : ℕ) → length l ≤ i → sets l i xs ≡ l
@@ -23,3 +23,11 @@ four_sets l i a b c d =
     let q : i + 2 ≡ suc (suc i) = omega arith in
     let r : i + 3 ≡ suc (suc (suc i)) = omega arith in
     rw (p, q, r)
+
+-- one number more of a row
+pub sets_more : (row xs : List ℕ) (at i : ℕ) → i < length row → set (sets xs at (take i row)) (at + i) (get_or row i 0) ≡ sets xs at (take (suc i) row)
+sets_more [] xs at i h = absurd (omega arith)
+sets_more (v ∷ row) xs at zero h = rw (add-zero at)
+sets_more (v ∷ row) xs at (suc i) h =
+    let e : at + suc i ≡ suc at + i = omega arith in
+    rw e (sets_more row (set xs at v) (suc at) i (omega arith))

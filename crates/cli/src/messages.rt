@@ -26,14 +26,16 @@ fn print_rows(
     page: &mut Page,
 ) -> Result<(), Failed> {
     let mut unpacked = [0u32; table_records::ALL_CELLS];
-    let table = RowTable {
+    let mut table = RowTable {
         records: records_of(named, &mut unpacked),
         rows: *rows,
-        message,
+        text: b"",
     };
     let widths = cli_report::widths(&table);
-    for line in 0..=rows.count {
-        cli_report::put_line(page, &table, line, &widths);
+    cli_report::put_line(page, &table, 0, &widths);
+    for i in 0..rows.count {
+        table.text = message::row_bytes(message, rows.numbers, i);
+        cli_report::put_line(page, &table, i + 1, &widths);
         flush_if_many(rt, page)?;
     }
     flush(rt, page)
@@ -85,7 +87,14 @@ fn refuse_message(
         return refuse(rt, page, &table, refusal);
     }
     let failed = refuse(rt, page, source, refusal);
-    cli_wanted::put_lacking(page, tables, source.bytes, refusal, numbers);
+    cli_wanted::put_lacking(
+        page,
+        tables,
+        source.bytes,
+        refusal.rule.number(),
+        refusal.place,
+        numbers,
+    );
     say(rt, page);
     failed
 }
@@ -121,15 +130,10 @@ pub fn read_file(
     is_plain: bool,
     page: &mut Page,
 ) -> Result<(), Failed> {
-    let mut definition = io::large_buffer();
     let mut table = io::large_buffer();
     let mut named = io::large_buffer();
+    let tables = tables_of(rt, from, &mut table, &mut named, page)?;
     let mut message = io::large_buffer();
-    let format = Source {
-        path: from,
-        bytes: load(rt, from, &mut definition)?,
-    };
-    let tables = tables_of(rt, &format, &mut table, &mut named, page)?;
     let source = Source {
         path,
         bytes: load(rt, path, &mut message)?,

@@ -13,7 +13,7 @@ const ROOM: usize = 65_536;
 
 // What waits is written out once it has as many bytes. The longest line, of a row of 16,384 bytes,
 // fits behind them.
-const MANY: usize = 32_768;
+pub const MANY: usize = 32_768;
 
 // ---- results, to standard output
 

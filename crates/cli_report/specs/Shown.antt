@@ -2,7 +2,7 @@
 use Rattle.std.specs.Prelude.{Bool, true, false, ◌||◌, cond, List, [], ◌∷◌, ◌++◌, ℕ, ◌+◌, ◌-◌, min, max, eqb, ltb, length}
 use Rattle.classes.specs.Bytes.{between}
 use Rattle.classes.specs.Lists.{part}
-use Rattle.text.specs.Text.{each, decimal}
+use Rattle.text.specs.Text.{each, decimal, spaced}
 use Rattle.cli_places.specs.Lines.{line_of, line_start, line_end, column_of, text_end}
 use Rattle.cli_wording.specs.Sayings.{bytes, meaning_line}
 
@@ -71,3 +71,9 @@ int_text n = cond (ltb n 0x80000000) (45 ∷ decimal (0x80000000 - n)) (decimal 
 -- "-180..180"
 unfoldable pub bounds_text : ℕ → ℕ → List ℕ
 bounds_text least most = int_text least ++ bytes ".." ++ int_text most
+
+-- ---- rows
+
+-- the five numbers of a row, bare
+unfoldable pub numbers_text : ℕ → ℕ → ℕ → ℕ → ℕ → List ℕ
+numbers_text parameter parent start end index = decimal parameter ++ spaced parent ++ spaced start ++ spaced end ++ spaced index ++ bytes "\n"

@@ -1,7 +1,7 @@
 // Rows and records as tables. Line 0 has the columns' heads, and line k + 1 has row or record k.
 // A column is as wide as its widest cell; the last has no width and is not filled up.
 ghost use Rattle.text.specs.Text.{Added};
-ghost use Rattle.cli_report.specs.Shown.{int_text, bounds_text};
+ghost use Rattle.cli_report.specs.Shown.{int_text, bounds_text, numbers_text};
 
 use crate::refusals::put_shown;
 use crate::rows::{Row, Rows};
@@ -182,7 +182,7 @@ fn flags_text(flags: u32) -> &'static [u8] {
 // Number, kind, parent, flags, count, range, target, tag or name.
 #[derive(Clone, Copy)]
 pub struct RecordTable<'a> {
-    pub records: Records<'a>,
+    pub records: Records<'a, 'a>,
 }
 
 impl Table for RecordTable<'_> {
@@ -232,12 +232,13 @@ impl Table for RecordTable<'_> {
 
 // ---- rows
 
-// Row, tag or name of the parameter, parent row, span, index, and the row's bytes.
+// Row, tag or name of the parameter, parent row, span, index, and the row's bytes: those of the row whose line is put,
+// which the caller sees to, as they have no part in the widths.
 #[derive(Clone, Copy)]
 pub struct RowTable<'a> {
-    pub records: Records<'a>,
+    pub records: Records<'a, 'a>,
     pub rows: Rows<'a>,
-    pub message: &'a [u8],
+    pub text: &'a [u8],
 }
 
 // Has a parameter's value parts with rows of their own?
@@ -288,22 +289,24 @@ impl Table for RowTable<'_> {
 
     // Of a row whose parts have rows of their own the first bytes are enough.
     fn put_last(&self, page: &mut Page, i: usize) {
-        let row = self.rows.row(i);
-        let bytes = row.bytes(self.message);
-        if GLANCE < bytes.len() && has_parts(&self.records, row.parameter as usize) {
-            put_shown(page, classes::part(bytes, 0, GLANCE));
+        let p = self.rows.row(i).parameter as usize;
+        if GLANCE < self.text.len() && has_parts(&self.records, p) {
+            put_shown(page, classes::part(self.text, 0, GLANCE));
             page.text(b" ..");
         } else {
-            put_shown(page, bytes);
+            put_shown(page, self.text);
         }
     }
 }
 
 // The numbers of a row, bare.
-pub fn put_numbers(page: &mut Page, row: Row) {
+pub fn put_numbers(page: &mut Page, row: Row)
+    ensures { Added (numbers_text row.parameter row.parent row.start row.end row.index) page.old page.new }
+{
     page.decimal(row.parameter as u64);
-    for n in [row.parent, row.start, row.end, row.index] {
-        page.number(n as u64);
-    }
+    page.number(row.parent as u64);
+    page.number(row.start as u64);
+    page.number(row.end as u64);
+    page.number(row.index as u64);
     page.byte(b'\n');
 }

@@ -46,23 +46,25 @@ fn compiled<'a>(
     }
 }
 
-// The table in a file, or the one that the definition there compiles to.
+// The table in a file, or the one that the definition there compiles to. What the file has is not kept.
 pub fn tables_of<'a>(
     rt: HostRuntime,
-    source: &Source,
+    path: &[u8],
     table: &'a mut [u8],
     named: &'a mut [u8],
     page: &mut Page,
 ) -> Result<Tables<'a>, Failed> {
-    if is_table(source.bytes) {
+    let mut buf = io::large_buffer();
+    let bytes = load(rt, path, &mut buf)?;
+    if is_table(bytes) {
         return Ok(Tables {
-            table: copied(source.bytes, table),
-            named: copied(source.bytes, named),
+            table: copied(bytes, table),
+            named: copied(bytes, named),
         });
     }
-    let table = compiled(rt, source, table, page)?;
+    let table = compiled(rt, &Source { path, bytes }, table, page)?;
     let mut names = Page::new(named);
-    cli_names::put_named(&mut names, table, source.bytes);
+    cli_names::put_named(&mut names, table, bytes);
     Ok(Tables {
         table,
         named: names.into_written(),
@@ -70,7 +72,7 @@ pub fn tables_of<'a>(
 }
 
 // The records of a table, unpacked into lent cells.
-pub fn records_of<'a>(table: &'a [u8], unpacked: &'a mut [u32]) -> Records<'a> {
+pub fn records_of<'t, 'c>(table: &'t [u8], unpacked: &'c mut [u32]) -> Records<'t, 'c> {
     let count = table_walk::unpack(table, unpacked).unwrap_or(0);
     Records {
         table,
@@ -111,8 +113,8 @@ pub fn compile_file(
     page: &mut Page,
 ) -> Result<(), Failed> {
     let mut buf = io::large_buffer();
-    let mut table = io::large_buffer();
     let bytes = load(rt, path, &mut buf)?;
+    let mut table = io::large_buffer();
     let table = compiled(rt, &Source { path, bytes }, &mut table, page)?;
     check_free(rt, to, bytes)?;
     save(rt, to, table)?;
@@ -136,13 +138,14 @@ fn print_records(rt: HostRuntime, table: &[u8], page: &mut Page) -> Result<(), F
 }
 
 pub fn show_file(rt: HostRuntime, path: &[u8], page: &mut Page) -> Result<(), Failed> {
-    let mut buf = io::large_buffer();
     let mut table = io::large_buffer();
     let mut named = io::large_buffer();
-    let bytes = load(rt, path, &mut buf)?;
-    let source = Source { path, bytes };
-    let tables = tables_of(rt, &source, &mut table, &mut named, page)?;
+    let tables = tables_of(rt, path, &mut table, &mut named, page)?;
     if !table::table_ok(tables.table) {
+        let source = Source {
+            path,
+            bytes: tables.table,
+        };
         return Err(refuse(rt, page, &source, NO_TABLE));
     }
     print_records(rt, tables.named, page)

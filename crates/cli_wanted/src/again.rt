@@ -18,6 +18,9 @@ fn open_at_end(s: &[u8]) -> usize {
     let mut open = 0;
     for _ in 0..s.len() {
         let h = u.head(s);
+        if h.kind == TokenKind::Nothing {
+            return open;
+        }
         open = open_after(h.kind, open);
         u = h.past;
     }

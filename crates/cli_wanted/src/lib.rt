@@ -6,7 +6,7 @@
 
 ghost use Rattle.std.specs.Prelude.{◌≡◌};
 ghost use Rattle.text.specs.Text.{Added};
-ghost use Rattle.table_records.specs.Shown.{record_of};
+ghost use Rattle.table_records.specs.Shown.{held_record};
 ghost use Rattle.cli_wanted.specs.Wanted.{resolved_in, type_of, is_choice, span_text, allowed_of, choice_text, wanted_text, wanted_range_text};
 
 mod again;
@@ -15,7 +15,7 @@ mod relaxed;
 use again::{body_row, due_at, read_cut};
 use cli_report::Rows;
 use cli_tables::{Tables, records_of};
-use numbers::{Refusal, Rule};
+use numbers::Rule;
 use relaxed::relaxed;
 use table_records::Records;
 use text::Page;
@@ -63,20 +63,15 @@ fn put_missing(page: &mut Page, records: &Records, s: usize, rows: &Rows, body: 
     page.byte(b'\n');
 }
 
-fn say_missing(
-    page: &mut Page,
-    relaxed: &[u8],
-    named: &[u8],
-    message: &[u8],
-    place: usize,
-    numbers: &mut [u32],
-) {
+fn say_missing(page: &mut Page, tables: Tables, message: &[u8], place: usize, numbers: &mut [u32]) {
+    let mut buf = io::large_buffer();
+    let relaxed = relaxed(tables.table, &mut buf);
     let rows = read_cut(relaxed, message, place, b"", numbers);
     let Some(body) = body_row(&rows, message, place) else {
         return;
     };
     let mut unpacked = [0u32; table_records::ALL_CELLS];
-    let records = records_of(named, &mut unpacked);
+    let records = records_of(tables.named, &mut unpacked);
     let s = resolved(&records, rows.row(body).parameter as usize);
     put_missing(page, &records, s, &rows, body);
 }
@@ -107,7 +102,7 @@ fn is_choice(records: &Records, p: usize) -> bool
 
 // "1 to 99999".
 fn put_span(page: &mut Page, records: &Records, t: usize)
-    ensures { Added (span_text (record_of records.now t).least (record_of records.now t).most) page.old page.new }
+    ensures { Added (span_text (held_record records.now t).least (held_record records.now t).most) page.old page.new }
 {
     cli_report::put_int(page, records.least_at(t));
     page.text(b" to ");
@@ -171,21 +166,23 @@ fn put_wanted_range(page: &mut Page, records: &Records, p: usize)
 // A void that takes the probing word is a union's, and says nothing of what else the union takes.
 fn say_wanted(
     page: &mut Page,
-    relaxed: &[u8],
-    named: &[u8],
+    tables: Tables,
     message: &[u8],
-    refusal: Refusal,
+    number: u32,
+    place: usize,
     numbers: &mut [u32],
 ) {
-    let Some(p) = due_at(relaxed, message, refusal.place, numbers) else {
+    let mut buf = io::large_buffer();
+    let relaxed = relaxed(tables.table, &mut buf);
+    let Some(p) = due_at(relaxed, message, place, numbers) else {
         return;
     };
     let mut unpacked = [0u32; table_records::ALL_CELLS];
-    let records = records_of(named, &mut unpacked);
+    let records = records_of(tables.named, &mut unpacked);
     if records.count <= p || records.kind_at(p) == numbers::VOID {
         return;
     }
-    if refusal.rule == Rule::ValueRange {
+    if number == Rule::ValueRange.number() {
         put_wanted_range(page, &records, p);
     } else {
         put_wanted(page, &records, p);
@@ -194,25 +191,19 @@ fn say_wanted(
 
 // ---- all three
 
-// Puts what more can be said of a refusal. The labels are those of the table with names.
+// Puts what more can be said of a refusal: nothing of a number that is none of the three. The labels are those of the
+// table with names.
 pub fn put_lacking(
     page: &mut Page,
     tables: Tables,
     message: &[u8],
-    refusal: Refusal,
+    number: u32,
+    place: usize,
     numbers: &mut [u32],
 ) {
-    let mut buf = io::large_buffer();
-    let named = tables.named;
-    match refusal.rule {
-        Rule::FieldMissing => {
-            let relaxed = relaxed(tables.table, &mut buf);
-            say_missing(page, relaxed, named, message, refusal.place, numbers);
-        }
-        Rule::ValueForm | Rule::ValueRange => {
-            let relaxed = relaxed(tables.table, &mut buf);
-            say_wanted(page, relaxed, named, message, refusal, numbers);
-        }
-        _ => {}
+    if number == Rule::FieldMissing.number() {
+        say_missing(page, tables, message, place, numbers);
+    } else if number == Rule::ValueForm.number() || number == Rule::ValueRange.number() {
+        say_wanted(page, tables, message, number, place, numbers);
     }
 }

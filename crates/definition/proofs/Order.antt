@@ -25,7 +25,7 @@ use Rattle.definition_cells.specs.Cells.{cell_at, noted_from}
 use Rattle.definition_cells.specs.Places.{at_if, lesser, least_place, least_from}
 use Rattle.definition_cells.proofs.PlaceLaws.{least_append, from_same}
 use Rattle.table_records.specs.Stored.{records_at}
-use Rattle.table_records.specs.Shown.{record_of, records_of}
+use Rattle.table_records.specs.Shown.{held_record, held_records}
 use Rattle.table_records.specs.declared.Records.{Records}
 use Rattle.table_records.proofs.Laws.{length_records}
 use Rattle.table_walk.specs.Walked.{RecordsCounted, Uncounted}
@@ -82,7 +82,7 @@ last_there rule (Some p) ps e = sym (hit (rule_number rule) ps [] p (sym e))
 
 module _ (text cs : List ℕ) (n : ℕ) (r : Records) (as_many : n ≡ r.count) where
   abbrev rs : List Record
-  rs = records_of r
+  rs = held_records r
 
   abbrev ns : List Noted
   ns = noted_from text cs n 0
@@ -102,7 +102,7 @@ module _ (text cs : List ℕ) (n : ℕ) (r : Records) (as_many : n ≡ r.count) 
   ten : (have : List Bool) → HasFinites rs have → least_from (name_fault (is_endless have) cs r) r.count 0 ≡ least_place (faults10 rs ns)
   ten have h = from_same (name_fault (is_endless have) cs r) (name_fault (is_endless (finites rs)) cs r) (λ j. ap (λ b. at_if b (cell_at cs j 4)) (same j)) r.count 0 ∙ spots (is_endless (finites rs))
     where
-      same : (j : ℕ) → is_endless have j (record_of r j) ≡ is_endless (finites rs) j (record_of r j)
+      same : (j : ℕ) → is_endless have j (held_record r j) ≡ is_endless (finites rs) j (held_record r j)
       same j = unfold is_endless in (rw (h j))
 
   -- where one of them refuses, and what follows where it passes

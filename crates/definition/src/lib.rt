@@ -11,7 +11,7 @@ ghost use Rattle.table_rules.specs.Endless.{EndlessPromise};
 ghost use Rattle.definition_cells.specs.Cells.{cell_at, parent_cell};
 ghost use Rattle.definition_cells.specs.Shown.{declared};
 ghost use Rattle.table_records.specs.Stored.{Laid};
-ghost use Rattle.table_records.specs.Shown.{records_of};
+ghost use Rattle.table_records.specs.Shown.{held_records};
 ghost use Rattle.definition.specs.Answers.{answer_of_compile, refused_at, stop_finding, checks7to10, verdict_from};
 
 use definition_cells::Declarations;
@@ -36,7 +36,7 @@ fn refuse(rule: Rule, place: Option<usize>) -> Result<(), Refusal>
 // Numbers 7 to 10, over the declarations and the records that were written for them.
 fn record_fault(noted: &Declarations, records: &Records) -> Result<(), Refusal>
     requires { (records.now.count ≤ parameter_limit) × Laid records.now.table.now records.now.unpacked.now records.now.count }
-    ensures { noted.now.count ≡ records.now.count → AfterParents (records_of records.now) → stop_finding result ≡ first_fault (checks7to10 (records_of records.now) (declared noted.now)) }
+    ensures { noted.now.count ≡ records.now.count → AfterParents (held_records records.now) → stop_finding result ≡ first_fault (checks7to10 (held_records records.now) (declared noted.now)) }
 {
     let placed = definition_faults::misplaced(noted, records);
     refuse(Rule::Placement, placed)?;
@@ -117,13 +117,15 @@ pub fn compile(text: &[u8], table: &mut [u8]) -> Result<usize, Refusal>
     }
     refuse(Rule::DefinitionTokens, definition_scanner::scan_fault(text))?;
     let mut cells = [0; definition_cells::ALL_CELLS];
-    let count = definition_forms::forms(text, &mut cells)?;
-    compile_declarations(
-        &Declarations {
-            text,
-            cells: &cells,
-            count,
-        },
-        table,
-    )
+    match definition_forms::forms(text, &mut cells) {
+        Ok(count) => compile_declarations(
+            &Declarations {
+                text,
+                cells: &cells,
+                count,
+            },
+            table,
+        ),
+        Err(refusal) => Err(refusal),
+    }
 }

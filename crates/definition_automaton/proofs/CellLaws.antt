@@ -1,23 +1,12 @@
--- Stores one after the other are one row of numbers; stores among the open bodies are stores among their numbers.
+-- Stores among the open bodies are stores among their numbers.
 use mathlib.Core.Path.{◌≡◌}
-use mathlib.Core.List.{List, [], ◌∷◌, map}
-use Prim.Native.Nat.{ℕ, zero, suc, ◌+◌, ◌<◌}
-use native.Mathlib.Nat.{add-zero}
-use native.Mathlib.Omega.{arith}
-use lib.ListN.{length, get_or, set, take}
-use lib.Seq.{sets}
+use mathlib.Core.List.{List, map}
+use Prim.Native.Nat.{ℕ}
+use lib.ListN.{get_or, set}
 use Rattle.std.proofs.lemmas.List.{map-set}
 use Rattle.std.proofs.Math.Seq.{map-set_same}
 use Rattle.definition_automaton.specs.Codes.{no_body, body_parameter, body_part}
 use Rattle.definition_automaton.specs.declared.Body.{Body}
-
--- one number more of a row
-pub sets_more : (row xs : List ℕ) (at i : ℕ) → i < length row → set (sets xs at (take i row)) (at + i) (get_or row i 0) ≡ sets xs at (take (suc i) row)
-sets_more [] xs at i h = absurd (omega arith)
-sets_more (v ∷ row) xs at zero h = rw (add-zero at)
-sets_more (v ∷ row) xs at (suc i) h =
-    let e : at + suc i ≡ suc at + i = omega arith in
-    rw e (sets_more row (set xs at v) (suc at) i (omega arith))
 
 -- a body is stored
 pub parts_set : (bs : List Body) (i : ℕ) (b : Body) → map body_part (set bs i b) ≡ set (map body_part bs) i (body_part b)

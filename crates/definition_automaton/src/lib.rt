@@ -343,14 +343,6 @@ impl Action {
             | Action::CloseGroup => Mode::AtStart,
         }
     }
-
-    // Whether it ends a heading.
-    #[tactic(auto, unfolding(crate::specs::Noting::notes, classes::specs::Lists::pick))]
-    fn notes(self) -> bool
-        ensures { result ≡ notes (act_number self) }
-    {
-        matches!(self, Action::EndHeading | Action::OpenBody)
-    }
 }
 
 // ---- the state
@@ -476,24 +468,29 @@ impl State {
         self
     }
 
-    fn moved(mut self, act: Action) -> State
-        ensures { stand_of result ≡ mode_moved (stand_of self) (act_number act) }
+    #[tactic(auto, unfolding(crate::specs::Acts::next_mode, crate::specs::Acts::next_modes, classes::specs::Lists::pick))]
+    fn moved(mut self, act: Option<Action>) -> State
+        ensures { stand_of result ≡ mode_moved (stand_of self) (answer_number act) }
     {
-        self.mode = act.next();
+        self.mode = match act {
+            Some(act) => act.next(),
+            None => Mode::AtStart,
+        };
         self
     }
 
+    // What an action makes of it. A token that can't go on has none, and leaves the mode of a start.
     #[tactic(auto, unfolding(crate::specs::States::after_of, classes::specs::Lists::pick))]
-    pub fn acted(self, act: Action, name: usize) -> State
-        ensures { stand_of result ≡ after_of (stand_of self) (act_number act) name }
+    pub fn acted(self, act: Option<Action>, name: usize) -> State
+        ensures { stand_of result ≡ after_of (stand_of self) (answer_number act) name }
     {
         let st = self.moved(act);
         match act {
-            Action::EndHeading => st.field_done().counted(name),
-            Action::OpenBody => st.field_done().pushed().counted(name),
-            Action::CloseBody => st.popped(),
-            Action::OpenGroup => st.in_body(Part::Opened),
-            Action::CloseGroup => st.in_body(Part::Closed),
+            Some(Action::EndHeading) => st.field_done().counted(name),
+            Some(Action::OpenBody) => st.field_done().pushed().counted(name),
+            Some(Action::CloseBody) => st.popped(),
+            Some(Action::OpenGroup) => st.in_body(Part::Opened),
+            Some(Action::CloseGroup) => st.in_body(Part::Closed),
             _ => st,
         }
     }
@@ -538,37 +535,37 @@ impl Pending {
 
     // What an act takes of the token at hand. Without a range it stands at the type.
     #[tactic(auto, unfolding(crate::specs::Noting::pending_by, classes::specs::Lists::pick))]
-    pub fn read(self, act: Action, token: Token, x: Span) -> Pending
-        ensures { hand_of result ≡ pending_by (hand_of self) (act_number act) (token_number token) x }
+    pub fn read(self, act: Option<Action>, token: Token, x: Span) -> Pending
+        ensures { hand_of result ≡ pending_by (hand_of self) (answer_number act) (token_number token) x }
     {
         match act {
-            Action::TakeType => Pending {
+            Some(Action::TakeType) => Pending {
                 typed: x,
                 kind: token,
                 ..self
             },
-            Action::TakeRange => Pending { range: x, ..self },
-            Action::TakeName => Pending {
+            Some(Action::TakeRange) => Pending { range: x, ..self },
+            Some(Action::TakeName) => Pending {
                 range: self.typed,
                 ..self
             }
             .named(false, x),
-            Action::TakeNameAfterRange => self.named(true, x),
-            Action::TakeCard => Pending {
+            Some(Action::TakeNameAfterRange) => self.named(true, x),
+            Some(Action::TakeCard) => Pending {
                 card: x,
                 carded: true,
                 ..self
             },
-            Action::TakeTag => Pending {
+            Some(Action::TakeTag) => Pending {
                 tag: x,
                 tagged: Tagged::Explicit,
                 ..self
             },
-            Action::TakeNoTag => Pending {
+            Some(Action::TakeNoTag) => Pending {
                 tagged: Tagged::Tagless,
                 ..self
             },
-            Action::TakePlugin => Pending {
+            Some(Action::TakePlugin) => Pending {
                 plugin: true,
                 ..self
             },
@@ -604,7 +601,7 @@ impl Pending {
 // ---- notes
 
 // Numbers from a place on; nothing is stored past the end.
-#[tactic(auto, using(crate::proofs::CellLaws::sets_more))]
+#[tactic(auto, using(classes::proofs::Stores::sets_more))]
 fn put(cells: &mut [u32], at: usize, row: &[u32])
     requires { at + length row.now ≤ cell_width * parameter_limit }
     ensures { cells.new ≡ sets cells.old at row.now }
@@ -622,12 +619,20 @@ fn is_extension(context: Option<Part>) -> bool
     matches!(context, Some(Part::Opened | Part::Group))
 }
 
+// Whether an action ends a heading.
+#[tactic(auto, unfolding(crate::specs::Noting::notes, classes::specs::Lists::pick))]
+fn notes(act: Option<Action>) -> bool
+    ensures { result ≡ notes (answer_number act) }
+{
+    matches!(act, Some(Action::EndHeading | Action::OpenBody))
+}
+
 // Notes a declaration where its heading ends, one of the first 256.
 #[tactic(auto, unfolding(crate::specs::Noting::note_cells, classes::specs::Lists::pick))]
-pub fn note(st: State, p: Pending, act: Action, cells: &mut [u32])
-    ensures { cells.new ≡ note_cells (stand_of st) (hand_of p) (act_number act) cells.old }
+pub fn note(st: State, p: Pending, act: Option<Action>, cells: &mut [u32])
+    ensures { cells.new ≡ note_cells (stand_of st) (hand_of p) (answer_number act) cells.old }
 {
-    if act.notes() && st.count < numbers::PARAMETER_LIMIT {
+    if notes(act) && st.count < numbers::PARAMETER_LIMIT {
         let row = p.numbers(is_extension(st.context()), st.parent());
         put(cells, definition_cells::WIDTH * st.count, &row);
     }

@@ -44,25 +44,30 @@ pub const TAGLESS: u32 = 1;
 
 pub const NO_PARENT: u32 = numbers::NONE16 as u32;
 
-// The declarations noted of a text: the text, the row of their numbers, and how many they are.
+// The declarations noted of a text: the text, the row of their numbers, and how many they are. A run is lent as long as the
+// text is, and no matter how long the row.
 #[derive(Clone, Copy)]
-pub struct Declarations<'a> {
-    pub text: &'a [u8],
-    pub cells: &'a [u32],
+pub struct Declarations<'t, 'c> {
+    pub text: &'t [u8],
+    pub cells: &'c [u32],
     pub count: usize,
 }
 
-impl<'a> Declarations<'a> {
+impl<'t> Declarations<'t, '_> {
     // The k-th number of declaration i, 0 past the end.
     pub fn cell(&self, i: usize, k: usize) -> u32
         ensures { result ≡ cell_at self.now.cells.now i k }
     {
-        numbers::get_or(self.cells, i.saturating_mul(WIDTH).saturating_add(k), 0)
+        let len = self.cells.len();
+        if len / WIDTH < i || len <= k {
+            return 0;
+        }
+        numbers::get_or(self.cells, WIDTH * i + k, 0)
     }
 
     // The run of declaration i whose start is its k-th number.
     #[tactic(auto, unfolding(crate::specs::Cells::run_at))]
-    pub fn run(&self, i: usize, k: usize) -> &'a [u8]
+    pub fn run(&self, i: usize, k: usize) -> &'t [u8]
         ensures { result.now ≡ run_at self.now.text.now self.now.cells.now i k }
     {
         let start = self.cell(i, k) as usize;

@@ -1,15 +1,12 @@
 -- The checks over plain lists: one declaration, then all. Assumes nothing.
-use Rattle.std.specs.Prelude.{Option, MatchBool}
-use Rattle.std.specs.List.{range_with_len, HoldsAt, AllWithin}
-use Rattle.std.proofs.lemmas.List.FromFn.{get_or-range_with_len, length-range_with_len}
-use mathlib.Core.Path.{◌≡◌, refl, sym, ap, subst, ◌∙◌}
+use Rattle.std.specs.Prelude.{Option}
+use mathlib.Core.Path.{◌≡◌, refl, sym, ap, ◌∙◌}
 use mathlib.Core.Bool.{Bool, true, false, not, ◌&&◌, ◌||◌}
 use mathlib.Core.List.{List, [], ◌∷◌, ◌++◌}
 use Prim.Native.Nat.{ℕ, zero, suc, ◌+◌, ◌-◌, ◌<◌, ◌≤◌}
 use native.Mathlib.Nat.{zero-add, add-zero}
 use native.Mathlib.Omega.{arith}
 use lib.Dec.{eqb, ltb}
-use lib.ListN.{length, get_or}
 use borrow.Author.Tests.{eq-eqb, ne_eqb, eqb-true, eqb-false, ltb-true, ltb-false, lt-ltb, le-ltb}
 use Rattle.classes.specs.Lists.{pick}
 use Rattle.numbers.specs.Limits.{none16}
@@ -57,10 +54,6 @@ form_all t cs n =
 
 -- ---- 8
 
-and_no : (b : Bool) → (b && false) ≡ false
-and_no true = refl
-and_no false = refl
-
 -- two parents as numbers
 up_same : (x y : ℕ) → same_up (number_up x) (number_up y) ≡ eqb x y
 unfolding number_up
@@ -76,37 +69,20 @@ pub key_same : (t cs : List ℕ) (i j : ℕ) → same_key (key_at t cs i) (key_a
 unfolding same_key
 key_same t cs i j = rw (up_same (cell_at cs i 15) (cell_at cs j 15))
 
-module _ (t cs : List ℕ) (i : ℕ) where
-  -- the keys below with one more
-  below : (j : ℕ) → is_new_key (key_at t cs i) (keys_below t cs (suc j)) ≡ (not (same_key_at t cs i j) && is_new_key (key_at t cs i) (keys_below t cs j))
+module _ (t cs : List ℕ) (i j : ℕ) where
+  below : 0 < j → is_new_key (key_at t cs i) (keys_below t cs j) ≡ (not (same_key_at t cs i (j - 1)) && is_new_key (key_at t cs i) (keys_below t cs (j - 1)))
   unfolding keys_below is_new_key
-  below j = rw (key_same t cs i j)
+  below h = let p : j ≡ suc (j - 1) = omega arith in ap (λ x. is_new_key (key_at t cs i) (keys_below t cs x)) p ∙ rw (key_same t cs i (j - 1))
 
-  pub old_key : (j k : ℕ) → k < j → same_key_at t cs i k ≡ true → is_new_key (key_at t cs i) (keys_below t cs j) ≡ false
-  old_key zero k h e = absurd (omega arith)
-  old_key (suc j) k h e = by (eqb k j) refl (λ l. old_key j k l e)
-    where
-      by : (b : Bool) → eqb k j ≡ b → (k < j → is_new_key (key_at t cs i) (keys_below t cs j) ≡ false) → is_new_key (key_at t cs i) (keys_below t cs (suc j)) ≡ false
-      by true q f = below j ∙ rw (← eqb-true k j q, e)
-      by false q f = below j ∙ rw (f (omega (arith, eqb-false k j q))) (and_no (not (same_key_at t cs i j)))
+  pub below_same : 0 < j → same_key_at t cs i (j - 1) ≡ true → not (is_new_key (key_at t cs i) (keys_below t cs j)) ≡ true
+  below_same h e = ap not (below h) ∙ rw e
 
-  pub new_key : (j : ℕ) → ((k : ℕ) → k < j → same_key_at t cs i k ≡ false) → is_new_key (key_at t cs i) (keys_below t cs j) ≡ true
+  pub below_other : 0 < j → same_key_at t cs i (j - 1) ≡ false → not (is_new_key (key_at t cs i) (keys_below t cs j)) ≡ not (is_new_key (key_at t cs i) (keys_below t cs (j - 1)))
+  below_other h e = ap not (below h) ∙ rw e
+
+  pub below_end : j ≤ 0 → not (is_new_key (key_at t cs i) (keys_below t cs j)) ≡ false
   unfolding keys_below is_new_key
-  new_key zero a = refl
-  new_key (suc j) a = below j ∙ rw (a j (omega arith), new_key j (λ k h. a k (omega arith)))
-
-  -- what a search among the declarations below answers
-  at_place : (k : ℕ) → k < i → get_or (range_with_len 0 i) k 0 ≡ k
-  at_place k h = get_or-range_with_len 0 i k 0 h ∙ zero-add k
-
-  pub is_old : (r : Bool)
-      → MatchBool r ((k : ℕ) × (k < length (range_with_len 0 i)) × HoldsAt (λ j. same_key_at t cs i j ≡ true) (range_with_len 0 i) k) (AllWithin (λ j. same_key_at t cs i j ≡ false) (range_with_len 0 i) 0 (length (range_with_len 0 i)))
-      → r ≡ not (is_new_key (key_at t cs i) (keys_below t cs i))
-  is_old true m =
-      let h : m.0 < i = omega (arith, m.1, length-range_with_len 0 i) in
-      sym (ap not (old_key i m.0 h (subst (λ (x : ℕ). same_key_at t cs i x ≡ true) (at_place m.0 h) (m.2 0))))
-  is_old false m =
-      sym (ap not (new_key i (λ k h. subst (λ (x : ℕ). same_key_at t cs i x ≡ false) (at_place k h) (m k 0 (omega arith) (omega (arith, length-range_with_len 0 i))))))
+  below_end h = let p : j ≡ 0 = omega arith in rw p
 
 repeat_from : (t cs : List ℕ) (n i : ℕ) → least_place (repeated_names (keys_below t cs i) (noted_from t cs n i)) ≡ least_from (repeat_fault t cs) n i
 unfolding repeated_names noted_from least_place least_from

@@ -151,7 +151,14 @@ fn same_key(noted: &Declarations, i: usize, j: usize) -> bool
 fn is_repeated(noted: &Declarations, i: usize) -> bool
     ensures { result ≡ not (is_new_key (key_at noted.now.text.now noted.now.cells.now i) (keys_below noted.now.text.now noted.now.cells.now i)) }
 {
-    (0..i).any(|j| same_key(noted, i, j))
+    // A copy, so that its parts are at hand in each turn.
+    let noted = *noted;
+    for j in (0..i).rev() {
+        if same_key(&noted, i, j) {
+            return true;
+        }
+    }
+    false
 }
 
 #[tactic(auto, unfolding(crate::specs::Checks::repeat_fault))]

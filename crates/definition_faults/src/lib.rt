@@ -6,7 +6,7 @@ ghost use Rattle.definition_rules.specs.Faults.{rule7_broken, root_no_struct};
 ghost use Rattle.definition_rules.specs.Finite.{is_endless};
 ghost use Rattle.definition_cells.specs.Places.{least_from};
 ghost use Rattle.table_records.specs.Stored.{Laid};
-ghost use Rattle.table_records.specs.Shown.{records_of};
+ghost use Rattle.table_records.specs.Shown.{held_records};
 ghost use Rattle.definition_faults.specs.RecordFaults.{name_fault, tag_fault};
 
 use definition_cells::Declarations;
@@ -14,7 +14,7 @@ use table_records::Records;
 
 // Number 7: the least place of the name of a parameter that is not placed as it may be.
 pub fn misplaced(noted: &Declarations, records: &Records) -> Option<usize>
-    ensures { result ≡ least_from (name_fault (rule7_broken (records_of records.now)) noted.now.cells.now records.now) records.now.count 0 }
+    ensures { result ≡ least_from (name_fault (rule7_broken (held_records records.now)) noted.now.cells.now records.now) records.now.count 0 }
 {
     definition_cells::least_fault(records.count, |i| {
         definition_cells::at_if(

@@ -1,6 +1,8 @@
 -- What a run's number says of the run.
 use mathlib.Core.Path.{◌≡◌, refl, sym, subst, ◌∙◌}
-use mathlib.Core.Bool.{Bool, true, false, not, ◌&&◌}
+use Rattle.std.specs.Prelude.{Option, Some, None}
+use Rattle.std.specs.Option.{is_some}
+use mathlib.Core.Bool.{Bool, true, false, not, ◌&&◌, false≢true}
 use mathlib.Core.List.{List, []}
 use Prim.Native.Nat.{ℕ, ◌≤◌, ◌<◌}
 use native.Mathlib.Omega.{arith}
@@ -12,7 +14,7 @@ use Rattle.classes.specs.Bytes.{is_mark}
 use Rattle.definition_rules.specs.Words.{kw_as, kw_plugin, number_if, number_in, kind_of_run, takes_range, is_compound, is_reference}
 use Rattle.definition_words.proofs.WordLaws.{same_sym}
 use Rattle.definition_automaton.specs.Acts.{type_kind, run_kind}
-use Rattle.definition_automaton.specs.Codes.{token_number, act_number}
+use Rattle.definition_automaton.specs.Codes.{token_number, act_number, answer_number}
 use Rattle.definition_automaton.specs.declared.Action.{Action}
 use Rattle.definition_automaton.specs.declared.Action.TheVariants.{TakeType, OpenRange, TakeRange, CloseRange, TakeName, OpenCard, TakeCard, CloseCard, TakeAs, TakeTag, TakeNoTag, TakePlugin, EndHeading, OpenBody, CloseBody, EndBody, OpenGroup, CloseGroup, TakeNameAfterRange}
 use Rattle.definition_automaton.specs.declared.Token.{Token}
@@ -123,3 +125,12 @@ some_act EndBody e = absurd (omega arith)
 some_act OpenGroup e = absurd (omega arith)
 some_act CloseGroup e = absurd (omega arith)
 some_act TakeNameAfterRange e = absurd (omega arith)
+
+-- an answer that is none has the number 0, and no other has
+pub no_act : (a : Option Action) → is_some a ≡ false → answer_number a ≡ 0
+no_act None e = refl
+no_act (Some a) e = absurd (false≢true (sym e))
+
+pub an_act : (a : Option Action) → is_some a ≡ true → answer_number a ≡ 0 → ⊥
+an_act None e = absurd (false≢true e)
+an_act (Some a) e = some_act a

@@ -27,7 +27,7 @@ use Rattle.definition_automaton.specs.Noting.{Hand, span, none, pending_by, cell
 use Rattle.definition_automaton.specs.declared.Span.{Span}
 use Rattle.definition_automaton.proofs.Views.{frames_from, open_frames, run_in, spots_in, phase_in, context_in, frames_after, noted_in, action_in}
 use Rattle.definition_automaton.proofs.StepLaws.{KindFacts, mark_step, run_step}
-use Rattle.definition_forms.specs.Formed.{StuckIn, OverIn, CompleteIn, stuck, RefusedAs, stuck_in, over_in, FormedAs}
+use Rattle.definition_forms.specs.Formed.{StuckIn, OverIn, CompleteIn, stuck_refusal, RefusedAs, stuck_in, over_in, FormedAs}
 use Rattle.definition_forms.specs.Sees.{Told, ended, broken, marked, ran, Sees, Sight, finish_of}
 use Rattle.numbers.specs.declared.Refusal.{Refusal}
 use Rattle.std.specs.Prelude.{Result}
@@ -266,7 +266,7 @@ module _ {text cells : List ℕ} {x : Sight} {s : Stand} {p : Hand} (i : Inv tex
       by (ran b e) f g h = after_run (rw (f, g, h) at b) (rw (g, h) at e)
 
   -- a token that can't go on
-  pub inv_stuck : (x.kind ≡ 0 → ⊥) → a ≡ 0 → (r : Refusal) → r ≡ stuck x.start → RefusedAs text r
+  pub inv_stuck : (x.kind ≡ 0 → ⊥) → a ≡ 0 → (r : Refusal) → r ≡ stuck_refusal x.start → RefusedAs text r
   inv_stuck z q r h =
       let t = taken z in
       let f : step (open_frames s) s.count x.start (phase_in text s.mode p) t.tok ≡ stop = t.goes ∙ action_stop text (open_frames s) s.count p a x.kind (span x.start x.end) q in

@@ -41,8 +41,8 @@ abbrev pub FormedAs : List ℕ → List ℕ → Result ℕ Refusal → Type 0
 FormedAs text cells (Ok n) = CompleteIn text cells n
 FormedAs text cells (Err r) = RefusedAs text r
 
-abbrev pub stuck : ℕ → Refusal
-stuck p = record { rule = DefinitionForms; place = p }
+abbrev pub stuck_refusal : ℕ → Refusal
+stuck_refusal p = record { rule = DefinitionForms; place = p }
 
 abbrev pub over : ℕ → Refusal
 over p = record { rule = ParameterCount; place = p }

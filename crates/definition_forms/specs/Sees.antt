@@ -10,7 +10,7 @@ use Rattle.definition_automaton.specs.Acts.{run_kind}
 use Rattle.definition_automaton.specs.States.{Stand}
 use Rattle.definition_automaton.specs.Codes.{token_number}
 use Rattle.definition_forms.specs.declared.Seen.{Seen}
-use Rattle.definition_forms.specs.Formed.{stuck, over}
+use Rattle.definition_forms.specs.Formed.{stuck_refusal, over}
 use Rattle.numbers.specs.declared.Refusal.{Refusal}
 
 -- the token that stands next, by its number
@@ -38,4 +38,4 @@ pub record Sees (text : List ℕ) (at : ℕ) (x : Sight) : Type 0 where
 
 unfoldable pub finish_of : Stand → ℕ → Result ℕ Refusal
 finish_of s len =
-    pick (eqb s.mode at_start_mode) (pick (eqb s.depth 0) (pick (eqb s.count 0) (Err (stuck len)) (pick (ltb parameter_limit s.count) (Err (over s.over)) (Ok s.count))) (Err (stuck len))) (Err (stuck len))
+    pick (eqb s.mode at_start_mode) (pick (eqb s.depth 0) (pick (eqb s.count 0) (Err (stuck_refusal len)) (pick (ltb parameter_limit s.count) (Err (over s.over)) (Ok s.count))) (Err (stuck_refusal len))) (Err (stuck_refusal len))

@@ -10,7 +10,7 @@ ghost use Rattle.definition_rules.specs.Compile.{faults2};
 ghost use Rattle.definition_automaton.specs.Acts.{type_kind, run_kind};
 ghost use Rattle.definition_automaton.specs.Codes.{token_number, stand_of};
 ghost use Rattle.definition_forms.specs.Sees.{Sees, sight_of, finish_of};
-ghost use Rattle.definition_forms.specs.Formed.{stuck, FormedAs};
+ghost use Rattle.definition_forms.specs.Formed.{stuck_refusal, FormedAs};
 
 use definition_automaton::{Mode, Span, State, Token};
 use definition_scanner::{Cursor, Lexeme};
@@ -98,7 +98,7 @@ fn seen_from(c: Cursor, text: &[u8]) -> Seen
 
 // The tokens don't fit the forms, from a place on.
 fn stuck(place: usize) -> Refusal
-    ensures { result ≡ stuck place }
+    ensures { result ≡ stuck_refusal place }
 {
     Refusal {
         rule: Rule::DefinitionForms,
@@ -135,9 +135,11 @@ pub fn forms(text: &[u8], cells: &mut [u32]) -> Result<usize, Refusal>
     let mut st = definition_automaton::start();
     let mut p = definition_automaton::nothing();
     while x.kind != Token::End {
-        let Some(act) = definition_automaton::act(st.mode, st.context(), p.kind, x.kind) else {
+        let act = definition_automaton::act(st.mode, st.context(), p.kind, x.kind);
+        let is_stuck = act.is_none();
+        if is_stuck {
             return Err(stuck(x.start));
-        };
+        }
         definition_automaton::note(st, p, act, cells);
         st = st.acted(act, p.name.start as usize);
         let run = Span {

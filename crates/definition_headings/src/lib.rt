@@ -60,7 +60,7 @@ pub fn high(range: Option<Range>) -> u32
 
 // The wire tag, or the name where untagged or top.
 #[tactic(auto, unfolding(definition_rules::specs::Records::label_of, definition_cells::specs::Cells::tag_at, classes::specs::Lists::pick))]
-pub fn label<'a>(noted: &Declarations<'a>, i: usize) -> &'a [u8]
+pub fn label<'t>(noted: &Declarations<'t, '_>, i: usize) -> &'t [u8]
     ensures { result.now ≡ label_at noted.now.text.now noted.now.cells.now i }
 {
     let tag = noted.cell(i, definition_cells::TAGGED);
@@ -87,7 +87,9 @@ fn is_named(noted: &Declarations, j: usize, w: &[u8]) -> bool
 fn find_top(noted: &Declarations, w: &[u8]) -> Option<usize>
     ensures { side_of result ≡ find_top (names_from noted.now.text.now noted.now.cells.now noted.now.count 0) 0 w.now }
 {
-    (0..noted.count).find(|j| is_named(noted, *j, w))
+    // A copy, so that its parts are at hand in each turn.
+    let noted = *noted;
+    (0..noted.count).find(|j| is_named(&noted, *j, w))
 }
 
 // The number of the top that a reference names, else 65,535, which is what a table holds for none (`target_of`).

@@ -1,6 +1,6 @@
 -- Laws of the questions about a run, said of plain lists.
 use Prim.Native.Nat.{ℕ, suc}
-use mathlib.Core.Bool.{Bool, true, false}
+use mathlib.Core.Bool.{Bool, true, false, ◌&&◌}
 use mathlib.Core.List.{List, [], ◌∷◌}
 use mathlib.Core.Path.{◌≡◌, refl, sym}
 use native.Mathlib.Omega.{arith}
@@ -47,3 +47,14 @@ same_sym [] [] = refl
 same_sym [] (b ∷ l) = refl
 same_sym (a ∷ k) [] = refl
 same_sym (a ∷ k) (b ∷ l) = rw (eqb_sym a b, same_sym k l)
+
+-- of four tests, the third holds, or doesn't
+pub third_holds : (a b d : Bool) → (a && b) && d ≡ a && b && true && d
+third_holds true true d = refl
+third_holds true false d = refl
+third_holds false b d = refl
+
+pub third_fails : (a b d : Bool) → false ≡ a && b && false && d
+third_fails true true d = refl
+third_fails true false d = refl
+third_fails false b d = refl

@@ -86,7 +86,8 @@ pub fn name_form(w: &[u8]) -> bool
     ensures { result ≡ name_form w.now }
 {
     let is_short = w.len() <= numbers::LABEL_LIMIT;
-    starts_with_letter(w) & w.iter().all(|b| classes::is_name_byte(*b)) & is_short & !is_keyword(w)
+    is_short
+        && (starts_with_letter(w) & w.iter().all(|b| classes::is_name_byte(*b)) & !is_keyword(w))
 }
 
 // 1 to 63 letters, digits, - _ and dots.

@@ -2,16 +2,15 @@
 use mathlib.Core.Path.{◌≡◌, refl, sym, ap, ◌∙◌}
 use mathlib.Core.Bool.{Bool, true, false}
 use mathlib.Core.List.{List, [], ◌∷◌, ◌++◌}
-use Prim.Native.Nat.{ℕ, suc, ◌+◌, ◌-◌, ◌%◌, ◌<◌, ◌≤◌, min}
+use Prim.Native.Nat.{ℕ, suc, ◌+◌, ◌-◌, ◌%◌, ◌<◌, ◌≤◌}
 use native.Mathlib.Numerals.{add-one}
 use native.Mathlib.Nat.{zero-add}
 use native.Mathlib.Omega.{arith}
-use lib.Dec.{eqb, leb}
-use lib.ListN.{length, take, drop, length-append, length-drop, length-take, take-append-drop}
-use lib.Seq.{sets, length-take-le, take-length, length-sets, drop-drop, sets-eq}
-use borrow.Author.Tests.{eqb-true, leb-true, leb-false}
-use Rattle.std.proofs.Common.{append_assoc}
-use Rattle.classes.proofs.Stores.{sets_append, sets_out}
+use lib.Dec.{eqb}
+use lib.ListN.{length, take, drop, length-append, length-drop, length-take}
+use lib.Seq.{sets, length-take-le, sets-eq}
+use borrow.Author.Tests.{eqb-true}
+use Rattle.classes.proofs.Stores.{sets_append}
 use Rattle.classes.specs.Lists.{pick, part}
 use Rattle.numbers.specs.LittleEndian.{put16, put32, signed, set16, set32}
 use Rattle.numbers.specs.Range.{MaybeRange, low_of, high_of}
@@ -41,35 +40,6 @@ unfolding put16 put32
 set_four l at v =
     let p : at + 2 ≡ suc (suc at) = omega arith in
     rw (p, add-one (suc (suc at)), add-one at)
-
--- as many bytes of s as the row has room for from a place on, stored there
-module _ (l s : List ℕ) (at n : ℕ) (e : n ≡ min (length s) (length l - at)) where
-  stored_all : sets l at (take n s) ≡ sets l at s
-  stored_all = by (leb (length s) n) refl
-    where
-      by : (b : Bool) → leb (length s) n ≡ b → sets l at (take n s) ≡ sets l at s
-      by true q = let p : n ≡ length s = omega (arith, leb-true (length s) n q) in rw p (ap (sets l at) (take-length s))
-      by false q =
-          let p : length (take n s) ≡ n = length-take-le n s (omega arith) in
-          let r : sets (sets l at (take n s)) (at + length (take n s)) (drop n s) ≡ sets l at (take n s ++ drop n s) = sets_append (take n s) (drop n s) l at in
-          sym (sets_out (drop n s) (sets l at (take n s)) (at + length (take n s)) (omega (arith, p, length-sets l at (take n s), leb-false (length s) n q)))
-          ∙ (r ∙ ap (sets l at) (take-append-drop n s))
-
-  stored_within : at ≤ length l → take at l ++ (take n s ++ drop n (drop at l)) ≡ sets l at s
-  stored_within h =
-      let p : length (take n s) ≡ n = length-take-le n s (omega arith) in
-      let q : sets l at (take n s) ≡ take at l ++ (take n s ++ drop (at + length (take n s)) l) = rw append_assoc at (sets-eq (take n s) l at (omega (arith, p))) in
-      rw (drop-drop n at l) (sym (rw p at q)) ∙ stored_all
-
-pub stored : (l s x : List ℕ) (at a n k : ℕ) → a ≡ min at (length l) → n ≡ min (length s) (length l - a) → k ≡ n → x ≡ take n s → take a l ++ (x ++ drop k (drop a l)) ≡ sets l at s
-stored l s x at a n k ea en ek ex = by (leb at (length l)) refl
-  where
-    by : (b : Bool) → leb at (length l) ≡ b → take a l ++ (x ++ drop k (drop a l)) ≡ sets l at s
-    by true q = let p : a ≡ at = omega (arith, leb-true at (length l) q) in rw (ek, ex, p) (stored_within l s at n (rw p at en) (leb-true at (length l) q))
-    by false q =
-        let p : a ≡ length l = omega (arith, leb-false at (length l) q) in
-        rw (ek, ex) (stored_within l s a n en (omega arith))
-        ∙ (sets_out s l a (omega arith) ∙ sym (sets_out s l at (omega (arith, leb-false at (length l) q))))
 
 -- where both are long enough
 pub copied : (s d : List ℕ) (len : ℕ) → len ≤ length s → len ≤ length d → sets d 0 (take len s) ≡ take len s ++ drop len d

@@ -30,13 +30,17 @@ fn put_limit(table: &mut [u8], at: usize, v: u32)
     numbers::put_int(table, at, v);
 }
 
-// Writes a row of bytes.
+// Writes a row of bytes, one by one: for a copy at once C's memcpy would have to be there (include/lumas.h).
+#[tactic(auto, using(classes::proofs::Stores::sets_more, classes::proofs::Stores::sets_out))]
 fn put_bytes(table: &mut [u8], at: usize, s: &[u8])
     ensures { table.new ≡ sets table.old at s.now }
 {
-    let start = at.min(table.len());
-    let len = s.len().min(table.len() - start);
-    table[start..start + len].copy_from_slice(&s[..len]);
+    if table.len() <= at {
+        return;
+    }
+    for (i, b) in s.iter().enumerate() {
+        numbers::set(table, at + i, *b);
+    }
 }
 
 // ---- one record

@@ -35,11 +35,11 @@ pub record CompileTold (text : List ℕ) (room n v : ℕ) : Type 0 where
   pub fits : table_most ≤ room → n ≡ 11 → ⊥
 
 module _ (text : List ℕ) (room : ℕ) where
-  told_table : (n : ℕ) → compiler.compiled n ≡ compile_answer text room → StuckPromise text (compiler.compiled n) × EndlessPromise text (compiler.compiled n) → CompileTold text room 0 n
+  pub told_table : (n : ℕ) → compiler.compiled n ≡ compile_answer text room → StuckPromise text (compiler.compiled n) × EndlessPromise text (compiler.compiled n) → CompileTold text room 0 n
   unfolding compile_value compiler.number_of_compile compiler.length_of_compile compiler.place_of_compile
   told_table n e promise = record { number = rw (← e); value = rw (← e) (omega arith); heard = e; stuck = promise.0; endless = promise.1; fits = λ _ z. omega (arith, z) }
 
-  told_refusal : (n p : ℕ) → compiler.refusal n p ≡ compile_answer text room → StuckPromise text (compiler.refusal n p) × EndlessPromise text (compiler.refusal n p) → CompileTold text room n p
+  pub told_refusal : (n p : ℕ) → compiler.refusal n p ≡ compile_answer text room → StuckPromise text (compiler.refusal n p) × EndlessPromise text (compiler.refusal n p) → CompileTold text room n p
   unfolding compile_value compiler.number_of_compile compiler.length_of_compile compiler.place_of_compile
   told_refusal n p e promise =
       let h : compile_heard n p ≡ compiler.refusal n p = heard_refusal n p (compile_number text room n p (sym e)).0 in
@@ -63,12 +63,12 @@ pub record ReadTold (table message lent : List ℕ) (n v : ℕ) (after : List �
   pub promise : ReadPromise table message lent (read_heard n v) after
 
 module _ (table message lent after : List ℕ) where
-  told_rows : (n : ℕ) → reader.accepted n ≡ read_answer table message (length lent) → ReadPromise table message lent (reader.accepted n) after
+  pub told_rows : (n : ℕ) → reader.accepted n ≡ read_answer table message (length lent) → ReadPromise table message lent (reader.accepted n) after
       → ReadTold table message lent 0 n after
   unfolding read_value reader.number_of_read reader.count_of_read reader.place_of_read
   told_rows n e promise = record { number = rw (← e); value = rw (← e) (omega arith); heard = e; promise = promise }
 
-  told_no_rows : (n p : ℕ) → reader.refusal n p ≡ read_answer table message (length lent) → ReadPromise table message lent (reader.refusal n p) after
+  pub told_no_rows : (n p : ℕ) → reader.refusal n p ≡ read_answer table message (length lent) → ReadPromise table message lent (reader.refusal n p) after
       → ReadTold table message lent n p after
   unfolding read_value reader.number_of_read reader.count_of_read reader.place_of_read
   told_no_rows n p e promise =

@@ -3,7 +3,7 @@
 
 ghost use Rattle.std.specs.Prelude.{◌≡◌, [], ◌≤◌, ◌<◌, length};
 ghost use Rattle.numbers.specs.Limits.{message_limit, parameter_limit};
-ghost use Rattle.table_records.specs.Shown.{records_of};
+ghost use Rattle.table_records.specs.Shown.{held_records};
 ghost use Rattle.table_tags.specs.Search.{Searchable};
 ghost use Rattle.table_walk.specs.Walked.{Enough};
 ghost use Rattle.message_rules.specs.RowBytes.{row_bytes, row_start, further};
@@ -97,8 +97,8 @@ fn fill(records: &Records, message: &[u8], rows: &mut [u32])
 // The records are at most 256, as a table's are.
 fn read_records(records: &Records, message: &[u8], rows: &mut [u32]) -> Result<usize, Refusal>
     requires { (records.now.count ≤ parameter_limit) × Searchable records.now.table.now records.now.unpacked.now records.now.count }
-    ensures result_value { answer_of_read result ≡ with_room (length rows.old) (room_free (records_of records.now) message.now) }
-    ensures rows_after { rows.new ≡ written rows.old (room_free (records_of records.now) message.now) }
+    ensures result_value { answer_of_read result ≡ with_room (length rows.old) (room_free (held_records records.now) message.now) }
+    ensures rows_after { rows.new ≡ written rows.old (room_free (held_records records.now) message.now) }
 {
     let is_long = numbers::MESSAGE_LIMIT < message.len();
     if is_long {

@@ -36,7 +36,7 @@ use Rattle.message_unknown.specs.Along.{here, tokens_at, Stopped}
 use Rattle.message_unknown.specs.Passing.{left_of, PassedUpTo, Halted, PassesTo}
 use Rattle.message_unknown.proofs.AlongLaws.{tail_trans, tail_drop, tokens_length, step_tail}
 use Rattle.message_unknown.proofs.Steps.{left_got, left_refused}
-use Rattle.message_lookup.specs.Questions.{schema_of_records, judged}
+use Rattle.message_lookup.specs.Questions.{schema_of_records, broken_number}
 use Rattle.message_lookup.specs.Seen.{Marks}
 use Rattle.message_lookup.proofs.Laws.{find_below}
 use Rattle.message_frame.specs.Ends.{Values, end_of}
@@ -48,7 +48,7 @@ use Rattle.message_frame.proofs.GoingLaws.{stopped_before, then_refused, then_go
 use Rattle.message_frame.proofs.AtToken.{stop_here, stop_at, step_of_equals, equals_none}
 
 -- ---- the end of a body
-end_number_lem : (i c : Bool) → judged (end_of_body i c) ≡ end_number_at i c
+end_number_lem : (i c : Bool) → broken_number (end_of_body i c) ≡ end_number_at i c
 unfolding end_of_body end_number_at
 end_number_lem true c = refl
 end_number_lem false true = refl

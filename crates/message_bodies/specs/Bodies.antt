@@ -18,7 +18,7 @@ use Rattle.reading_rules.specs.Reading.{width}
 use Rattle.message_rules.specs.Rows.{rows_of}
 use Rattle.message_tokens.specs.Cursor.{cut_at, lexemes_at, Step}
 use Rattle.message_unknown.specs.Along.{tokens_at, Stopped}
-use Rattle.message_lookup.specs.Questions.{schema_of_records, judged}
+use Rattle.message_lookup.specs.Questions.{schema_of_records, broken_number}
 use Rattle.message_lookup.specs.Seen.{Marks}
 use Rattle.message_frame.specs.Going.{Going}
 use Rattle.message_frame.specs.Ends.{Values, end_of}
@@ -58,7 +58,7 @@ end_answer Opening inside complete = None
 -- its number, another where there is none
 abbrev pub end_or : ℕ → Option (Answer Unit Rule) → ℕ
 end_or other None = other
-end_or other (Some r) = judged r
+end_or other (Some r) = broken_number r
 
 abbrev pub StartAt : Schema → List ℕ → Frame → Bool → Answer Start Refusal → Type 0
 StartAt S s f inside (Ok start.List) = (Vs : Values) (p : ℕ) (qs : List ℕ) → lists_at S Vs inside p (f.parameter ∷ qs) (tokens_at f.base s f.at) ≡ list_then S Vs (lists_at S Vs inside p qs) f.parameter (tokens_at f.base s f.at)

@@ -40,13 +40,10 @@ pub fn after_value(
         place: base + h.start,
     };
     match h.kind {
-        TokenKind::Comma => {
-            if message_lookup::may_grow(message_lookup::hi(records, q), c) {
-                Ok(Some(h.past))
-            } else {
-                Err(refusal)
-            }
+        TokenKind::Comma if message_lookup::may_grow(message_lookup::hi(records, q), c) => {
+            Ok(Some(h.past))
         }
+        TokenKind::Comma => Err(refusal),
         _ => {
             if message_lookup::lo(records, q) <= c {
                 Ok(None)

@@ -15,9 +15,9 @@ use Rattle.message_lookup.specs.declared.Shape.{Shape}
 use Rattle.message_lookup.specs.declared.Shape.TheVariants.{Void, Simple, Struct, Union, Reference}
 
 -- the rule's number, 0 where none is broken
-abbrev pub judged : Result Unit Rule → ℕ
-judged (Ok x) = 0
-judged (Err r) = rule_number r
+abbrev pub broken_number : Result Unit Rule → ℕ
+broken_number (Ok x) = 0
+broken_number (Err r) = rule_number r
 
 -- the answers of a table of n records
 abbrev pub schema_at : List ℕ → List ℕ → ℕ → Schema

@@ -10,9 +10,9 @@ ghost use Rattle.reading_rules.specs.Value.{is_bool, form_then_range, value_numb
 ghost use Rattle.reading_rules.specs.Record.{record_at};
 ghost use Rattle.reading_rules.specs.Schema.{is_void, is_untagged_of, is_tagged_of, first};
 ghost use Rattle.reading_rules.specs.Parse.{may_grow};
-ghost use Rattle.table_records.specs.Shown.{record_of, records_of};
+ghost use Rattle.table_records.specs.Shown.{held_record, held_records};
 ghost use Rattle.table_tags.specs.Search.{found_of, Searchable};
-ghost use Rattle.message_lookup.specs.Questions.{schema_of_records, untagged_in, shape_of, judged, text_token, length_lies, int_lies};
+ghost use Rattle.message_lookup.specs.Questions.{schema_of_records, untagged_in, shape_of, broken_number, text_token, length_lies, int_lies};
 ghost use Rattle.message_lookup.specs.Seen.{is_required_of, is_missing, complete_from};
 ghost use Rattle.message_lookup.specs.IntList.{IntsOf};
 
@@ -39,7 +39,7 @@ pub enum Shape {
 // The kind's number.
 #[tactic(auto, using(table_records::proofs::Laws::record_past, table_records::proofs::Laws::record_at_lem), unfolding(reading_rules::specs::Record::blank))]
 pub fn kind_number(records: &Records, p: usize) -> u32
-    ensures { result ≡ (record_at (records_of records.now) p).kind }
+    ensures { result ≡ (record_at (held_records records.now) p).kind }
 {
     if records.count <= p {
         return numbers::VOID;
@@ -165,7 +165,7 @@ pub fn ints_of(records: &Records, p: usize) -> Option<Ints>
 // ---- the fields of p
 
 fn is_untagged_of(records: &Records, p: usize, i: usize) -> bool
-    ensures { result ≡ is_untagged_of p (record_of records.now i) }
+    ensures { result ≡ is_untagged_of p (held_record records.now i) }
 {
     if records.is_under(i, p) {
         return records.untagged_at(i);
@@ -174,7 +174,7 @@ fn is_untagged_of(records: &Records, p: usize, i: usize) -> bool
 }
 
 fn is_tagged_of(records: &Records, p: usize, i: usize) -> bool
-    ensures { result ≡ is_tagged_of p (record_of records.now i) }
+    ensures { result ≡ is_tagged_of p (held_record records.now i) }
 {
     if records.is_under(i, p) {
         return !records.untagged_at(i);
@@ -224,7 +224,7 @@ pub fn mark(seen: &mut [bool], k: usize)
 }
 
 fn is_required_of(records: &Records, p: usize, i: usize) -> bool
-    ensures { result ≡ is_required_of p (record_of records.now i) }
+    ensures { result ≡ is_required_of p (held_record records.now i) }
 {
     if is_tagged_of(records, p, i) {
         return !(records.extension_at(i) | records.plugin_at(i) | (records.lo_count_at(i) == 0));
@@ -233,7 +233,7 @@ fn is_required_of(records: &Records, p: usize, i: usize) -> bool
 }
 
 fn is_missing(records: &Records, p: usize, seen: &[bool], i: usize) -> bool
-    ensures { result ≡ is_missing p seen.now i (record_of records.now i) }
+    ensures { result ≡ is_missing p seen.now i (held_record records.now i) }
 {
     if numbers::get_or(seen, i, false) {
         return false;
@@ -243,7 +243,7 @@ fn is_missing(records: &Records, p: usize, seen: &[bool], i: usize) -> bool
 
 // Every required tagged field of p has a mark.
 pub fn complete(records: &Records, p: usize, seen: &[bool]) -> bool
-    ensures { result ≡ complete_from p seen.now 0 (records_of records.now) }
+    ensures { result ≡ complete_from p seen.now 0 (held_records records.now) }
 {
     for i in 0..records.count {
         if is_missing(records, p, seen, i) {
@@ -258,8 +258,8 @@ pub fn complete(records: &Records, p: usize, seen: &[bool]) -> bool
 // Whether the form is right and the value lies in its range; else what is wrong, the form first.
 #[tactic(auto, unfolding(reading_rules::specs::Value::form_then_range))]
 fn form_then_range(form: bool, within: bool) -> Result<(), Rule>
-    ensures number { judged result ≡ form_then_range form within }
-    ensures broken { OnErr result (judged result ≢ 0) }
+    ensures number { broken_number result ≡ form_then_range form within }
+    ensures broken { OnErr result (broken_number result ≢ 0) }
 {
     match (form, within) {
         (false, _) => Err(Rule::ValueForm),
@@ -287,13 +287,13 @@ fn length_within(text: &[u8], least: u32, most: u32) -> bool
 }
 
 fn length_in_range(records: &Records, q: usize, text: &[u8]) -> bool
-    ensures { result ≡ length_lies (record_of records.now q) text.now }
+    ensures { result ≡ length_lies (held_record records.now q) text.now }
 {
     length_within(text, records.least_at(q), records.most_at(q))
 }
 
 fn int_in_range(records: &Records, q: usize, text: &[u8]) -> bool
-    ensures { result ≡ int_lies (record_of records.now q) text.now }
+    ensures { result ≡ int_lies (held_record records.now q) text.now }
 {
     numbers::int_within(text, records.least_at(q), records.most_at(q))
 }
@@ -301,8 +301,8 @@ fn int_in_range(records: &Records, q: usize, text: &[u8]) -> bool
 // A date: eight digits, then a day of the calendar.
 // This and `judge_time` stay two: one of both would take both tests as closures, the second with what it requires, and be longer.
 fn judge_date(text: &[u8]) -> Result<(), Rule>
-    ensures number { judged result ≡ form_then_range (date_form text.now) (date_within text.now) }
-    ensures broken { OnErr result (judged result ≢ 0) }
+    ensures number { broken_number result ≡ form_then_range (date_form text.now) (date_within text.now) }
+    ensures broken { OnErr result (broken_number result ≢ 0) }
 {
     if calendar::date_form(text) {
         form_then_range(true, calendar::date_within(text))
@@ -313,8 +313,8 @@ fn judge_date(text: &[u8]) -> Result<(), Rule>
 
 // A time: six digits, then a time of the day.
 fn judge_time(text: &[u8]) -> Result<(), Rule>
-    ensures number { judged result ≡ form_then_range (time_form text.now) (time_within text.now) }
-    ensures broken { OnErr result (judged result ≢ 0) }
+    ensures number { broken_number result ≡ form_then_range (time_form text.now) (time_within text.now) }
+    ensures broken { OnErr result (broken_number result ≢ 0) }
 {
     if calendar::time_form(text) {
         form_then_range(true, calendar::time_within(text))
@@ -325,8 +325,8 @@ fn judge_time(text: &[u8]) -> Result<(), Rule>
 
 // The value rule of each kind, for a word.
 fn judge_word(records: &Records, q: usize, text: &[u8]) -> Result<(), Rule>
-    ensures number { judged result ≡ value_number (record_of records.now q) (word text.now) }
-    ensures broken { OnErr result (judged result ≢ 0) }
+    ensures number { broken_number result ≡ value_number (held_record records.now q) (word text.now) }
+    ensures broken { OnErr result (broken_number result ≢ 0) }
 {
     let kind = records.kind_at(q);
     match kind {
@@ -341,8 +341,8 @@ fn judge_word(records: &Records, q: usize, text: &[u8]) -> Result<(), Rule>
 
 // The same for a string, without its quotes: only an ascii takes one.
 fn judge_string(records: &Records, q: usize, text: &[u8]) -> Result<(), Rule>
-    ensures number { judged result ≡ value_number (record_of records.now q) (string text.now) }
-    ensures broken { OnErr result (judged result ≢ 0) }
+    ensures number { broken_number result ≡ value_number (held_record records.now q) (string text.now) }
+    ensures broken { OnErr result (broken_number result ≢ 0) }
 {
     form_then_range(
         records.kind_at(q) == numbers::ASCII,
@@ -352,8 +352,8 @@ fn judge_string(records: &Records, q: usize, text: &[u8]) -> Result<(), Rule>
 
 // Whether a word, or a string without its quotes, is a value of the parameter q; else the rule that it breaks.
 pub fn judge(records: &Records, q: usize, text: &[u8], quoted: bool) -> Result<(), Rule>
-    ensures number { judged result ≡ (schema_of_records records.now).judge q (text_token quoted text.now) }
-    ensures broken { OnErr result (judged result ≢ 0) }
+    ensures number { broken_number result ≡ (schema_of_records records.now).judge q (text_token quoted text.now) }
+    ensures broken { OnErr result (broken_number result ≢ 0) }
 {
     if records.count <= q {
         return Err(Rule::ValueForm);

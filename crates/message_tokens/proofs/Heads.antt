@@ -204,7 +204,7 @@ module _ (s : List ℕ) (lo p : ℕ) (q : p ≡ row_end is_blank s lo) where
   from_there : (base : ℕ) → cut_at base s lo ≡ rest_at base s p
   from_there base = cut_rest_lem base s lo ∙ ap (rest_at base s) (sym q)
 
-  lacks_end : length s ≤ p → LacksComma s lo
+  pub lacks_end : length s ≤ p → LacksComma s lo
   unfolding token_kind tokens_of
   lacks_end h base e = let y : ◌≡◌ {A = ℕ} 0 4 = sym (ap kind_in (from_there base ∙ rest_end base s p h)) ∙ e in omega arith
 
@@ -212,7 +212,7 @@ module _ (s : List ℕ) (lo p : ℕ) (q : p ≡ row_end is_blank s lo) where
   unfolding rest_at cut_rest
   token_there base h = ap (cut_rest (cut_from (length s)) (base + p)) (drop-cons s p 0 h)
 
-  lacks_there : p < length s → (get_or s p 0 ≡ 44 → ⊥) → LacksComma s lo
+  pub lacks_there : p < length s → (get_or s p 0 ≡ 44 → ⊥) → LacksComma s lo
   lacks_there h n base e =
       token_kind_lem (cut_from (length s)) (base + p) (get_or s p 0) (drop (suc p) s) (begins_of (get_or s p 0)) (begins_comma (get_or s p 0) n) (sym (ap kind_in (from_there base ∙ token_there base h)) ∙ e)
 

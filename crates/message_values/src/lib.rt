@@ -7,7 +7,7 @@ ghost use Rattle.numbers.specs.Limits.{message_limit};
 ghost use Rattle.reading_rules.specs.Parse.{simple_at};
 ghost use Rattle.message_tokens.specs.Cursor.{part};
 ghost use Rattle.message_unknown.specs.Along.{tokens_at};
-ghost use Rattle.message_lookup.specs.Questions.{schema_of_records, judged};
+ghost use Rattle.message_lookup.specs.Questions.{schema_of_records, broken_number};
 ghost use Rattle.message_frame.specs.Ends.{Room, EndsValue};
 ghost use Rattle.message_values.specs.Values.{LeafAt, NoValue, OpenedAt, ShutAt};
 
@@ -40,10 +40,10 @@ fn leaf(
     start: usize,
     past: Cursor,
 ) -> Result<Done, Refusal>
-    requires broken { OnErr judgement (judged judgement ≢ 0) }
+    requires broken { OnErr judgement (broken_number judgement ≢ 0) }
     requires at_bound { (f.base + past.at ≤ message_limit) × (start ≤ past.at) }
     requires row_bound { (f.row < 4294967296) × (f.parent < 4294967296) × (f.parameter < 4294967296) × (f.index < 4294967296) }
-    ensures { LeafAt f (judged judgement) start past.at rows.old rows.new result }
+    ensures { LeafAt f (broken_number judgement) start past.at rows.old rows.new result }
 {
     if let Err(rule) = judgement {
         return Err(Refusal {

@@ -5,7 +5,7 @@ use mathlib.Core.List.{List, [], ◌∷◌}
 use mathlib.Core.Path.{◌≡◌, refl, sym, ◌∙◌, ap}
 use native.Mathlib.Numerals.{add-one}
 use native.Mathlib.Omega.{arith}
-use borrow.Author.Tests.{lt-ltb, le-leb, lt-leb, ne_eqb, leb-true}
+use borrow.Author.Tests.{lt-ltb, le-ltb, le-leb, lt-leb, ne_eqb, leb-true}
 use lib.Dec.{eqb, leb, ltb}
 use lib.ListN.{length, get_or, drop, drop_of_length-le}
 use lib.Seq.{drop-cons}
@@ -49,6 +49,12 @@ unfolding is_natural
 natural_more [] h = refl
 natural_more (b ∷ []) h = absurd (h refl)
 natural_more (b ∷ c ∷ l) h = refl
+
+pub natural_led : (l : List ℕ) → (length l ≡ 1 → ⊥) → 48 < get_or l 0 0 → every is_digit l ≡ is_natural l
+natural_led l h g = ap (λ b. b && every is_digit l) (sym (lt-ltb 48 (get_or l 0 0) g)) ∙ natural_more l h
+
+pub natural_zero : (l : List ℕ) → (length l ≡ 1 → ⊥) → get_or l 0 0 ≤ 48 → is_natural l ≡ false
+natural_zero l h g = sym (natural_more l h) ∙ ap (λ b. b && every is_digit l) (le-ltb 48 (get_or l 0 0) g)
 
 pub and_right : (p q : Bool) → p && q ≡ true → q ≡ true
 and_right true q e = e

@@ -43,15 +43,8 @@ module _ (w : List ℕ) where
     unfolding read_count number_when
     count_over l = rw (lt-leb (number_of w) count_limit (omega arith), and-false (is_natural w))
 
--- the answers of the code
+-- the answer of the code
 module _ (w : List ℕ) (n : ℕ) where
-  pub int_answer : n ≡ min int_most (biased_int w) → side_of (then_some (is_int w && int_within 0 int_most w) n) ≡ read_int w
-  int_answer e = by (is_int w && int_within 0 int_most w) refl
-    where
-      by : (t : Bool) → is_int w && int_within 0 int_most w ≡ t → side_of (then_some t n) ≡ read_int w
-      by true t = sym (int_read w n t e)
-      by false t = sym (int_unread w t)
-
   pub count_answer : n ≡ min cap (number_of w) → n ≤ count_limit → side_of (then_some (is_natural w) n) ≡ read_count w
   count_answer e l = by (is_natural w) refl
     where

@@ -9,7 +9,7 @@ ghost use Rattle.definition_rules.specs.Finite.{is_endless};
 ghost use Rattle.table_rules.specs.Compilable.{Compilable};
 ghost use Rattle.table_rules.specs.RecordRules.{none_broken, record_checks, record_rules, table_rules};
 ghost use Rattle.table_records.specs.Stored.{Laid};
-ghost use Rattle.table_records.specs.Shown.{record_of, records_of};
+ghost use Rattle.table_records.specs.Shown.{held_record, held_records};
 ghost use Rattle.table_walk.specs.Walked.{Enough};
 ghost use Rattle.table.specs.Checks.{is_broken, Checked};
 
@@ -21,7 +21,7 @@ use table_records::Records;
 // says nothing.
 #[tactic(auto, unfolding(crate::specs::Checks::is_broken))]
 fn is_broken(records: &Records, i: usize) -> bool
-    ensures { result ≡ is_broken (records_of records.now) i (record_of records.now i) }
+    ensures { result ≡ is_broken (held_records records.now) i (held_record records.now i) }
 {
     if table_checks::root_no_struct(records, i) {
         return true;
@@ -36,7 +36,7 @@ fn is_broken(records: &Records, i: usize) -> bool
 }
 
 fn none_broken(records: &Records) -> bool
-    ensures { result ≡ none_broken (is_broken (records_of records.now)) 0 (records_of records.now) }
+    ensures { result ≡ none_broken (is_broken (held_records records.now)) 0 (held_records records.now) }
 {
     !(0..records.count).any(|i| is_broken(records, i))
 }
@@ -44,7 +44,7 @@ fn none_broken(records: &Records) -> bool
 // No tag stands twice in its body, by a search for each.
 fn tags_once_by_search(records: &Records) -> bool
     requires { Laid records.now.table.now records.now.unpacked.now records.now.count }
-    ensures { result ≡ none_broken (tag_repeated (records_of records.now)) 0 (records_of records.now) }
+    ensures { result ≡ none_broken (tag_repeated (held_records records.now)) 0 (held_records records.now) }
 {
     !(0..records.count).any(|i| table_tags::tag_again(records, i))
 }
@@ -52,7 +52,7 @@ fn tags_once_by_search(records: &Records) -> bool
 // The same, with a search only for tags whose key was met before.
 fn tags_once_by_marks(records: &Records) -> bool
     requires { Laid records.now.table.now records.now.unpacked.now records.now.count }
-    ensures { result ≡ none_broken (tag_repeated (records_of records.now)) 0 (records_of records.now) }
+    ensures { result ≡ none_broken (tag_repeated (held_records records.now)) 0 (held_records records.now) }
 {
     let mut marks = [false; table_tags::MARKS];
     for i in 0..records.count {
@@ -66,7 +66,7 @@ fn tags_once_by_marks(records: &Records) -> bool
 // No tag stands twice in its body. The marks pay where there are many records.
 fn tags_once(records: &Records) -> bool
     requires { Laid records.now.table.now records.now.unpacked.now records.now.count }
-    ensures { result ≡ none_broken (tag_repeated (records_of records.now)) 0 (records_of records.now) }
+    ensures { result ≡ none_broken (tag_repeated (held_records records.now)) 0 (held_records records.now) }
 {
     if records.count <= FEW_RECORDS {
         return tags_once_by_search(records);
@@ -75,14 +75,14 @@ fn tags_once(records: &Records) -> bool
 }
 
 fn none_endless(records: &Records, have: &[bool]) -> bool
-    ensures { result ≡ none_broken (is_endless have.now) 0 (records_of records.now) }
+    ensures { result ≡ none_broken (is_endless have.now) 0 (held_records records.now) }
 {
     !(0..records.count).any(|i| table_checks::is_endless(records, have, i))
 }
 
 fn checks_fine(records: &Records) -> bool
     requires { (records.now.count ≤ parameter_limit) × Laid records.now.table.now records.now.unpacked.now records.now.count }
-    ensures { AfterParents (records_of records.now) → result ≡ record_checks (records_of records.now) }
+    ensures { AfterParents (held_records records.now) → result ≡ record_checks (held_records records.now) }
 {
     if !none_broken(records) {
         return false;
@@ -101,7 +101,7 @@ fn checks_fine(records: &Records) -> bool
 
 fn rules(records: &Records) -> bool
     requires { (records.now.count ≤ parameter_limit) × Laid records.now.table.now records.now.unpacked.now records.now.count }
-    ensures { result ≡ record_rules parameter_limit (records_of records.now) }
+    ensures { result ≡ record_rules parameter_limit (held_records records.now) }
 {
     if records.count == 0 {
         return false;

@@ -5,7 +5,7 @@ ghost use Rattle.std.specs.Prelude.{◌≡◌, not, ◌&&◌, ◌+◌, ◌-◌, 
 ghost use Rattle.definition_rules.specs.Faults.{is_union_at, same_key, is_new_key};
 ghost use Rattle.table_rules.specs.RecordRules.{kinds_of_records, is_single_value, counts_fine, range_fine, is_top_at, target_fine, shows_name, label_fine, top_fine, record_fine, every_record, shown_names, all_new};
 ghost use Rattle.table_records.specs.Stored.{records_from};
-ghost use Rattle.table_records.specs.Shown.{record_of, records_of};
+ghost use Rattle.table_records.specs.Shown.{held_record, held_records};
 ghost use Rattle.table_fields.specs.Keys.{label_key};
 
 use table_records::Records;
@@ -17,7 +17,7 @@ const COUNT_LIMIT: usize = numbers::COUNT_LIMIT as usize;
 
 #[tactic(auto, using(crate::proofs::Single::union_in, crate::proofs::Single::union_past))]
 fn is_union(records: &Records, p: usize) -> bool
-    ensures { result ≡ is_union_at (kinds_of_records (records_of records.now)) p }
+    ensures { result ≡ is_union_at (kinds_of_records (held_records records.now)) p }
 {
     if p < records.count {
         return records.kind_at(p) == numbers::UNION;
@@ -28,7 +28,7 @@ fn is_union(records: &Records, p: usize) -> bool
 // A top or an alternative.
 #[tactic(auto, using(crate::proofs::Single::single_top, crate::proofs::Single::single_under))]
 fn is_single(records: &Records, i: usize) -> bool
-    ensures { result ≡ is_single_value (is_union_at (kinds_of_records (records_of records.now))) (record_of records.now i).parent }
+    ensures { result ≡ is_single_value (is_union_at (kinds_of_records (held_records records.now))) (held_record records.now i).parent }
 {
     if table_checks::is_top(records, i) {
         return true;
@@ -38,7 +38,7 @@ fn is_single(records: &Records, i: usize) -> bool
 
 #[tactic(auto, unfolding(table_rules::specs::RecordRules::counts_fine))]
 fn counts_fine(records: &Records, i: usize) -> bool
-    ensures { result ≡ counts_fine (is_union_at (kinds_of_records (records_of records.now))) (record_of records.now i) }
+    ensures { result ≡ counts_fine (is_union_at (kinds_of_records (held_records records.now))) (held_record records.now i) }
 {
     let lo = records.lo_count_at(i);
     let hi = records.hi_count_at(i);
@@ -50,7 +50,7 @@ fn counts_fine(records: &Records, i: usize) -> bool
 
 #[tactic(auto, unfolding(table_rules::specs::RecordRules::range_fine))]
 fn range_fine(records: &Records, i: usize) -> bool
-    ensures { result ≡ range_fine (record_of records.now i) }
+    ensures { result ≡ range_fine (held_record records.now i) }
 {
     let k = records.kind_at(i);
     let a = records.least_at(i);
@@ -60,7 +60,7 @@ fn range_fine(records: &Records, i: usize) -> bool
 
 #[tactic(auto, using(crate::proofs::Single::top_in, crate::proofs::Single::top_past))]
 fn is_top_at(records: &Records, i: usize) -> bool
-    ensures { result ≡ is_top_at (records_of records.now) i }
+    ensures { result ≡ is_top_at (held_records records.now) i }
 {
     if i < records.count {
         return table_checks::is_top(records, i);
@@ -70,7 +70,7 @@ fn is_top_at(records: &Records, i: usize) -> bool
 
 #[tactic(auto, unfolding(table_rules::specs::RecordRules::target_fine, classes::specs::Lists::pick))]
 fn target_fine(records: &Records, i: usize) -> bool
-    ensures { result ≡ target_fine (records_of records.now) (record_of records.now i) }
+    ensures { result ≡ target_fine (held_records records.now) (held_record records.now i) }
 {
     let t = records.target_at(i);
     if records.kind_at(i) == numbers::REFERENCE {
@@ -82,14 +82,14 @@ fn target_fine(records: &Records, i: usize) -> bool
 // Tops and untagged fields.
 #[tactic(auto, unfolding(table_rules::specs::RecordRules::shows_name))]
 fn shows_name(records: &Records, i: usize) -> bool
-    ensures { result ≡ shows_name (record_of records.now i) }
+    ensures { result ≡ shows_name (held_record records.now i) }
 {
     table_checks::is_top(records, i) | records.untagged_at(i)
 }
 
 #[tactic(auto, unfolding(table_rules::specs::RecordRules::label_fine, classes::specs::Lists::pick))]
 fn label_fine(records: &Records, i: usize) -> bool
-    ensures { result ≡ label_fine (record_of records.now i) }
+    ensures { result ≡ label_fine (held_record records.now i) }
 {
     let label = records.label_at(i);
     if shows_name(records, i) {
@@ -100,7 +100,7 @@ fn label_fine(records: &Records, i: usize) -> bool
 
 #[tactic(auto, unfolding(table_rules::specs::RecordRules::top_fine))]
 fn top_fine(records: &Records, i: usize) -> bool
-    ensures { result ≡ top_fine (record_of records.now i) }
+    ensures { result ≡ top_fine (held_record records.now i) }
 {
     !table_checks::is_top(records, i)
         | (!records.untagged_at(i)
@@ -109,7 +109,7 @@ fn top_fine(records: &Records, i: usize) -> bool
 
 #[tactic(auto, unfolding(table_rules::specs::RecordRules::record_fine))]
 fn record_fine(records: &Records, i: usize) -> bool
-    ensures { result ≡ record_fine (records_of records.now) (is_union_at (kinds_of_records (records_of records.now))) (record_of records.now i) }
+    ensures { result ≡ record_fine (held_records records.now) (is_union_at (kinds_of_records (held_records records.now))) (held_record records.now i) }
 {
     let k = records.kind_at(i);
     if k < numbers::VOID {
@@ -134,7 +134,7 @@ fn record_fine(records: &Records, i: usize) -> bool
 }
 
 pub fn every_fine(records: &Records) -> bool
-    ensures { result ≡ every_record (record_fine (records_of records.now) (is_union_at (kinds_of_records (records_of records.now)))) (records_of records.now) }
+    ensures { result ≡ every_record (record_fine (held_records records.now) (is_union_at (kinds_of_records (held_records records.now)))) (held_records records.now) }
 {
     (0..records.count).all(|i| record_fine(records, i))
 }
@@ -144,7 +144,7 @@ pub fn every_fine(records: &Records) -> bool
 // j shows the name that i shows, in the same body or both as tops.
 #[tactic(auto, unfolding(definition_rules::specs::Faults::same_key))]
 fn same_name(records: &Records, i: usize, j: usize) -> bool
-    ensures { result ≡ (shows_name (record_of records.now j) && same_key (label_key (record_of records.now i)) (label_key (record_of records.now j))) }
+    ensures { result ≡ (shows_name (held_record records.now j) && same_key (label_key (held_record records.now i)) (label_key (held_record records.now j))) }
 {
     if !shows_name(records, j) {
         return false;
@@ -157,15 +157,17 @@ fn same_name(records: &Records, i: usize, j: usize) -> bool
 
 // No record from a place on shows the name of i.
 fn is_new(records: &Records, i: usize, from: usize) -> bool
-    ensures { result ≡ is_new_key (label_key (record_of records.now i)) (shown_names (records_from records.now.table.now records.now.unpacked.now (records.now.count - from) from)) }
+    ensures { result ≡ is_new_key (label_key (held_record records.now i)) (shown_names (records_from records.now.table.now records.now.unpacked.now (records.now.count - from) from)) }
 {
-    !(from..records.count).any(|j| same_name(records, i, j))
+    // A copy, so that its parts are at hand in each turn.
+    let records = *records;
+    !(from..records.count).any(|j| same_name(&records, i, j))
 }
 
 // The name that i shows is shown again after it.
 fn shown_again(records: &Records, i: usize) -> bool
     requires { i < records.now.count }
-    ensures { result ≡ (shows_name (record_of records.now i) && not (is_new_key (label_key (record_of records.now i)) (shown_names (records_from records.now.table.now records.now.unpacked.now (records.now.count - (i + 1)) (i + 1))))) }
+    ensures { result ≡ (shows_name (held_record records.now i) && not (is_new_key (label_key (held_record records.now i)) (shown_names (records_from records.now.table.now records.now.unpacked.now (records.now.count - (i + 1)) (i + 1))))) }
 {
     // Always below: so the sum is a number that fits.
     let count = records.count;
@@ -173,7 +175,7 @@ fn shown_again(records: &Records, i: usize) -> bool
 }
 
 pub fn all_new(records: &Records) -> bool
-    ensures { result ≡ all_new (shown_names (records_of records.now)) }
+    ensures { result ≡ all_new (shown_names (held_records records.now)) }
 {
     !(0..records.count).any(|i| shown_again(records, i))
 }

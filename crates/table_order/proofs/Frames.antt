@@ -13,7 +13,7 @@ use Rattle.reading_rules.specs.Record.{Up, top, under, same_up}
 use Rattle.definition_rules.specs.Table.{number_up}
 use Rattle.definition_rules.specs.Declarations.{Frame, parent_of}
 use Rattle.table_rules.specs.RecordRules.{is_open, closed_to, in_extension, push_if, may_stand}
-use Rattle.table_order.specs.Open.{frame_of, no_body, frames_of}
+use Rattle.table_order.specs.Open.{frame_of, empty_body, frames_of}
 use Rattle.table_order.specs.declared.Body.{Body}
 
 -- ---- a parent's number
@@ -50,19 +50,19 @@ length_frames bodies (suc d) = ap suc (length_frames bodies d)
 frames_set : (bodies : List Body) (k : ℕ) (v : Body) (d : ℕ) → d ≤ k → frames_of (set bodies k v) d ≡ frames_of bodies d
 unfolding frames_of
 frames_set bodies k v zero h = refl
-frames_set bodies k v (suc d) h = rw (get_or-set_other bodies k d v no_body (omega arith), frames_set bodies k v d (omega arith))
+frames_set bodies k v (suc d) h = rw (get_or-set_other bodies k d v empty_body (omega arith), frames_set bodies k v d (omega arith))
 
 -- the innermost cell is stored
 frames_stored : (bodies : List Body) (k : ℕ) (v : Body) (d : ℕ) → d ≡ suc k → k < length bodies → frames_of (set bodies k v) d ≡ frame_of v ∷ frames_of bodies k
 unfolding frames_of
-frames_stored bodies k v d e h = rw (e, get_or-set_same bodies k v no_body h, frames_set bodies k v k (omega arith))
+frames_stored bodies k v d e h = rw (e, get_or-set_same bodies k v empty_body h, frames_set bodies k v k (omega arith))
 
 module _ (bodies : List Body) (d : ℕ) where
   frames_none : d ≤ 0 → frames_of bodies d ≡ []
   unfolding frames_of
   frames_none h = let e : d ≡ 0 = omega arith in rw e
 
-  frames_more : 0 < d → frames_of bodies d ≡ frame_of (get_or bodies (d - 1) no_body) ∷ frames_of bodies (d - 1)
+  frames_more : 0 < d → frames_of bodies d ≡ frame_of (get_or bodies (d - 1) empty_body) ∷ frames_of bodies (d - 1)
   unfolding frames_of
   frames_more h = ap (frames_of bodies) e
     where
@@ -71,11 +71,11 @@ module _ (bodies : List Body) (d : ℕ) where
 
   -- ---- closing
 
-  pub closed_here : (u : Up) → 0 < d → is_open u ((get_or bodies (d - 1) no_body).number) ≡ true → frames_of bodies d ≡ closed_to u (frames_of bodies d)
+  pub closed_here : (u : Up) → 0 < d → is_open u ((get_or bodies (d - 1) empty_body).number) ≡ true → frames_of bodies d ≡ closed_to u (frames_of bodies d)
   unfolding closed_to pick
   closed_here u h e = rw (frames_more h, e)
 
-  pub closed_more : (u : Up) → 0 < d → is_open u ((get_or bodies (d - 1) no_body).number) ≡ false → closed_to u (frames_of bodies d) ≡ closed_to u (frames_of bodies (d - 1))
+  pub closed_more : (u : Up) → 0 < d → is_open u ((get_or bodies (d - 1) empty_body).number) ≡ false → closed_to u (frames_of bodies d) ≡ closed_to u (frames_of bodies (d - 1))
   unfolding closed_to pick
   closed_more u h e = rw (frames_more h, e)
 
@@ -89,19 +89,19 @@ module _ (bodies : List Body) (d : ℕ) where
   unfolding parent_of
   parent_none p h = rw (frames_none (omega arith)) (none_is p)
 
-  pub parent_some : (p : ℕ) → (d ≡ 0 → ⊥) → is_open (number_up p) ((get_or bodies (d - 1) no_body).number) ≡ same_up (parent_of (frames_of bodies d)) (number_up p)
+  pub parent_some : (p : ℕ) → (d ≡ 0 → ⊥) → is_open (number_up p) ((get_or bodies (d - 1) empty_body).number) ≡ same_up (parent_of (frames_of bodies d)) (number_up p)
   unfolding parent_of
-  parent_some p h = rw (frames_more (omega arith)) (under_is (number_up p) ((get_or bodies (d - 1) no_body).number))
+  parent_some p h = rw (frames_more (omega arith)) (under_is (number_up p) ((get_or bodies (d - 1) empty_body).number))
 
   pub stand_none : (e : Bool) → d ≡ 0 → not e ≡ may_stand (frames_of bodies d) e
   unfolding may_stand
   stand_none e h = rw (frames_none (omega arith))
 
-  pub stand_group : (e : Bool) → (d ≡ 0 → ⊥) → (get_or bodies (d - 1) no_body).extended ≡ true → e ≡ may_stand (frames_of bodies d) e
+  pub stand_group : (e : Bool) → (d ≡ 0 → ⊥) → (get_or bodies (d - 1) empty_body).extended ≡ true → e ≡ may_stand (frames_of bodies d) e
   unfolding may_stand pick
   stand_group e h z = rw (frames_more (omega arith), z)
 
-  pub stand_fields : (e : Bool) → (d ≡ 0 → ⊥) → ((get_or bodies (d - 1) no_body).extended ≡ false) → true ≡ may_stand (frames_of bodies d) e
+  pub stand_fields : (e : Bool) → (d ≡ 0 → ⊥) → ((get_or bodies (d - 1) empty_body).extended ≡ false) → true ≡ may_stand (frames_of bodies d) e
   unfolding may_stand pick
   stand_fields e h z = rw (frames_more (omega arith), z)
 
@@ -115,9 +115,9 @@ module _ (bodies : List Body) (d : ℕ) where
   unfolding in_extension
   extension_no e h z = rw (z, frames_more (omega arith))
 
-  pub extension_yes : (e : Bool) → (d ≡ 0 → ⊥) → d ≤ length bodies → e ≡ true → frames_of (set bodies (d - 1) (record { number = (get_or bodies (d - 1) no_body).number; extended = true })) d ≡ in_extension e (frames_of bodies d)
+  pub extension_yes : (e : Bool) → (d ≡ 0 → ⊥) → d ≤ length bodies → e ≡ true → frames_of (set bodies (d - 1) (record { number = (get_or bodies (d - 1) empty_body).number; extended = true })) d ≡ in_extension e (frames_of bodies d)
   unfolding in_extension pick
-  extension_yes e h l z = rw (z, frames_more (omega arith)) (frames_stored bodies (d - 1) (record { number = (get_or bodies (d - 1) no_body).number; extended = true }) d (omega arith) (omega arith))
+  extension_yes e h l z = rw (z, frames_more (omega arith)) (frames_stored bodies (d - 1) (record { number = (get_or bodies (d - 1) empty_body).number; extended = true }) d (omega arith) (omega arith))
 
 -- ---- a body is opened, or none is
 

@@ -8,10 +8,10 @@ abbrev pub frame_of : Body → Frame
 frame_of b = frame b.number (pick b.extended in_group in_fields)
 
 -- what stands past the open ones
-abbrev pub no_body : Body
-no_body = record { number = 0; extended = false }
+abbrev pub empty_body : Body
+empty_body = record { number = 0; extended = false }
 
 -- the first n, the innermost first
 unfoldable pub frames_of : List Body → ℕ → List Frame
 frames_of bodies zero = []
-frames_of bodies (suc n) = frame_of (get_or bodies n no_body) ∷ frames_of bodies n
+frames_of bodies (suc n) = frame_of (get_or bodies n empty_body) ∷ frames_of bodies n

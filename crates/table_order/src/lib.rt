@@ -7,7 +7,7 @@ ghost use Rattle.definition_rules.specs.Words.{kind_is_compound};
 ghost use Rattle.definition_rules.specs.Table.{number_up};
 ghost use Rattle.definition_rules.specs.Declarations.{parent_of};
 ghost use Rattle.table_rules.specs.RecordRules.{is_open, closed_to, in_extension, push_if, may_stand, stands_in, ordered as is_ordered};
-ghost use Rattle.table_records.specs.Shown.{record_of, records_of};
+ghost use Rattle.table_records.specs.Shown.{held_record, held_records};
 ghost use Rattle.table_order.specs.Open.{frames_of};
 
 use table_records::Records;
@@ -74,7 +74,7 @@ fn may_stand(bodies: &[Body], depth: usize, extension: bool) -> bool
 }
 
 fn stands_in(records: &Records, i: usize, bodies: &[Body], depth: usize) -> bool
-    ensures { result ≡ stands_in (frames_of bodies.now depth) (record_of records.now i) }
+    ensures { result ≡ stands_in (frames_of bodies.now depth) (held_record records.now i) }
 {
     if !is_parent(bodies, depth, records.parent_at(i)) {
         return false;
@@ -108,8 +108,8 @@ fn note_extension(bodies: &mut [Body], depth: usize, extension: bool)
 
 // How many bodies are open after record i, which opens one where it is a struct or a union.
 fn opened(records: &Records, i: usize, bodies: &mut [Body], depth: usize) -> usize
-    requires { (depth ≤ length bodies.old) × (kind_is_compound (record_of records.now i).kind ≡ true → depth < length bodies.old) }
-    ensures { (frames_of bodies.new result ≡ push_if (kind_is_compound (record_of records.now i).kind) i (in_extension (record_of records.now i).extension (frames_of bodies.old depth))) × (result ≤ length bodies.old) }
+    requires { (depth ≤ length bodies.old) × (kind_is_compound (held_record records.now i).kind ≡ true → depth < length bodies.old) }
+    ensures { (frames_of bodies.new result ≡ push_if (kind_is_compound (held_record records.now i).kind) i (in_extension (held_record records.now i).extension (frames_of bodies.old depth))) × (result ≤ length bodies.old) }
 {
     note_extension(bodies, depth, records.extension_at(i));
     if is_compound(records.kind_at(i)) {
@@ -127,7 +127,7 @@ fn opened(records: &Records, i: usize, bodies: &mut [Body], depth: usize) -> usi
 }
 
 pub fn ordered(records: &Records) -> bool
-    ensures { result ≡ is_ordered [] 0 (records_of records.now) }
+    ensures { result ≡ is_ordered [] 0 (held_records records.now) }
 {
     let mut bodies = [NO_BODY; numbers::DEPTH_LIMIT];
     let mut depth: usize = 0;

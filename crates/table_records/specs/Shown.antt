@@ -5,9 +5,9 @@ use Rattle.table_records.specs.Stored.{record_in, records_at}
 use Rattle.table_records.specs.declared.Records.{Records}
 
 -- the i-th record
-abbrev pub record_of : Records → ℕ → Record
-record_of r i = record_in r.table.now r.unpacked.now i
+abbrev pub held_record : Records → ℕ → Record
+held_record r i = record_in r.table.now r.unpacked.now i
 
 -- all of them, as many as are counted
-abbrev pub records_of : Records → List Record
-records_of r = records_at r.table.now r.unpacked.now r.count
+abbrev pub held_records : Records → List Record
+held_records r = records_at r.table.now r.unpacked.now r.count

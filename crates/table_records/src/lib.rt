@@ -10,7 +10,7 @@ ghost use Rattle.reading_rules.specs.Schema.{is_under};
 ghost use Rattle.definition_rules.specs.Table.{up_number};
 ghost use Rattle.table_records.specs.Stored.{record_cells, cell_in, kept_in, Unpacked};
 ghost use Rattle.table_records.specs.Cells.{cell_number};
-ghost use Rattle.table_records.specs.Shown.{record_of};
+ghost use Rattle.table_records.specs.Shown.{held_record};
 
 // How many cells a record has.
 pub const WIDTH: usize = 10;
@@ -48,9 +48,9 @@ pub const ALL_CELLS: usize = WIDTH * numbers::PARAMETER_LIMIT;
 // The records of a table: its bytes, the cells that they are unpacked into, and how many they are. Whoever calls lends the
 // cells, as no heap is used.
 #[derive(Clone, Copy)]
-pub struct Records<'a> {
-    pub table: &'a [u8],
-    pub unpacked: &'a [u32],
+pub struct Records<'t, 'c> {
+    pub table: &'t [u8],
+    pub unpacked: &'c [u32],
     pub count: usize,
 }
 
@@ -172,7 +172,7 @@ pub fn length_at(table: &[u8], at: usize) -> usize
 }
 
 #[tactic(auto, unfolding(crate::specs::Stored::record_in, definition_rules::specs::Table::flag1, definition_rules::specs::Table::flag2, definition_rules::specs::Table::flag4))]
-impl<'a> Records<'a> {
+impl<'t> Records<'t, '_> {
     // Where the bytes of record i begin.
     pub fn place_at(&self, i: usize) -> usize
         ensures { result ≡ cell_in self.now.unpacked.now i 0 }
@@ -182,21 +182,21 @@ impl<'a> Records<'a> {
 
     // Kinds 1 to 10.
     pub fn kind_at(&self, i: usize) -> u32
-        ensures { result ≡ (record_of self.now i).kind }
+        ensures { result ≡ (held_record self.now i).kind }
     {
         cell(self.unpacked, i, RecordCell::Kind)
     }
 
     // The parent's number, 65,535 for a top.
     pub fn parent_at(&self, i: usize) -> usize
-        ensures { result ≡ up_number (record_of self.now i).parent }
+        ensures { result ≡ up_number (held_record self.now i).parent }
     {
         cell(self.unpacked, i, RecordCell::Parent) as usize
     }
 
     // The record stands in the body of p.
     pub fn is_under(&self, i: usize, p: usize) -> bool
-        ensures { result ≡ is_under p (record_of self.now i).parent }
+        ensures { result ≡ is_under p (held_record self.now i).parent }
     {
         let up = cell(self.unpacked, i, RecordCell::Parent) as usize;
         (up != numbers::NONE16) & (up == p)
@@ -210,56 +210,56 @@ impl<'a> Records<'a> {
     }
 
     pub fn untagged_at(&self, i: usize) -> bool
-        ensures { result ≡ (record_of self.now i).untagged }
+        ensures { result ≡ (held_record self.now i).untagged }
     {
         self.flags_at(i) % numbers::EXTENSION == numbers::UNTAGGED
     }
 
     pub fn extension_at(&self, i: usize) -> bool
-        ensures { result ≡ (record_of self.now i).extension }
+        ensures { result ≡ (held_record self.now i).extension }
     {
         numbers::EXTENSION <= self.flags_at(i) % numbers::PLUGIN
     }
 
     pub fn plugin_at(&self, i: usize) -> bool
-        ensures { result ≡ (record_of self.now i).plugin }
+        ensures { result ≡ (held_record self.now i).plugin }
     {
         numbers::PLUGIN <= self.flags_at(i)
     }
 
     pub fn lo_count_at(&self, i: usize) -> usize
-        ensures { result ≡ (record_of self.now i).lo_count }
+        ensures { result ≡ (held_record self.now i).lo_count }
     {
         cell(self.unpacked, i, RecordCell::LoCount) as usize
     }
 
     pub fn hi_count_at(&self, i: usize) -> usize
-        ensures { result ≡ (record_of self.now i).hi_count }
+        ensures { result ≡ (held_record self.now i).hi_count }
     {
         cell(self.unpacked, i, RecordCell::HiCount) as usize
     }
 
     pub fn least_at(&self, i: usize) -> u32
-        ensures { result ≡ (record_of self.now i).least }
+        ensures { result ≡ (held_record self.now i).least }
     {
         cell(self.unpacked, i, RecordCell::Least)
     }
 
     pub fn most_at(&self, i: usize) -> u32
-        ensures { result ≡ (record_of self.now i).most }
+        ensures { result ≡ (held_record self.now i).most }
     {
         cell(self.unpacked, i, RecordCell::Most)
     }
 
     pub fn target_at(&self, i: usize) -> usize
-        ensures { result ≡ (record_of self.now i).target }
+        ensures { result ≡ (held_record self.now i).target }
     {
         cell(self.unpacked, i, RecordCell::Target) as usize
     }
 
     // The wire tag, or the name where untagged or top.
-    pub fn label_at(&self, i: usize) -> &'a [u8]
-        ensures { result.now ≡ (record_of self.now i).label }
+    pub fn label_at(&self, i: usize) -> &'t [u8]
+        ensures { result.now ≡ (held_record self.now i).label }
     {
         let n = cell(self.unpacked, i, RecordCell::LabelLength) as usize;
         let from = cell(self.unpacked, i, RecordCell::Bytes) as usize + numbers::RECORD_HEADER;

@@ -5,7 +5,7 @@ ghost use Rattle.std.specs.Prelude.{◌≡◌, ◌+◌, ◌-◌, ◌<◌, length
 ghost use Rattle.reading_rules.specs.Schema.{is_tagged_as, first_where};
 ghost use Rattle.definition_rules.specs.Faults.{tag_repeated};
 ghost use Rattle.table_records.specs.Stored.{records_from, Laid};
-ghost use Rattle.table_records.specs.Shown.{record_of, records_of};
+ghost use Rattle.table_records.specs.Shown.{held_record, held_records};
 ghost use Rattle.table_tags.specs.Search.{found_of, searched, Searchable};
 ghost use Rattle.table_tags.specs.Keys.{tag_marks, tag_key, MarkedBefore};
 
@@ -16,8 +16,8 @@ use table_records::Records;
 // The record i, with this label, is a field of p with the word as its wire tag. The bytes are compared only where length
 // and last byte agree.
 fn is_tagged_as(records: &Records, p: usize, word: &[u8], i: usize, label: &[u8]) -> bool
-    requires { label.now ≡ (record_of records.now i).label }
-    ensures { result ≡ is_tagged_as p word.now (record_of records.now i) }
+    requires { label.now ≡ (held_record records.now i).label }
+    ensures { result ≡ is_tagged_as p word.now (held_record records.now i) }
 {
     if label.len() != word.len() {
         return false;
@@ -72,7 +72,7 @@ pub fn find(records: &Records, p: usize, word: &[u8], from: usize) -> Option<usi
 // The wire tag of record i stands before in its body.
 pub fn tag_again(records: &Records, i: usize) -> bool
     requires { (i < records.now.count) × Laid records.now.table.now records.now.unpacked.now records.now.count }
-    ensures { result ≡ tag_repeated (records_of records.now) i (record_of records.now i) }
+    ensures { result ≡ tag_repeated (held_records records.now) i (held_record records.now i) }
 {
     if records.untagged_at(i) {
         return false;
@@ -106,7 +106,7 @@ fn key(p: usize, label: &[u8]) -> usize
 pub fn tag_again_marked(records: &Records, i: usize, marks: &mut [bool]) -> bool
     requires i_lt_n { (i < records.now.count) × Laid records.now.table.now records.now.unpacked.now records.now.count }
     requires marked_before { MarkedBefore records.now.table.now records.now.unpacked.now i marks.old }
-    ensures value { result ≡ tag_repeated (records_of records.now) i (record_of records.now i) }
+    ensures value { result ≡ tag_repeated (held_records records.now) i (held_record records.now i) }
     ensures marked_before_2 { MarkedBefore records.now.table.now records.now.unpacked.now (i + 1) marks.new }
 {
     let k = key(records.parent_at(i), records.label_at(i));

@@ -17,9 +17,9 @@ unfoldable pub length_at : List ℕ → ℕ → ℕ
 length_at t at = pick (is_whole t at) (le16 t at) 0
 
 -- what the code says of a place: that length, or that none begins there
-abbrev pub WholeAt : List ℕ → ℕ → Option ℕ → Type 0
-WholeAt t at (Some n) = (n ≡ length_at t at) × (0 < n) × (n < 65536)
-WholeAt t at None = length_at t at ≡ 0
+abbrev pub TellsLength : List ℕ → ℕ → Option ℕ → Type 0
+TellsLength t at (Some n) = (n ≡ length_at t at) × (0 < n) × (n < 65536)
+TellsLength t at None = length_at t at ≡ 0
 
 -- there is room to unpack the records of a table of so many bytes
 abbrev pub Enough : ℕ → ℕ → Type 0

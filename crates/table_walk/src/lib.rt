@@ -2,14 +2,14 @@
 #![tactic(auto)]
 
 ghost use Rattle.std.specs.Prelude.{length};
-ghost use Rattle.table_walk.specs.Walked.{WholeAt, Enough, Walked};
+ghost use Rattle.table_walk.specs.Walked.{TellsLength, Enough, Walked};
 
 // One past the flags that a record may have.
 const FLAGS_END: u16 = numbers::FLAGS_END as u16;
 
 // The length of the whole record that begins at a place, if one does.
 fn length_at(table: &[u8], at: usize) -> Option<usize>
-    ensures { WholeAt table.now at result }
+    ensures { TellsLength table.now at result }
 {
     let left = table.len().saturating_sub(at);
     let is_cut = left < numbers::RECORD_HEADER;

@@ -18,23 +18,22 @@ returns-in_err-refuse c =
     let k = keeps_refused c.args.text.now c.args.table.now _ _ q (two c.args.text.now c.if-is_long.false _ c.scan_fault.ensures _ (sym c.refuse.ensures ∙ c.in_err-refuse.was)) in
     record { result_value = k.0; table_after = k.1.0; stuck_promise = k.1.1.0; endless_promise = k.1.1.1 }
 
-pub returns-in_err-count : goal.returns-in_err-count
-returns-in_err-count c =
+pub returns-in-Err : goal.returns-in-Err
+returns-in-Err c =
     let b = (past_two c.args.text.now c.if-is_long.false _ c.scan_fault.ensures _ (sym c.refuse.ensures ∙ c.in_ok-refuse.was)) in
-    let f : RefusedAs c.args.text.now c.in_err-count.field-0.0 = rw c.in_err-count.was at (c.forms.ensures (least_none _ b)) in
-    let q : c.from_residual-in_err-count.result ≡ Err c.in_err-count.field-0.0 = search rules in
-    let k = keeps_refused c.args.text.now c.args.table.now _ _ q (formed c.args.text.now c.if-is_long.false b _ f) in
+    let f : RefusedAs c.args.text.now c.in-Err.refusal = rw c.in-Err.is at (c.forms.ensures (least_none _ b)) in
+    let k = keeps_refused c.args.text.now c.args.table.now _ _ refl (formed c.args.text.now c.if-is_long.false b _ f) in
     record { result_value = k.0; table_after = k.1.0; stuck_promise = k.1.1.0; endless_promise = k.1.1.1 }
 
 pub compile_declarations-requires : goal.compile_declarations-requires
 compile_declarations-requires c =
     let b = (past_two c.args.text.now c.if-is_long.false _ c.scan_fault.ensures _ (sym c.refuse.ensures ∙ c.in_ok-refuse.was)) in
-    let f : CompleteIn c.args.text.now c.forms.new.cells c.in_ok-count.count = rw c.in_ok-count.was at (c.forms.ensures (least_none _ b)) in
+    let f : CompleteIn c.args.text.now c.forms.new.cells c.in-Ok.count = rw c.in-Ok.is at (c.forms.ensures (least_none _ b)) in
     record { n_le_parameter_limit = (f.few, c.if-is_long.false); by_index = parents c.args.text.now c.if-is_long.false b _ _ f }
 
-pub returns : goal.returns
-returns c =
+pub returns-in-Ok : goal.returns-in-Ok
+returns-in-Ok c =
     let b = (past_two c.args.text.now c.if-is_long.false _ c.scan_fault.ensures _ (sym c.refuse.ensures ∙ c.in_ok-refuse.was)) in
-    let f : CompleteIn c.args.text.now c.forms.new.cells c.in_ok-count.count = rw c.in_ok-count.was at (c.forms.ensures (least_none _ b)) in
+    let f : CompleteIn c.args.text.now c.forms.new.cells c.in-Ok.count = rw c.in-Ok.is at (c.forms.ensures (least_none _ b)) in
     let k = keeps c.args.text.now c.args.table.now _ _ _ (further c.args.text.now c.if-is_long.false b _ _ f) (c.compile_declarations.ensures.result_value, c.compile_declarations.ensures.table_after) in
     record { result_value = k.0; table_after = k.1.0; stuck_promise = k.1.1.0; endless_promise = k.1.1.1 }

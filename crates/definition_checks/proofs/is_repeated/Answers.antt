@@ -1,10 +1,12 @@
-use Rattle.std.proofs.Common.{rules, ◌≡◌, true, false, refl, arith}
-use borrow.Author.Tests.{tests}
-use Rattle.std.proofs.lemmas.Iterator.{cases_from_any, YieldsList-from_range}
-use Rattle.definition_checks.specs.Checks.{same_key_at}
-use Rattle.definition_checks.proofs.CheckLaws.{is_old}
+use mathlib.Core.Path.{sym, ◌∙◌}
+use Rattle.definition_checks.proofs.CheckLaws.{below_same, below_other, below_end}
 use Rattle.definition_checks.proofs.is_repeated.Goals as goal
 
+pub returns-then-same_key : goal.returns-then-same_key
+returns-then-same_key c = sym (c.loop-j.invariant ∙ below_same c.args.noted.now.text.now c.args.noted.now.cells.now c.args.i c.loop-j.j c.loop-j-test.true (sym c.same_key.ensures ∙ c.if-same_key.true))
+
+pub loop-j-preserved : goal.loop-j-preserved
+loop-j-preserved c = c.loop-j.invariant ∙ below_other c.args.noted.now.text.now c.args.noted.now.cells.now c.args.i c.loop-j.j c.loop-j-test.true (sym c.same_key.ensures ∙ c.if-same_key.false)
+
 pub returns : goal.returns
-returns c = is_old c.args.noted.now.text.now c.args.noted.now.cells.now c.args.i _
-    (cases_from_any _ _ _ (λ j. same_key_at c.args.noted.now.text.now c.args.noted.now.cells.now c.args.i j ≡ true) (λ j. same_key_at c.args.noted.now.text.now c.args.noted.now.cells.now c.args.i j ≡ false) c.any.ensures.ran (YieldsList-from_range 0 c.args.i c.args.i refl (omega arith)) (λ x q k. search (rules, tests)) (λ x q k. search (rules, tests)))
+returns c = sym (c.loop-j.invariant ∙ below_end c.args.noted.now.text.now c.args.noted.now.cells.now c.args.i c.loop-j.j c.loop-j-test.false)

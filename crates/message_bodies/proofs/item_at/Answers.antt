@@ -4,7 +4,7 @@ use Rattle.std.proofs.lemmas.Result.{err_from_is_err_and}
 use Rattle.message_lookup.proofs.Marked.{complete_marks}
 use Rattle.message_frame.proofs.AtToken.{step_of_word}
 use Rattle.std.specs.Prelude.{Some}
-use Rattle.message_lookup.specs.Questions.{judged}
+use Rattle.message_lookup.specs.Questions.{broken_number}
 use Rattle.message_bodies.specs.Bodies.{end_or}
 use Rattle.message_bodies.proofs.Parts.{end_answered, end_broken, unknown_ends, unknown_stopped, known_ends, items_done, items_stopped}
 use borrow.Author.Rules.{rules}
@@ -43,7 +43,7 @@ pub returns-in_default-end_at : goal.returns-in_default-end_at
 returns-in_default-end_at c = λ ks m. items_stopped _ _ c.args.f _ ks c.head-h.result (c.head-h.ensures _) _ _ (c.complete-is_complete.ensures ∙ complete_marks _ _ _ ks m) (rw c.in_default-end_at.is at (end_answered _ _ _ 23 c.end_at.ensures)) c.in_default.not-Word (λ z. omega (arith, z))
 
 pub returns-in-Ok : goal.returns-in-Ok
-returns-in-Ok c = λ ks m. items_done _ _ c.args.f _ ks c.head-h.result (c.head-h.ensures _) _ _ (c.complete-is_complete.ensures ∙ complete_marks _ _ _ ks m) (end_answered _ _ _ 23 c.end_at.ensures) c.in_default.not-Word (ap (end_or 23) c.in-Some-end_at.is ∙ ap judged c.in-Ok.is)
+returns-in-Ok c = λ ks m. items_done _ _ c.args.f _ ks c.head-h.result (c.head-h.ensures _) _ _ (c.complete-is_complete.ensures ∙ complete_marks _ _ _ ks m) (end_answered _ _ _ 23 c.end_at.ensures) c.in_default.not-Word (ap (end_or 23) c.in-Some-end_at.is ∙ ap broken_number c.in-Ok.is)
 
 pub returns-in-Err : goal.returns-in-Err
 returns-in-Err c = λ ks m. let b = end_broken _ _ _ c.in-Err.rule c.end_at.ensures (c.in-Some-end_at.is ∙ ap Some c.in-Err.is) in items_stopped _ _ c.args.f _ ks c.head-h.result (c.head-h.ensures _) _ _ (c.complete-is_complete.ensures ∙ complete_marks _ _ _ ks m) (rw (c.in-Some-end_at.is, c.in-Err.is) at (end_answered _ _ _ 23 c.end_at.ensures)) c.in_default.not-Word (λ z. omega (arith, b, z))

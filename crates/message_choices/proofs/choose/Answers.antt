@@ -1,6 +1,6 @@
 use mathlib.Core.Path.{sym, ap}
 use native.Mathlib.Omega.{arith}
-use Rattle.message_lookup.specs.Questions.{judged}
+use Rattle.message_lookup.specs.Questions.{broken_number}
 use Rattle.message_frame.proofs.AtToken.{step_of_word, union_stopped}
 use Rattle.message_choices.proofs.Parts.{int_whole, int_stopped, chosen_ends}
 use borrow.Author.Rules.{rules}
@@ -16,7 +16,7 @@ pub slice_bounds-word-end : goal.slice_bounds-word-end
 slice_bounds-word-end c = let w = step_of_word c.args.f.base c.args.s.now c.args.f.at c.head-h.result (c.head-h.ensures c.args.f.base) c.in-Word.is in omega (arith, w.less, w.within)
 
 pub returns-in-Ok : goal.returns-in-Ok
-returns-in-Ok c = int_whole c.args.records.now _ c.args.f _ _ _ _ (step_of_word _ _ _ c.head-h.result (c.head-h.ensures _) c.in-Word.is) _ (sym (rw c.in-Some.is at c.bare_for.ensures)) _ c.judge.ensures.number (ap judged c.in-Ok.is)
+returns-in-Ok c = int_whole c.args.records.now _ c.args.f _ _ _ _ (step_of_word _ _ _ c.head-h.result (c.head-h.ensures _) c.in-Word.is) _ (sym (rw c.in-Some.is at c.bare_for.ensures)) _ c.judge.ensures.number (ap broken_number c.in-Ok.is)
 
 pub overflow_add-result : goal.overflow_add-result
 overflow_add-result c = omega (arith, (c.head-h.ensures 0).within, c.requires.s_bound)

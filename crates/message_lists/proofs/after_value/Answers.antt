@@ -9,11 +9,11 @@ returns-then-lo-c c = value_bare _ _ c.args.s.now _ _ _ (c.lacks_comma.ensures c
 pub overflow_add-refusal : goal.overflow_add-refusal
 overflow_add-refusal c = omega (arith, (c.head-h.ensures 0).within, c.requires)
 
-pub returns-then-may_grow : goal.returns-then-may_grow
-returns-then-may_grow c = value_grows _ _ _ _ _ _ c.head-h.result (c.head-h.ensures _) c.in-Comma.is (rw (← c.hi.ensures) (sym c.may_grow.ensures ∙ c.if-may_grow.true))
+pub returns-in-Comma : goal.returns-in-Comma
+returns-in-Comma c = value_grows _ _ _ _ _ _ c.head-h.result (c.head-h.ensures _) c.in-Comma.is (rw (← c.hi.ensures) (sym c.may_grow.ensures ∙ c.if-may_grow.true))
 
-pub returns-else-may_grow : goal.returns-else-may_grow
-returns-else-may_grow c = value_long _ _ _ _ _ _ c.head-h.result (c.head-h.ensures _) c.in-Comma.is (rw (← c.hi.ensures) (sym c.may_grow.ensures ∙ c.if-may_grow.false))
+pub returns-in-Comma-2 : goal.returns-in-Comma-2
+returns-in-Comma-2 c = value_long _ _ _ _ _ _ c.head-h.result (c.head-h.ensures _) c.in-Comma.is (rw (← c.hi.ensures) (sym c.may_grow.ensures ∙ c.if-may_grow.false))
 
 pub returns-then-lo-c-2 : goal.returns-then-lo-c-2
 returns-then-lo-c-2 c = value_last _ _ _ _ _ _ c.head-h.result (c.head-h.ensures _) c.in_default.not-Comma (rw (← c.lo-in_default.ensures) c.if-lo-c-2.true)

@@ -1,5 +1,9 @@
-use Rattle.numbers.proofs.Ranges.{int_answer}
+use mathlib.Core.Path.{sym}
+use Rattle.numbers.proofs.Ranges.{int_read, int_unread}
 use Rattle.numbers.proofs.read_int.Goals as goal
 
+pub returns-then-is_int-int_within : goal.returns-then-is_int-int_within
+returns-then-is_int-int_within c = sym (int_read _ _ (rw (c.is_int.ensures, c.int_within.ensures) at c.if-is_int-int_within.true) c.biased_int.ensures)
+
 pub returns : goal.returns
-returns c = rw (c.then_some.ensures, c.is_int.ensures, c.int_within.ensures) (int_answer c.args.w.now _ c.biased_int.ensures)
+returns c = sym (int_unread c.args.w.now (rw (c.is_int.ensures, c.int_within.ensures) at c.if-is_int-int_within.false))

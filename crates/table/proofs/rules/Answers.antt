@@ -1,7 +1,7 @@
 use mathlib.Core.Path.{sym, ◌∙◌}
 use Rattle.table_rules.specs.RecordRules.{record_rules}
 use Rattle.table_rules.proofs.TextRules.{ordered_after_parents}
-use Rattle.table_records.specs.Shown.{records_of}
+use Rattle.table_records.specs.Shown.{held_records}
 use Rattle.table.proofs.Laws.{some_few, rules_none}
 use Rattle.table.proofs.rules.Goals as goal
 
@@ -22,4 +22,4 @@ returns-then-not-all_new c = rw ((some_few c.args.records.now.table.now c.args.r
 
 pub returns : goal.returns
 unfolding record_rules
-returns c = rw ((some_few c.args.records.now.table.now c.args.records.now.unpacked.now c.args.records.now.count c.if-records-eq0.false c.requires.0).0, (some_few c.args.records.now.table.now c.args.records.now.unpacked.now c.args.records.now.count c.if-records-eq0.false c.requires.0).1, sym c.ordered.ensures ∙ c.if-not-ordered.false, sym c.every_fine.ensures ∙ c.if-not-every_fine.false, sym c.all_new.ensures ∙ c.if-not-all_new.false) (c.checks_fine.ensures (ordered_after_parents (records_of c.args.records.now) (sym c.ordered.ensures ∙ c.if-not-ordered.false)))
+returns c = rw ((some_few c.args.records.now.table.now c.args.records.now.unpacked.now c.args.records.now.count c.if-records-eq0.false c.requires.0).0, (some_few c.args.records.now.table.now c.args.records.now.unpacked.now c.args.records.now.count c.if-records-eq0.false c.requires.0).1, sym c.ordered.ensures ∙ c.if-not-ordered.false, sym c.every_fine.ensures ∙ c.if-not-every_fine.false, sym c.all_new.ensures ∙ c.if-not-all_new.false) (c.checks_fine.ensures (ordered_after_parents (held_records c.args.records.now) (sym c.ordered.ensures ∙ c.if-not-ordered.false)))

@@ -1,0 +1,2 @@
+-- Laws of the sayings.
+pub mod Said
