@@ -26,15 +26,20 @@ fn print_rows(
     page: &mut Page,
 ) -> Result<(), Failed> {
     let mut unpacked = [0u32; table_records::ALL_CELLS];
-    let mut table = RowTable {
-        records: records_of(named, &mut unpacked),
+    let records = records_of(named, &mut unpacked);
+    let head = RowTable {
+        records,
         rows: *rows,
         text: b"",
     };
-    let widths = cli_report::widths(&table);
-    cli_report::put_line(page, &table, 0, &widths);
+    let widths = cli_report::widths(&head);
+    cli_report::put_line(page, &head, 0, &widths);
     for i in 0..rows.count {
-        table.text = message::row_bytes(message, rows.numbers, i);
+        let table = RowTable {
+            records,
+            rows: *rows,
+            text: message::row_bytes(message, rows.numbers, i),
+        };
         cli_report::put_line(page, &table, i + 1, &widths);
         flush_if_many(rt, page)?;
     }

@@ -235,10 +235,10 @@ impl Table for RecordTable<'_> {
 // Row, tag or name of the parameter, parent row, span, index, and the row's bytes: those of the row whose line is put,
 // which the caller sees to, as they have no part in the widths.
 #[derive(Clone, Copy)]
-pub struct RowTable<'a> {
-    pub records: Records<'a, 'a>,
-    pub rows: Rows<'a>,
-    pub text: &'a [u8],
+pub struct RowTable<'t, 'c, 'r, 'm> {
+    pub records: Records<'t, 'c>,
+    pub rows: Rows<'r>,
+    pub text: &'m [u8],
 }
 
 // Has a parameter's value parts with rows of their own?
@@ -250,7 +250,7 @@ fn has_parts(records: &Records, p: usize) -> bool {
     matches!(kind, numbers::STRUCT | numbers::UNION)
 }
 
-impl Table for RowTable<'_> {
+impl Table for RowTable<'_, '_, '_, '_> {
     fn columns(&self) -> usize {
         6
     }
