@@ -2,7 +2,7 @@
 use cli_files::{Failed, load};
 use cli_pages::{flush, flush_if_many, refuse, say};
 use cli_report::{RowTable, Rows, Source};
-use cli_tables::{Tables, records_of, tables_of};
+use cli_tables::{Tables, records_of, tables_of_file};
 use numbers::{Refusal, Rule};
 use text::Page;
 
@@ -137,7 +137,7 @@ pub fn read_file(
 ) -> Result<(), Failed> {
     let mut table = io::large_buffer();
     let mut named = io::large_buffer();
-    let tables = tables_of(rt, from, &mut table, &mut named, page)?;
+    let tables = tables_of_file(rt, from, &mut table, &mut named, page)?;
     let mut message = io::large_buffer();
     let source = Source {
         path,

@@ -1,6 +1,10 @@
 // compile, show and check.
 #![tactic(auto)]
 
+ghost use Rattle.std.specs.Prelude.{◌≡◌, true, IfOk, length, take};
+ghost use Rattle.definition_rules.specs.Compile.{compile_answer};
+ghost use Rattle.cli_tables.specs.Made.{is_table, compiled_in, table_made, bytes_in};
+
 use cli_files::{Failed, load, save};
 use cli_pages::{flush, flush_if_many, refuse, say, unusable};
 use cli_report::{RecordTable, Source};
@@ -21,13 +25,17 @@ const NO_TABLE: Refusal = Refusal {
     place: 0,
 };
 
-// A text that is a definition has no byte 0, and every table has one.
-fn is_table(bytes: &[u8]) -> bool {
+// Bytes with a byte 0 among them are taken as a table, any others as a definition. Every table has one.
+fn is_table(bytes: &[u8]) -> bool
+    ensures { result ≡ is_table bytes.now }
+{
     bytes.contains(&0)
 }
 
 // A copy of some bytes.
-fn copied<'a>(bytes: &[u8], to: &'a mut [u8]) -> &'a [u8] {
+fn copied<'a>(bytes: &[u8], to: &'a mut [u8]) -> &'a [u8]
+    ensures { result.now ≡ take (length to.old) bytes.now }
+{
     let mut page = Page::new(to);
     page.text(bytes);
     page.into_written()
@@ -39,15 +47,43 @@ fn compiled<'a>(
     source: &Source,
     table: &'a mut [u8],
     page: &mut Page,
-) -> Result<&'a [u8], Failed> {
+) -> Result<&'a [u8], Failed>
+    ensures { bytes_in result (λ r. r.now) ≡ compiled_in source.now.bytes.now table.old (compile_answer source.now.bytes.now (length table.old)) }
+{
     match definition::compile(source.bytes, table) {
         Ok(length) => Ok(classes::part(table, 0, length)),
         Err(refusal) => Err(refuse(rt, page, source, refusal)),
     }
 }
 
-// The table in a file, or the one that the definition there compiles to. What the file has is not kept.
+// The table in a source, or the one that the definition there compiles to.
 pub fn tables_of<'a>(
+    rt: HostRuntime,
+    source: &Source,
+    table: &'a mut [u8],
+    named: &'a mut [u8],
+    page: &mut Page,
+) -> Result<Tables<'a>, Failed>
+    ensures made { bytes_in result (λ t. t.table.now) ≡ table_made source.now.bytes.now table.old }
+    ensures bare { is_table source.now.bytes.now ≡ true → IfOk result (λ t. t.named.now ≡ take (length named.old) source.now.bytes.now) }
+{
+    if is_table(source.bytes) {
+        return Ok(Tables {
+            table: copied(source.bytes, table),
+            named: copied(source.bytes, named),
+        });
+    }
+    let table = compiled(rt, source, table, page)?;
+    let mut names = Page::new(named);
+    cli_names::put_named(&mut names, table, source.bytes);
+    Ok(Tables {
+        table,
+        named: names.into_written(),
+    })
+}
+
+// The table in a file, or the one that the definition there compiles to. What the file has is not kept.
+pub fn tables_of_file<'a>(
     rt: HostRuntime,
     path: &[u8],
     table: &'a mut [u8],
@@ -140,7 +176,7 @@ fn print_records(rt: HostRuntime, table: &[u8], page: &mut Page) -> Result<(), F
 pub fn show_file(rt: HostRuntime, path: &[u8], page: &mut Page) -> Result<(), Failed> {
     let mut table = io::large_buffer();
     let mut named = io::large_buffer();
-    let tables = tables_of(rt, path, &mut table, &mut named, page)?;
+    let tables = tables_of_file(rt, path, &mut table, &mut named, page)?;
     if !table::table_ok(tables.table) {
         let source = Source {
             path,
@@ -185,4 +221,58 @@ pub fn check_file(rt: HostRuntime, path: &[u8], page: &mut Page) -> Result<(), F
         return check_table(rt, &source, page);
     }
     check_definition(rt, &source, page)
+}
+
+#[cfg(test)]
+mod tests {
+    use super::*;
+
+    // "struct r { void a as b; };" by docs/FORMAT.md, 3.1: its two records.
+    const TABLE: [u8; 50] = [
+        25, 0, 8, 0, 255, 255, 0, 0, 1, 0, 1, 0, 0, 0, 0, 0, 0, 0, 0, 0, 255, 255, 1, 0, b'r', 25,
+        0, 1, 0, 0, 0, 0, 0, 1, 0, 1, 0, 0, 0, 0, 0, 0, 0, 0, 0, 255, 255, 1, 0, b'b',
+    ];
+
+    // The same with the field's name before its tag.
+    const NAMED: [u8; 54] = [
+        25, 0, 8, 0, 255, 255, 0, 0, 1, 0, 1, 0, 0, 0, 0, 0, 0, 0, 0, 0, 255, 255, 1, 0, b'r', 29,
+        0, 1, 0, 0, 0, 0, 0, 1, 0, 1, 0, 0, 0, 0, 0, 0, 0, 0, 0, 255, 255, 5, 0, b'a', b' ', b'(',
+        b'b', b')',
+    ];
+
+    #[test]
+    fn tables_of_sources(rt: HostRuntime) {
+        let text = b"struct r { void a as b; };";
+        let sources: [(&[u8], usize, Option<(&[u8], &[u8])>); 5] = [
+            (&TABLE, 54, Some((&TABLE, &TABLE))),
+            (&TABLE, 40, Some((&TABLE[..40], &TABLE[..40]))),
+            (text, 54, Some((&TABLE, &NAMED))),
+            (text, 49, None),
+            (b"struct r {}", 54, None),
+        ];
+        for (bytes, room, due) in sources {
+            let source = Source { path: b"r", bytes };
+            let mut table = [0; 54];
+            let mut named = [0; 54];
+            let mut page = [0; 256];
+            let made = tables_of(
+                rt,
+                &source,
+                &mut table[..room.min(54)],
+                &mut named[..room.min(54)],
+                &mut Page::new(&mut page),
+            );
+            match made {
+                Ok(tables) => {
+                    let (table, named) = due.unwrap_or((b"", b""));
+                    assert_eq!(rt; tables.table, table);
+                    assert_eq!(rt; tables.named, named);
+                }
+                Err(failed) => {
+                    assert!(rt; due.is_none());
+                    assert_eq!(rt; failed, Failed::Refused);
+                }
+            }
+        }
+    }
 }
