@@ -1,4 +1,4 @@
-// compile, show and check.
+// The table of a file, or of bytes in hand; compile, show and check.
 #![tactic(auto)]
 
 ghost use Rattle.std.specs.Prelude.{◌≡◌, true, IfOk, length, take};
@@ -264,6 +264,7 @@ mod tests {
             );
             match made {
                 Ok(tables) => {
+                    assert!(rt; due.is_some());
                     let (table, named) = due.unwrap_or((b"", b""));
                     assert_eq!(rt; tables.table, table);
                     assert_eq!(rt; tables.named, named);
